@@ -1,0 +1,85 @@
+-- Boolean tests, taken apart and put together.
+use mathlib.Core.Bool.{Bool, true, false, cond, _&&_, _||_, not, false≢true}
+use mathlib.Core.Logic.{_⊎_, inl, inr}
+use mathlib.Core.Path.{_≡_, refl, sym, _∙_, ap}
+
+pub decided : (b : Bool) → (b ≡ true) ⊎ (b ≡ false)
+decided true = inl refl
+decided false = inr refl
+
+pub clash {ℓ} : {A : Type ℓ} {b : Bool} → b ≡ true → b ≡ false → A
+clash p q = absurd (false≢true (sym q ∙ p))
+
+-- ---- &&
+
+pub and-left : (a b : Bool) → a && b ≡ true → a ≡ true
+and-left true b e = refl
+and-left false b e = e
+
+pub and-right : (a b : Bool) → a && b ≡ true → b ≡ true
+and-right true b e = e
+and-right false b e = absurd (false≢true e)
+
+pub and-intro : {a b : Bool} → a ≡ true → b ≡ true → a && b ≡ true
+and-intro {a} {b} p q = ap (λ (x : Bool). x && b) p ∙ q
+
+pub and-false-left : {a : Bool} (b : Bool) → a ≡ false → a && b ≡ false
+and-false-left b p = ap (λ (x : Bool). x && b) p
+
+pub and-false-right : (a : Bool) {b : Bool} → b ≡ false → a && b ≡ false
+and-false-right true q = q
+and-false-right false q = refl
+
+pub and-false : (a b : Bool) → a && b ≡ false → (a ≡ false) ⊎ (b ≡ false)
+and-false true b e = inr e
+and-false false b e = inl refl
+
+pub and-comm : (a b : Bool) → a && b ≡ b && a
+and-comm true true = refl
+and-comm true false = refl
+and-comm false true = refl
+and-comm false false = refl
+
+-- ---- ||
+
+pub or-cases : (a b : Bool) → a || b ≡ true → (a ≡ true) ⊎ (b ≡ true)
+or-cases true b e = inl refl
+or-cases false b e = inr e
+
+pub or-left : {a : Bool} (b : Bool) → a ≡ true → a || b ≡ true
+or-left b p = ap (λ (x : Bool). x || b) p
+
+pub or-right : (a : Bool) {b : Bool} → b ≡ true → a || b ≡ true
+or-right true q = refl
+or-right false q = q
+
+pub or-false-left : (a b : Bool) → a || b ≡ false → a ≡ false
+or-false-left true b e = e
+or-false-left false b e = refl
+
+pub or-false-right : (a b : Bool) → a || b ≡ false → b ≡ false
+or-false-right true b e = absurd (false≢true (sym e))
+or-false-right false b e = e
+
+pub or-false : {a b : Bool} → a ≡ false → b ≡ false → a || b ≡ false
+or-false {a} {b} p q = ap (λ (x : Bool). x || b) p ∙ q
+
+-- ---- not
+
+pub not-of : {b : Bool} → b ≡ false → not b ≡ true
+not-of p = ap not p
+
+pub not-of-true : {b : Bool} → b ≡ true → not b ≡ false
+not-of-true p = ap not p
+
+-- ---- two tests are equal where each implies the other
+
+pub bool-ext : (a b : Bool) → (a ≡ true → b ≡ true) → (b ≡ true → a ≡ true) → a ≡ b
+bool-ext true b f g = sym (f refl)
+bool-ext false true f g = g refl
+bool-ext false false f g = refl
+
+-- a test that cannot hold fails
+pub refuted : (b : Bool) → (b ≡ true → ⊥) → b ≡ false
+refuted true h = absurd (h refl)
+refuted false h = refl

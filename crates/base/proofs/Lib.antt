@@ -1,0 +1,5 @@
+pub mod Below
+pub mod Bools
+pub mod Choice
+pub mod Sums
+pub mod Weight

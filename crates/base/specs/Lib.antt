@@ -1,0 +1,5 @@
+pub mod Below
+pub mod Bytes
+pub mod Choice
+pub mod Computes
+pub mod Row

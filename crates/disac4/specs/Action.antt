@@ -1,0 +1,234 @@
+-- The actions (deeds) of workers and controller, each as document 01 words it: the next state, or nothing where it is idle.
+use Prim.Native.Nat.{ℕ, suc, _+_, _-_}
+use mathlib.Core.Bool.{Bool, true, false, cond, _&&_, _||_, not}
+use mathlib.Core.List.{List, [], _∷_, _++_}
+use mathlib.Core.Option.{Option, none, some}
+use lib.Dec.{leb, eqb}
+use Rattle.base.specs.Below.{allBelow}
+use Rattle.base.specs.Choice.{update, update₂}
+use Rattle.network.specs.Network.{Label, labelsWhere, supports}
+use Rattle.disac4.specs.State.{State, Message, list, poll, reply, Poll, Controller}
+use Rattle.disac4.specs.System.{System}
+
+-- the channels after actor `k` sent a message to every other actor
+unfoldable pub broadcast : ℕ → ℕ → Message → (ℕ → ℕ → List Message) → ℕ → ℕ → List Message
+broadcast p k m channel j i =
+    cond (eqb j k && leb i p && not (eqb i k)) (channel j i ++ (m ∷ [])) (channel j i)
+
+abbrev pub isEmpty {ℓ} : {A : Type ℓ} → List A → Bool
+isEmpty [] = true
+isEmpty (a ∷ l) = false
+
+-- ---- Treat
+
+-- a label of worker `k`'s own variables that is still in its domain and had label `a` as a support
+unfoldable pub loses : System → ℕ → Label → State → ℕ → ℕ → Bool
+loses sys k a st x v =
+    eqb (sys .owner x) k && st .domain x v && supports (sys .net) x v (a .variable) (a .value)
+
+-- it loses one from that count
+unfoldable pub lowered : System → ℕ → Label → State → ℕ → ℕ → ℕ → ℕ
+lowered sys k a st x v y =
+    cond (loses sys k a st x v && eqb y (a .variable)) (st .counter x v y - 1) (st .counter x v y)
+
+-- at 0 it is deleted
+unfoldable pub deletes : System → ℕ → Label → State → ℕ → ℕ → Bool
+deletes sys k a st x v = loses sys k a st x v && eqb (lowered sys k a st x v (a .variable)) 0
+
+unfoldable pub deletions : System → ℕ → Label → State → List Label
+deletions sys k a st = labelsWhere (sys .net) (deletes sys k a st)
+
+-- worker `k` has treated `a`, and `rest` was behind it on the work list
+unfoldable pub afterTreat : System → ℕ → Label → List Label → State → State
+afterTreat sys k a rest st = record {
+  domain = λ x v. st .domain x v && not (deletes sys k a st x v);
+  counter = lowered sys k a st;
+  workList = update (st .workList) k (rest ++ deletions sys k a st);
+  toSend = update (st .toSend) k (st .toSend k ++ deletions sys k a st);
+  held = st .held;
+  listCounter = st .listCounter;
+  channel = st .channel;
+  controller = st .controller;
+}
+
+abbrev pub treatFrom : System → ℕ → State → List Label → Option State
+treatFrom sys k st [] = none
+treatFrom sys k st (a ∷ rest) = some (afterTreat sys k a rest st)
+
+unfoldable pub treat : System → ℕ → State → Option State
+treat sys k st = treatFrom sys k st (st .workList k)
+
+-- ---- Send
+
+unfoldable pub afterSend : System → ℕ → State → State
+afterSend sys k st = record {
+  domain = st .domain;
+  counter = st .counter;
+  workList = st .workList;
+  toSend = update (st .toSend) k [];
+  held = st .held;
+  listCounter = update (st .listCounter) k (suc (st .listCounter k));
+  channel = broadcast (sys .workers) k (list (st .toSend k)) (st .channel);
+  controller = st .controller;
+}
+
+unfoldable pub send : System → ℕ → State → Option State
+send sys k st = cond (isEmpty (st .toSend k)) none (some (afterSend sys k st))
+
+-- ---- Read, worker
+
+-- worker `k` has read a list message from `j`; `rest` was behind it in the channel
+unfoldable pub afterList : ℕ → ℕ → List Label → List Message → State → State
+afterList j k labels rest st = record {
+  domain = st .domain;
+  counter = st .counter;
+  workList = update (st .workList) k (st .workList k ++ labels);
+  toSend = st .toSend;
+  held = st .held;
+  listCounter = update (st .listCounter) k (suc (st .listCounter k));
+  channel = update₂ (st .channel) j k rest;
+  controller = st .controller;
+}
+
+-- a poll replaces the poll that is held
+unfoldable pub afterPoll : ℕ → ℕ → Poll → List Message → State → State
+afterPoll j k q rest st = record {
+  domain = st .domain;
+  counter = st .counter;
+  workList = st .workList;
+  toSend = st .toSend;
+  held = update (st .held) k (some q);
+  listCounter = st .listCounter;
+  channel = update₂ (st .channel) j k rest;
+  controller = st .controller;
+}
+
+-- a message that its reader has no use for is dropped
+unfoldable pub afterDrop : ℕ → ℕ → List Message → State → State
+afterDrop j k rest st = record {
+  domain = st .domain;
+  counter = st .counter;
+  workList = st .workList;
+  toSend = st .toSend;
+  held = st .held;
+  listCounter = st .listCounter;
+  channel = update₂ (st .channel) j k rest;
+  controller = st .controller;
+}
+
+-- no worker is ever sent a reply
+abbrev pub readFrom : ℕ → ℕ → State → List Message → Option State
+readFrom j k st [] = none
+readFrom j k st (list labels ∷ rest) = some (afterList j k labels rest st)
+readFrom j k st (poll q ∷ rest) = some (afterPoll j k q rest st)
+readFrom j k st (reply n ∷ rest) = some (afterDrop j k rest st)
+
+unfoldable pub readWorker : ℕ → ℕ → State → Option State
+readWorker j k st = readFrom j k st (st .channel j k)
+
+-- ---- Answer
+
+unfoldable pub afterAnswer : ℕ → Poll → State → State
+afterAnswer k q st = record {
+  domain = st .domain;
+  counter = st .counter;
+  workList = st .workList;
+  toSend = st .toSend;
+  held = update (st .held) k none;
+  listCounter = st .listCounter;
+  channel = update₂ (st .channel) k 0 (st .channel k 0 ++ (reply (q .number) ∷ []));
+  controller = st .controller;
+}
+
+-- both lists are empty, and the count of lists equals the wanted count
+unfoldable pub ready : ℕ → Poll → State → Bool
+ready k q st = isEmpty (st .workList k) && isEmpty (st .toSend k) && eqb (st .listCounter k) (q .wanted)
+
+abbrev pub answerTo : ℕ → State → Option Poll → Option State
+answerTo k st none = none
+answerTo k st (some q) = cond (ready k q st) (some (afterAnswer k q st)) none
+
+unfoldable pub answer : ℕ → State → Option State
+answer k st = answerTo k st (st .held k)
+
+-- ---- Poll
+
+-- the poll number goes up by one, all marks are cleared, and the wanted count is the lists that the controller has read
+unfoldable pub afterAsk : System → State → State
+afterAsk sys st = record {
+  domain = st .domain;
+  counter = st .counter;
+  workList = st .workList;
+  toSend = st .toSend;
+  held = st .held;
+  listCounter = st .listCounter;
+  channel =
+      broadcast (sys .workers) 0
+      (poll (record { number = suc (st .controller .timestamp); wanted = st .listCounter 0 }))
+      (st .channel);
+  controller = record {
+    timestamp = suc (st .controller .timestamp);
+    asked = true;
+    marked = λ k. false;
+    closed = st .controller .closed;
+  };
+}
+
+unfoldable pub ask : System → State → Option State
+ask sys st = cond (st .controller .asked) none (some (afterAsk sys st))
+
+-- ---- Read, controller
+
+-- a list message adds one to the count and ends an open poll
+unfoldable pub afterTally : ℕ → List Message → State → State
+afterTally k rest st = record {
+  domain = st .domain;
+  counter = st .counter;
+  workList = st .workList;
+  toSend = st .toSend;
+  held = st .held;
+  listCounter = update (st .listCounter) 0 (suc (st .listCounter 0));
+  channel = update₂ (st .channel) k 0 rest;
+  controller = record {
+    timestamp = st .controller .timestamp;
+    asked = false;
+    marked = st .controller .marked;
+    closed = st .controller .closed;
+  };
+}
+
+-- every worker is marked
+unfoldable pub allMarked : System → (ℕ → Bool) → Bool
+allMarked sys marked = allBelow (sys .workers) (λ i. marked (suc i))
+
+-- a reply to the open poll marks its worker; with all marked, the plan is closed
+unfoldable pub afterMark : System → ℕ → List Message → State → State
+afterMark sys k rest st = record {
+  domain = st .domain;
+  counter = st .counter;
+  workList = st .workList;
+  toSend = st .toSend;
+  held = st .held;
+  listCounter = st .listCounter;
+  channel = update₂ (st .channel) k 0 rest;
+  controller = record {
+    timestamp = st .controller .timestamp;
+    asked = st .controller .asked;
+    marked = update (st .controller .marked) k true;
+    closed = allMarked sys (update (st .controller .marked) k true);
+  };
+}
+
+-- a reply to the open poll, and no other
+unfoldable pub current : ℕ → State → Bool
+current n st = st .controller .asked && eqb n (st .controller .timestamp)
+
+-- the controller is never sent a poll
+abbrev pub tallyFrom : System → ℕ → State → List Message → Option State
+tallyFrom sys k st [] = none
+tallyFrom sys k st (list labels ∷ rest) = some (afterTally k rest st)
+tallyFrom sys k st (poll q ∷ rest) = some (afterDrop k 0 rest st)
+tallyFrom sys k st (reply n ∷ rest) = some (cond (current n st) (afterMark sys k rest st) (afterDrop k 0 rest st))
+
+unfoldable pub readController : System → ℕ → State → Option State
+readController sys k st = tallyFrom sys k st (st .channel k 0)

@@ -1,0 +1,100 @@
+-- The events of a run, and when a deletion (strike) is unsent, unread or untreated.
+use Prim.Native.Nat.{ℕ, suc}
+use mathlib.Core.Bool.{Bool, true, false, cond, _&&_, _||_, not}
+use mathlib.Core.List.{List, [], _∷_, _++_}
+use lib.Dec.{leb, eqb}
+use Rattle.base.specs.Below.{allBelow}
+use Rattle.base.specs.Choice.{anyOf}
+use Rattle.network.specs.Network.{Label, isLabel, loaded}
+use Rattle.disac4.specs.Report.{isSend}
+use Rattle.disac4.specs.State.{State, Message, list, poll, reply}
+use Rattle.disac4.specs.System.{System}
+use Rattle.disac4.specs.Turn.{Turn, treatNumber, changes, after}
+
+pub data Event : Type 0 where
+  -- a worker sent a list message with these labels
+  sent : ℕ → List Label → Event
+  -- a reader took a list message with these labels from a sender: `taken reader sender labels`
+  taken : ℕ → ℕ → List Label → Event
+  -- a worker treated a label
+  treated : ℕ → Label → Event
+
+abbrev pub treatEvent : ℕ → List Label → List Event
+treatEvent k [] = []
+treatEvent k (a ∷ rest) = treated k a ∷ []
+
+abbrev pub readEvent : ℕ → ℕ → List Message → List Event
+readEvent k j [] = []
+readEvent k j (list labels ∷ rest) = taken k j labels ∷ []
+readEvent k j (poll q ∷ rest) = []
+readEvent k j (reply n ∷ rest) = []
+
+abbrev pub isTreat : Turn → Bool
+isTreat t = not (eqb (t .actor) 0) && eqb (t .action) treatNumber
+
+-- a turn that reads: its action is the sender's number
+abbrev pub isRead : ℕ → Turn → Bool
+isRead p t = leb (t .action) p
+
+-- what a turn did to labels
+unfoldable pub eventsAt : System → State → Turn → List Event
+eventsAt sys st t =
+    cond (changes sys st t)
+    (cond (isSend t) (sent (t .actor) (st .toSend (t .actor)) ∷ [])
+    (cond (isTreat t) (treatEvent (t .actor) (st .workList (t .actor)))
+    (cond (isRead (sys .workers) t) (readEvent (t .actor) (t .action) (st .channel (t .action) (t .actor))) [])))
+    []
+
+-- the events of a list of turns, in their order
+unfoldable pub events : System → State → List Turn → List Event
+events sys st [] = []
+events sys st (t ∷ ts) = eventsAt sys st t ++ events sys (after sys st t) ts
+
+-- the label is in the list
+unfoldable pub holds : List Label → ℕ → ℕ → Bool
+holds labels x v = anyOf (isLabel x v) labels
+
+abbrev pub sameLabels : List Label → List Label → Bool
+sameLabels [] [] = true
+sameLabels [] (b ∷ m) = false
+sameLabels (a ∷ l) [] = false
+sameLabels (a ∷ l) (b ∷ m) = isLabel (b .variable) (b .value) a && sameLabels l m
+
+-- the event is worker `k`'s send of a message that carries label `v` of `x`
+abbrev pub isSentWith : ℕ → ℕ → ℕ → Event → Bool
+isSentWith k x v (sent j labels) = eqb j k && holds labels x v
+isSentWith k x v (taken i j labels) = false
+isSentWith k x v (treated j a) = false
+
+-- the event is `reader`'s read of the message that the first event sent
+abbrev pub isReadOf : Event → ℕ → Event → Bool
+isReadOf (sent j labels) reader (taken i k others) = eqb i reader && eqb k j && sameLabels others labels
+isReadOf (sent j labels) reader (sent k others) = false
+isReadOf (sent j labels) reader (treated k a) = false
+isReadOf (taken i j labels) reader e = false
+isReadOf (treated j a) reader e = false
+
+abbrev pub isTreatOf : ℕ → ℕ → ℕ → Event → Bool
+isTreatOf k x v (treated j a) = eqb j k && isLabel x v a
+isTreatOf k x v (sent j labels) = false
+isTreatOf k x v (taken i j labels) = false
+
+-- unsent until a send of its owner carries it
+unfoldable pub unsent : System → List Event → ℕ → ℕ → Bool
+unsent sys es x v = not (anyOf (isSentWith (sys .owner x) x v) es)
+
+-- every actor but worker `k` has read the message that the event sent: the other workers and the controller
+unfoldable pub readByOthers : System → List Event → ℕ → Event → Bool
+readByOthers sys es k e = allBelow (suc (sys .workers)) (λ i. eqb i k || anyOf (isReadOf e i) es)
+
+-- unread until every other worker and the controller have read the message that carries it
+unfoldable pub unread : System → List Event → ℕ → ℕ → Bool
+unread sys es x v = not (anyOf (λ e. isSentWith (sys .owner x) x v e && readByOthers sys es (sys .owner x) e) es)
+
+-- untreated until every worker, its owner too, has treated it
+unfoldable pub untreated : System → List Event → ℕ → ℕ → Bool
+untreated sys es x v = not (allBelow (sys .workers) (λ i. anyOf (isTreatOf (suc i) x v) es))
+
+-- the label was loaded and is no longer in its domain
+unfoldable pub deleted : System → State → ℕ → ℕ → Bool
+deleted sys st x v = loaded (sys .net) x v && not (st .domain x v)

@@ -1,0 +1,11 @@
+pub mod Action
+pub mod Computes
+pub mod Event
+pub mod Loading
+pub mod Outcome
+pub mod Report
+pub mod Round
+pub mod State
+pub mod System
+pub mod Turn
+pub mod Worked

@@ -1,0 +1,49 @@
+-- The run's report and the list cells, from the turns that were played.
+use Prim.Native.Nat.{ℕ, suc}
+use mathlib.Core.Bool.{Bool, true, cond, _&&_, not}
+use mathlib.Core.List.{List}
+use mathlib.Core.Option.{none, some, Option·getD}
+use lib.Dec.{eqb}
+use Rattle.base.specs.Below.{anyBelow, firstBelow, listBelow}
+use Rattle.base.specs.Row.{rowOf}
+use Rattle.disac4.specs.Loading.{load}
+use Rattle.disac4.specs.State.{State}
+use Rattle.disac4.specs.System.{System}
+use Rattle.disac4.specs.Turn.{Turn, sendNumber, pollNumber, play, changesWhere}
+use Rattle.disac4.specs.declared.Report.{Report}
+use Rattle.disac4.specs.declared.Status.{Status}
+use Rattle.disac4.specs.declared.Status.the-variants.{Open, Closed, Bare}
+
+-- the lowest slot with an empty list, 0 if none
+unfoldable pub lowestEmpty : System → State → ℕ
+lowestEmpty sys st =
+    Option·getD
+    (firstBelow (sys .net .variables) (λ x. cond (anyBelow (sys .net .size x) (st .domain x)) none (some (suc x))))
+    0
+
+-- open, closed, or bare: closed with an empty list
+unfoldable pub statusOf : System → State → Status
+statusOf sys st = cond (st .controller .closed) (cond (eqb (lowestEmpty sys st) 0) Closed Bare) Open
+
+-- the cell of each slot: its listed dishes, lowest bit for its first
+unfoldable pub listCells : System → State → List ℕ
+listCells sys st = listBelow (sys .net .variables) (λ x. rowOf (sys .net .size x) (st .domain x))
+
+abbrev pub isSend : Turn → Bool
+isSend t = not (eqb (t .actor) 0) && eqb (t .action) sendNumber
+
+abbrev pub isPoll : Turn → Bool
+isPoll t = eqb (t .actor) 0 && eqb (t .action) pollNumber
+
+-- the state after the turns were played from the plan as loaded
+unfoldable pub final : System → List Turn → State
+final sys turns = play sys (load sys) turns
+
+unfoldable pub reportOf : System → List Turn → Report
+reportOf sys turns = record {
+  status = statusOf sys (final sys turns);
+  changes = changesWhere sys (λ t. true) (load sys) turns;
+  sends = changesWhere sys isSend (load sys) turns;
+  polls = changesWhere sys isPoll (load sys) turns;
+  empty = lowestEmpty sys (final sys turns);
+}

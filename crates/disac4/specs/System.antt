@@ -1,0 +1,23 @@
+-- A constraint network whose variables are spread over workers (kitchens).
+use Prim.Native.Nat.{ℕ, _+_, _*_}
+use Rattle.network.specs.Network.{Network, labelCount}
+use Rattle.plan.specs.Network.{networkOf}
+use Rattle.plan.specs.Plan.{Plan, variableOf}
+
+-- Actors are numbered: 0 is the controller (desk), 1 to `workers` are the workers.
+pub record System : Type 0 where
+  pub net : Network
+  -- p
+  pub workers : ℕ
+  -- the worker that owns a variable
+  pub owner : ℕ → ℕ
+
+unfoldable pub systemOf : Plan → System
+systemOf plan = record { net = networkOf plan; workers = plan .workers; owner = λ x. variableOf plan x .owner }
+
+-- demand 3: at most this many turns of a run change something, 5pL + 2L + 3p + 1
+unfoldable pub turnBound : ℕ → ℕ → ℕ
+turnBound p l = 5 * p * l + 2 * l + 3 * p + 1
+
+unfoldable pub boundOf : System → ℕ
+boundOf sys = turnBound (sys .workers) (labelCount (sys .net))

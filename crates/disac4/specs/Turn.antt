@@ -1,0 +1,95 @@
+-- Turns: which are allowed, what one does, and what a list of them does.
+use Prim.Native.Nat.{ℕ, _+_, _*_, _/_, _%_}
+use mathlib.Core.Bool.{Bool, true, false, cond, _&&_, _||_, not}
+use mathlib.Core.List.{List, [], _∷_}
+use mathlib.Core.Option.{Option, none, some, Option·getD}
+use lib.Dec.{leb, eqb}
+use lib.ListN.{length}
+use Rattle.base.specs.Below.{one, listBelow, firstBelow}
+use Rattle.base.specs.Bytes.{byteAt}
+use Rattle.base.specs.Choice.{between}
+use Rattle.plan.specs.Fault.{decline}
+use Rattle.plan.specs.declared.Decline.{Decline}
+use Rattle.plan.specs.declared.Fault.the-variants.{BadTurn}
+use Rattle.disac4.specs.Action.{treat, send, readWorker, answer, ask, readController}
+use Rattle.disac4.specs.State.{State}
+use Rattle.disac4.specs.System.{System}
+
+-- the actor and its action, by document 01's numbers: an action from 0 to p reads from that sender
+pub record Turn : Type 0 where
+  pub actor : ℕ
+  pub action : ℕ
+
+abbrev pub turn : ℕ → ℕ → Turn
+turn k d = record { actor = k; action = d }
+
+abbrev pub treatNumber : ℕ
+treatNumber = 9
+
+abbrev pub sendNumber : ℕ
+sendNumber = 10
+
+abbrev pub answerNumber : ℕ
+answerNumber = 11
+
+abbrev pub pollNumber : ℕ
+pollNumber = 12
+
+unfoldable pub allowed : ℕ → Turn → Bool
+allowed p t =
+    cond (eqb (t .actor) 0)
+    (between 1 p (t .action) || eqb (t .action) pollNumber)
+    (leb (t .actor) p
+    && ((leb (t .action) p && not (eqb (t .action) (t .actor))) || between treatNumber answerNumber (t .action)))
+
+-- what worker `k` does
+unfoldable pub workerStep : System → ℕ → ℕ → State → Option State
+workerStep sys k d st =
+    cond (eqb d treatNumber) (treat sys k st)
+    (cond (eqb d sendNumber) (send sys k st) (cond (eqb d answerNumber) (answer k st) (readWorker d k st)))
+
+unfoldable pub controllerStep : System → ℕ → State → Option State
+controllerStep sys d st = cond (eqb d pollNumber) (ask sys st) (readController sys d st)
+
+-- the next state, or nothing where the turn is idle; in a closed plan every turn is
+unfoldable pub step : System → State → Turn → Option State
+step sys st t =
+    cond (st .controller .closed || not (allowed (sys .workers) t)) none
+    (cond (eqb (t .actor) 0) (controllerStep sys (t .action) st) (workerStep sys (t .actor) (t .action) st))
+
+unfoldable pub after : System → State → Turn → State
+after sys st t = Option·getD (step sys st t) st
+
+-- the state after a list of turns, of any length
+unfoldable pub play : System → State → List Turn → State
+play sys st [] = st
+play sys st (t ∷ ts) = play sys (after sys st t) ts
+
+abbrev pub isSome {ℓ} : {A : Type ℓ} → Option A → Bool
+isSome none = false
+isSome (some a) = true
+
+-- the turn is not idle: exactly then the state after differs from the state before
+unfoldable pub changes : System → State → Turn → Bool
+changes sys st t = isSome (step sys st t)
+
+-- how many turns of the list pass a test and changed something
+unfoldable pub changesWhere : System → (Turn → Bool) → State → List Turn → ℕ
+changesWhere sys test st [] = 0
+changesWhere sys test st (t ∷ ts) = one (changes sys st t && test t) + changesWhere sys test (after sys st t) ts
+
+-- ---- the turn list as bytes: two for each turn
+
+unfoldable pub turnAt : List ℕ → ℕ → Turn
+turnAt b i = turn (byteAt b (2 * i)) (byteAt b (2 * i + 1))
+
+unfoldable pub turnsOf : List ℕ → List Turn
+turnsOf b = listBelow (length b / 2) (turnAt b)
+
+-- of even length and at most 65,536 bytes
+unfoldable pub turnListFits : List ℕ → Bool
+turnListFits b = eqb (length b % 2) 0 && leb (length b) 65536
+
+-- the first turn that is not allowed, by its number from 0
+unfoldable pub turnFault : ℕ → List ℕ → Option Decline
+turnFault p b = firstBelow (length b / 2) (λ i. cond (allowed p (turnAt b i)) none (some (decline BadTurn i)))

@@ -1,0 +1,28 @@
+// The protocol: definitions, theorems, and the types of a run's answer.
+use plan::Decline;
+
+// Where a run ends: closed is bare if some variable's domain (list) is empty.
+pub enum Status {
+    Open,
+    Closed,
+    Bare,
+}
+
+// The run's report, in document 01's order.
+pub struct Report {
+    pub status: Status,
+    // Turns that changed something.
+    pub changes: usize,
+    // List messages sent, each send once.
+    pub sends: usize,
+    // Polls sent, each poll turn once.
+    pub polls: usize,
+    // The lowest slot with an empty list, 0 if none.
+    pub empty: usize,
+}
+
+// A run's answer.
+pub enum Answer {
+    Reported(Report),
+    Declined(Decline),
+}

@@ -1,0 +1,4 @@
+pub mod Computes
+pub mod Consistency
+pub mod Network
+pub mod Solution

@@ -1,0 +1,1 @@
+// Binary constraint networks: definitions and what holds of every network. No code.

@@ -1,0 +1,27 @@
+-- The plan check's whole outcome.
+use Prim.Native.Nat.{ℕ}
+use mathlib.Core.List.{List}
+use lib.ListN.{length}
+use Rattle.network.specs.Network.{labelCount}
+use Rattle.plan.specs.Decode.{Decoded, accepted, declined, decode}
+use Rattle.plan.specs.Network.{networkOf}
+use Rattle.plan.specs.Plan.{Plan}
+use Rattle.plan.specs.declared.Checked.{Checked}
+use Rattle.plan.specs.declared.Checked.the-variants.{Accepted, Declined}
+use Rattle.plan.specs.declared.Figures.{Figures}
+
+-- p, n, the number of rules and L
+unfoldable pub figuresOf : Plan → Figures
+figuresOf plan = record {
+  workers = plan .workers;
+  variables = length (plan .variables);
+  constraints = length (plan .constraints);
+  labels = labelCount (networkOf plan);
+}
+
+abbrev pub checkedAs : Decoded → Checked
+checkedAs (accepted plan) = Accepted (figuresOf plan)
+checkedAs (declined d) = Declined d
+
+unfoldable pub planCheck : List ℕ → Checked
+planCheck b = checkedAs (decode b)

@@ -1,0 +1,94 @@
+-- The checks on a plan's sections, in document 01's order ("In a section: ..").
+use Prim.Native.Nat.{ℕ, suc, _+_, _*_, _^_}
+use mathlib.Core.Bool.{Bool, true, cond, _&&_, not}
+use mathlib.Core.List.{List, [], _∷_}
+use mathlib.Core.Option.{Option, none, some}
+use lib.Dec.{leb, ltb, eqb}
+use lib.ListN.{length}
+use Rattle.base.specs.Below.{allBelow, anyBelow}
+use Rattle.base.specs.Bytes.{wordAt}
+use Rattle.base.specs.Choice.{between}
+use Rattle.plan.specs.Fault.{decline}
+use Rattle.plan.specs.Format.{behind, sectionStart, workerCount, variableCount, constraintCount, ownerAt, valueCountAt, codeAt, firstAt, secondAt, kindAt, tableRowAt, sizeAt}
+use Rattle.plan.specs.declared.Decline.{Decline}
+use Rattle.plan.specs.declared.Fault.{Fault}
+use Rattle.plan.specs.declared.Fault.the-variants.{Truncated, BadLength, BadCount, BadNumber, RepeatedCode, BadConstraint}
+
+-- a test and the fault of a section that fails it
+infix 20 _orElse_
+pub record Check : Type 0 where
+  pub holds : Bool
+  pub fault : Fault
+
+abbrev pub _orElse_ : Bool → Fault → Check
+t orElse f = record { holds = t; fault = f }
+
+-- the fault of the first check that fails
+abbrev pub firstFault : List Check → Option Fault
+firstFault [] = none
+firstFault (c ∷ cs) = cond (c .holds) (firstFault cs) (some (c .fault))
+
+-- neither the section nor its length is cut off; where the length is, what is read of it is no less than 0
+unfoldable pub complete : List ℕ → ℕ → Bool
+complete b at = leb (behind b at) (length b)
+
+unfoldable pub headInRange : List ℕ → Bool
+headInRange b =
+    between 1 8 (workerCount b) && between 1 32 (variableCount b) && leb (constraintCount b) 128
+
+unfoldable pub headChecks : List ℕ → ℕ → List Check
+headChecks b at =
+    (complete b at orElse Truncated) ∷ (eqb (wordAt b at) 3 orElse BadLength) ∷ (headInRange b orElse BadCount) ∷ []
+
+-- some dish's code stands earlier in the slot
+unfoldable pub repeatsCode : List ℕ → ℕ → Bool
+repeatsCode b at = anyBelow (valueCountAt b at) (λ v. anyBelow v (λ u. eqb (codeAt b at u) (codeAt b at v)))
+
+unfoldable pub variableChecks : List ℕ → ℕ → List Check
+variableChecks b at =
+    (complete b at orElse Truncated)
+    ∷ (leb 2 (wordAt b at) orElse BadLength)
+    ∷ (leb (valueCountAt b at) 16 orElse BadCount)
+    ∷ (eqb (wordAt b at) (2 + 4 * valueCountAt b at) orElse BadLength)
+    ∷ (between 1 (workerCount b) (ownerAt b at) orElse BadNumber)
+    ∷ (not (repeatsCode b at) orElse RepeatedCode)
+    ∷ []
+
+-- both slot numbers are in range, and the first is the smaller
+unfoldable pub variablesInOrder : List ℕ → ℕ → Bool
+variablesInOrder b at = leb 1 (firstAt b at) && ltb (firstAt b at) (secondAt b at) && leb (secondAt b at) (variableCount b)
+
+-- the length that a rule's content calls for
+unfoldable pub constraintLength : List ℕ → ℕ → ℕ
+constraintLength b at = cond (eqb (kindAt b at) 0) (3 + 2 * sizeAt b (firstAt b at)) 5
+
+-- no bit of a table stands at or past the second slot's count
+unfoldable pub tableFits : List ℕ → ℕ → Bool
+tableFits b at =
+    cond (eqb (kindAt b at) 0)
+    (allBelow (sizeAt b (firstAt b at)) (λ v. ltb (tableRowAt b at v) (2 ^ sizeAt b (secondAt b at))))
+    true
+
+unfoldable pub constraintChecks : List ℕ → ℕ → List Check
+constraintChecks b at =
+    (complete b at orElse Truncated)
+    ∷ (leb 3 (wordAt b at) orElse BadLength)
+    ∷ (leb (kindAt b at) 1 orElse BadConstraint)
+    ∷ (variablesInOrder b at orElse BadNumber)
+    ∷ (eqb (wordAt b at) (constraintLength b at) orElse BadLength)
+    ∷ (tableFits b at orElse BadConstraint)
+    ∷ []
+
+-- the checks of section k
+unfoldable pub sectionChecks : List ℕ → ℕ → List Check
+sectionChecks b k =
+    cond (eqb k 0) (headChecks b (sectionStart b k))
+    (cond (leb k (variableCount b)) (variableChecks b (sectionStart b k)) (constraintChecks b (sectionStart b k)))
+
+abbrev pub faultAt : ℕ → Option Fault → Option Decline
+faultAt at none = none
+faultAt at (some f) = some (decline f at)
+
+-- the fault of section k, at the section's start
+unfoldable pub sectionFault : List ℕ → ℕ → Option Decline
+sectionFault b k = faultAt (sectionStart b k) (firstFault (sectionChecks b k))

@@ -1,0 +1,67 @@
+-- From bytes to the plan, or to the fault and its place.
+use Prim.Native.Nat.{ℕ, suc, _+_}
+use mathlib.Core.Bool.{cond}
+use mathlib.Core.List.{List, [], _∷_}
+use mathlib.Core.Option.{Option, none, some}
+use lib.Dec.{ltb, eqb}
+use lib.ListN.{length}
+use Rattle.base.specs.Below.{firstBelow, listBelow, sumBelow}
+use Rattle.base.specs.Bytes.{byteAt}
+use Rattle.base.specs.Choice.{firstOf}
+use Rattle.plan.specs.Check.{sectionFault}
+use Rattle.plan.specs.Fault.{decline}
+use Rattle.plan.specs.Format.{sectionStart, workerCount, variableCount, constraintCount, ownerAt, valueCountAt, codeAt, figureAt, firstAt, secondAt, kindAt, tableRowAt, limitAt, sizeAt}
+use Rattle.plan.specs.Plan.{Value, Variable, Relation, table, sumLimit, Constraint, Plan}
+use Rattle.plan.specs.declared.Decline.{Decline}
+use Rattle.plan.specs.declared.Fault.the-variants.{Truncated, BadVersion, TrailingBytes}
+
+-- how many sections the head calls for
+unfoldable pub sectionCount : List ℕ → ℕ
+sectionCount b = 1 + variableCount b + constraintCount b
+
+-- where the last rule ends
+unfoldable pub planEnd : List ℕ → ℕ
+planEnd b = sectionStart b (sectionCount b)
+
+-- the first fault of a plan: 1 for an empty plan, 2, the sections in turn, 8
+unfoldable pub planFault : List ℕ → Option Decline
+planFault b =
+    cond (eqb (length b) 0) (some (decline Truncated 0))
+    (cond (eqb (byteAt b 0) 1)
+    (firstOf (firstBelow (sectionCount b) (sectionFault b))
+    (cond (ltb (planEnd b) (length b)) (some (decline TrailingBytes (planEnd b))) none))
+    (some (decline BadVersion 0)))
+
+-- the data of the section at `at`
+unfoldable pub variableAt : List ℕ → ℕ → Variable
+variableAt b at = record {
+  owner = ownerAt b at;
+  values = listBelow (valueCountAt b at) (λ v. record { code = codeAt b at v; figure = figureAt b at v });
+}
+
+unfoldable pub relationAt : List ℕ → ℕ → Relation
+relationAt b at =
+    cond (eqb (kindAt b at) 0) (table (listBelow (sizeAt b (firstAt b at)) (tableRowAt b at))) (sumLimit (limitAt b at))
+
+unfoldable pub constraintAt : List ℕ → ℕ → Constraint
+constraintAt b at = record { first = firstAt b at; second = secondAt b at; relation = relationAt b at }
+
+-- the plan that the bytes hold, where no check fails
+unfoldable pub planOf : List ℕ → Plan
+planOf b = record {
+  workers = workerCount b;
+  variables = listBelow (variableCount b) (λ x. variableAt b (sectionStart b (suc x)));
+  constraints = listBelow (constraintCount b) (λ c. constraintAt b (sectionStart b (suc (variableCount b + c))));
+}
+
+-- an accepted plan, or the fault and its place
+pub data Decoded : Type 0 where
+  accepted : Plan → Decoded
+  declined : Decline → Decoded
+
+abbrev pub decodedAs : Plan → Option Decline → Decoded
+decodedAs plan none = accepted plan
+decodedAs plan (some d) = declined d
+
+unfoldable pub decode : List ℕ → Decoded
+decode b = decodedAs (planOf b) (planFault b)

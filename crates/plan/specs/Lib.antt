@@ -1,0 +1,8 @@
+pub mod Answer
+pub mod Check
+pub mod Computes
+pub mod Decode
+pub mod Fault
+pub mod Format
+pub mod Network
+pub mod Plan

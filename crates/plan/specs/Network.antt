@@ -1,0 +1,47 @@
+-- The constraint network of a plan.
+use Prim.Native.Nat.{ℕ, suc, _+_}
+use mathlib.Core.Bool.{Bool, true, cond, _&&_, _||_, not}
+use lib.Dec.{leb, eqb}
+use lib.ListN.{length, getD}
+use Rattle.base.specs.Choice.{anyOf, allOf}
+use Rattle.base.specs.Row.{bit}
+use Rattle.network.specs.Network.{Network}
+use Rattle.plan.specs.Plan.{Plan, Relation, table, sumLimit, Constraint, variableOf, valueOf}
+
+-- the sodium figure that means "not recorded"; zero is a recorded figure
+unfoldable pub unrecorded : ℕ → Bool
+unrecorded figure = eqb figure 65535
+
+-- a sodium rule allows a pair when the figures sum to at most its limit, and does not judge a pair with an unrecorded one
+unfoldable pub withinLimit : ℕ → ℕ → ℕ → Bool
+withinLimit limit f g = unrecorded f || unrecorded g || leb (f + g) limit
+
+-- the rule allows value `v` of its first variable `x` with value `w` of its second variable `y`
+unfoldable pub permits : Plan → Relation → ℕ → ℕ → ℕ → ℕ → Bool
+permits plan (table rows) x v y w = bit (getD rows v 0) w
+permits plan (sumLimit limit) x v y w = withinLimit limit (valueOf plan x v .figure) (valueOf plan y w .figure)
+
+-- the constraint's first slot is `x` and its second `y`
+unfoldable pub joins : Constraint → ℕ → ℕ → Bool
+joins c x y = eqb (c .first) (suc x) && eqb (c .second) (suc y)
+
+-- a constraint does not forbid the pair; it reads the same from either variable
+unfoldable pub accepts : Plan → Constraint → ℕ → ℕ → ℕ → ℕ → Bool
+accepts plan c x v y w =
+    (not (joins c x y) || permits plan (c .relation) x v y w) && (not (joins c y x) || permits plan (c .relation) y w x v)
+
+-- a pair is allowed when each constraint over its two variables allows it: they all act together
+unfoldable pub pairAllowed : Plan → ℕ → ℕ → ℕ → ℕ → Bool
+pairAllowed plan x v y w = allOf (λ c. accepts plan c x v y w) (plan .constraints)
+
+-- the two variables share a constraint
+unfoldable pub shareConstraint : Plan → ℕ → ℕ → Bool
+shareConstraint plan x y = anyOf (λ c. joins c x y || joins c y x) (plan .constraints)
+
+unfoldable pub networkOf : Plan → Network
+networkOf plan = record {
+  variables = length (plan .variables);
+  size = λ x. length (variableOf plan x .values);
+  linked = shareConstraint plan;
+  allows = pairAllowed plan;
+}

@@ -1,0 +1,40 @@
+-- A plan as plain data. Slot s of document 01 is variable s - 1; kitchens are workers 1 to p.
+use Prim.Native.Nat.{ℕ}
+use mathlib.Core.List.{List, []}
+use lib.ListN.{getD}
+
+-- a dish: its code and its sodium figure in mg
+pub record Value : Type 0 where
+  pub code : ℕ
+  pub figure : ℕ
+
+-- a slot: the kitchen that owns it and its dishes
+pub record Variable : Type 0 where
+  pub owner : ℕ
+  pub values : List Value
+
+-- what a pair rule says: a table has a row for each dish of the first slot, lowest bit for the second slot's first
+-- dish; a sodium rule has a limit
+pub data Relation : Type 0 where
+  table : List ℕ → Relation
+  sumLimit : ℕ → Relation
+
+-- a pair rule; its two slots by their numbers, from 1
+pub record Constraint : Type 0 where
+  pub first : ℕ
+  pub second : ℕ
+  pub relation : Relation
+
+pub record Plan : Type 0 where
+  -- p
+  pub workers : ℕ
+  pub variables : List Variable
+  pub constraints : List Constraint
+
+-- the variable at an index; one without values and owner past the end
+unfoldable pub variableOf : Plan → ℕ → Variable
+variableOf plan x = getD (plan .variables) x (record { owner = 0; values = [] })
+
+-- the value at an index of a variable's list
+unfoldable pub valueOf : Plan → ℕ → ℕ → Value
+valueOf plan x v = getD (variableOf plan x .values) v (record { code = 0; figure = 0 })

@@ -1,0 +1,49 @@
+// The plan's bytes: definitions, and the types of their answers. The plan check follows.
+
+// Why a call declines: a case for each number of document 01.
+pub enum Fault {
+    // 1: plan empty, or a section or its length is cut off.
+    Truncated,
+    // 2: version byte is not 1.
+    BadVersion,
+    // 3: a section's length is not the one its content calls for.
+    BadLength,
+    // 4: p, n, number of rules or a dish count out of range.
+    BadCount,
+    // 5: kitchen or slot number out of range, or first slot not below second.
+    BadNumber,
+    // 6: a code stands twice in a slot.
+    RepeatedCode,
+    // 7: kind above 1, or a table bit past the second slot's count.
+    BadConstraint,
+    // 8: bytes after the last rule.
+    TrailingBytes,
+    // 9: fewer than 24,576 work cells.
+    ShortWork,
+    // 10: fewer than 32 list cells.
+    ShortLists,
+    // 11: turn list of odd length or over 65,536 bytes.
+    BadTurnList,
+    // 12: a turn that is not allowed.
+    BadTurn,
+}
+
+// A fault and its place.
+pub struct Decline {
+    pub fault: Fault,
+    pub place: usize,
+}
+
+// What the plan check returns on success: p, n, the number of rules and L.
+pub struct Figures {
+    pub workers: usize,
+    pub variables: usize,
+    pub constraints: usize,
+    pub labels: usize,
+}
+
+// The plan check's answer.
+pub enum Checked {
+    Accepted(Figures),
+    Declined(Decline),
+}
