@@ -1,0 +1,286 @@
+-- What a turn that is not idle does: one case for each action, with what held before it, the state after it and its events.
+-- Every invariant of the protocol is proved by going through these cases.
+use Prim.Native.Nat.{ℕ, zero, suc, _+_, _<_, _≤_}
+use mathlib.Core.Bool.{Bool, true, false, cond, _&&_, _||_, not, false≢true}
+use mathlib.Core.List.{List, [], _∷_, _++_, append-assoc, append-nil}
+use mathlib.Core.Logic.{_⊎_, inl, inr, ⊎-elim}
+use mathlib.Core.Option.{Option, none, some, Option·getD}
+use mathlib.Core.Path.{_≡_, refl, sym, _∙_, ap, subst}
+use native.Mathlib.Omega.{arith}
+use borrow.Author.Tests.{leb-true, eqb-true, eqb-false, le-leb, eq-eqb, ne-eqb, lt-leb, not-true, not-false}
+use lib.Dec.{leb, eqb}
+use Rattle.base.proofs.Bools.{decided, clash, and-left, and-right, and-intro, or-cases, or-false-left, or-false-right, or-left, or-right, refuted, and-false-left, and-false-right, not-of}
+use Rattle.base.proofs.Choice.{cond-true, cond-false, between-low, between-high}
+use Rattle.base.specs.Choice.{between}
+use Rattle.network.specs.Network.{Label}
+use Rattle.disac4.specs.Action.{isEmpty, afterTreat, treat, treatFrom, afterSend, send, afterList, afterPoll, afterDrop, readFrom, readWorker, afterAnswer, ready, answerTo, answer, afterAsk, ask, afterTally, afterMark, current, tallyFrom, readController}
+use Rattle.disac4.specs.Event.{Event, sent, taken, treated, eventsAt, events, treatEvent, readEvent, isTreat, isRead}
+use Rattle.disac4.specs.Report.{isSend}
+use Rattle.disac4.specs.State.{State, Message, list, poll, reply, Poll, Controller}
+use Rattle.disac4.specs.System.{System}
+use Rattle.disac4.specs.Turn.{Turn, turn, treatNumber, sendNumber, answerNumber, pollNumber, allowed, workerStep, controllerStep, step, after, play, isSome, changes}
+
+-- an actor that is a worker
+pub record Worker (sys : System) (k : ℕ) : Type 0 where
+  pub above : 0 < k
+  pub within : k ≤ sys .workers
+
+pub data Moves (sys : System) (st : State) : State → List Event → Type 0 where
+  treats : (k : ℕ) (a : Label) (rest : List Label) → Worker sys k → st .workList k ≡ a ∷ rest
+      → Moves sys st (afterTreat sys k a rest st) (treated k a ∷ [])
+  sends : (k : ℕ) → Worker sys k → isEmpty (st .toSend k) ≡ false
+      → Moves sys st (afterSend sys k st) (sent k (st .toSend k) ∷ [])
+  reads : (j k : ℕ) (labels : List Label) (rest : List Message) → Worker sys k → j ≤ sys .workers → (j ≡ k → ⊥)
+      → st .channel j k ≡ list labels ∷ rest → Moves sys st (afterList j k labels rest st) (taken k j labels ∷ [])
+  hears : (j k : ℕ) (q : Poll) (rest : List Message) → Worker sys k → j ≤ sys .workers → (j ≡ k → ⊥)
+      → st .channel j k ≡ poll q ∷ rest → Moves sys st (afterPoll j k q rest st) []
+  ignores : (j k n : ℕ) (rest : List Message) → Worker sys k → j ≤ sys .workers → (j ≡ k → ⊥)
+      → st .channel j k ≡ reply n ∷ rest → Moves sys st (afterDrop j k rest st) []
+  answers : (k : ℕ) (q : Poll) → Worker sys k → st .held k ≡ some q → ready k q st ≡ true
+      → Moves sys st (afterAnswer k q st) []
+  asks : st .controller .asked ≡ false → Moves sys st (afterAsk sys st) []
+  tallies : (k : ℕ) (labels : List Label) (rest : List Message) → Worker sys k → st .channel k 0 ≡ list labels ∷ rest
+      → Moves sys st (afterTally k rest st) (taken 0 k labels ∷ [])
+  marks : (k n : ℕ) (rest : List Message) → Worker sys k → st .channel k 0 ≡ reply n ∷ rest → current n st ≡ true
+      → Moves sys st (afterMark sys k rest st) []
+  drops : (k n : ℕ) (rest : List Message) → Worker sys k → st .channel k 0 ≡ reply n ∷ rest → current n st ≡ false
+      → Moves sys st (afterDrop k 0 rest st) []
+  discards : (k : ℕ) (q : Poll) (rest : List Message) → Worker sys k → st .channel k 0 ≡ poll q ∷ rest
+      → Moves sys st (afterDrop k 0 rest st) []
+
+-- ---- from the step to its case
+
+module _ (sys : System) (st : State) where
+  abbrev To : List Event → State → Type 0
+  To es s = Moves sys st s es
+
+  none≢some : {s : State} {A : Type 0} → none ≡ some s → A
+  none≢some e = absurd (let z : _≡_ {A = ℕ} 0 1 = cc in omega arith)
+
+  reached : {s s′ : State} {es : List Event} → some s ≡ some s′ → To es s → To es s′
+  reached {s} {s′} {es} e m = subst (To es) (let z : s ≡ s′ = cc in z) m
+
+  -- a step by a choice whose other outcome is idle
+  chosen : (b : Bool) {s s′ : State} → cond b none (some s) ≡ some s′ → (b ≡ false) × (some s ≡ some s′)
+  chosen true e = none≢some e
+  chosen false e = (refl, e)
+
+  treat-moves : (k : ℕ) → Worker sys k → (l : List Label) → st .workList k ≡ l → (s : State)
+      → treatFrom sys k st l ≡ some s → To (treatEvent k l) s
+  treat-moves k w [] p s e = none≢some e
+  treat-moves k w (a ∷ rest) p s e = reached e (treats k a rest w p)
+
+  send-moves : (k : ℕ) → Worker sys k → (s : State) → send sys k st ≡ some s → To (sent k (st .toSend k) ∷ []) s
+  unfolding send
+  send-moves k w s e =
+      reached (chosen (isEmpty (st .toSend k)) e .1) (sends k w (chosen (isEmpty (st .toSend k)) e .0))
+
+  read-moves : (j k : ℕ) → Worker sys k → j ≤ sys .workers → (j ≡ k → ⊥) → (l : List Message) → st .channel j k ≡ l
+      → (s : State) → readFrom j k st l ≡ some s → To (readEvent k j l) s
+  read-moves j k w h n [] p s e = none≢some e
+  read-moves j k w h n (list labels ∷ rest) p s e = reached e (reads j k labels rest w h n p)
+  read-moves j k w h n (poll q ∷ rest) p s e = reached e (hears j k q rest w h n p)
+  read-moves j k w h n (reply i ∷ rest) p s e = reached e (ignores j k i rest w h n p)
+
+  answer-moves : (k : ℕ) → Worker sys k → (o : Option Poll) → st .held k ≡ o → (s : State)
+      → answerTo k st o ≡ some s → To [] s
+  answer-moves k w none p s e = none≢some e
+  answer-moves k w (some q) p s e = go (ready k q st) refl e
+    where
+      go : (b : Bool) → ready k q st ≡ b → cond b (some (afterAnswer k q st)) none ≡ some s → To [] s
+      go true r f = reached f (answers k q w p r)
+      go false r f = none≢some f
+
+  ask-moves : (s : State) → ask sys st ≡ some s → To [] s
+  unfolding ask
+  ask-moves s e = reached (chosen (st .controller .asked) e .1) (asks (chosen (st .controller .asked) e .0))
+
+  tally-moves : (k : ℕ) → Worker sys k → (l : List Message) → st .channel k 0 ≡ l
+      → (s : State) → tallyFrom sys k st l ≡ some s → To (readEvent 0 k l) s
+  tally-moves k w [] p s e = none≢some e
+  tally-moves k w (list labels ∷ rest) p s e = reached e (tallies k labels rest w p)
+  tally-moves k w (poll q ∷ rest) p s e = reached e (discards k q rest w p)
+  tally-moves k w (reply n ∷ rest) p s e = go (current n st) refl e
+    where
+      go : (b : Bool) → current n st ≡ b
+          → some (cond b (afterMark sys k rest st) (afterDrop k 0 rest st)) ≡ some s → To [] s
+      go true c f = reached f (marks k n rest w p c)
+      go false c f = reached f (drops k n rest w p c)
+
+  -- ---- the events of a turn that is not idle, by its actor and action
+
+  abbrev workerEvents : ℕ → ℕ → List Event
+  workerEvents k d =
+      cond (eqb d sendNumber) (sent k (st .toSend k) ∷ [])
+      (cond (eqb d treatNumber) (treatEvent k (st .workList k))
+      (cond (leb d (sys .workers)) (readEvent k d (st .channel d k)) []))
+
+  module _ (few : sys .workers ≤ 8) where
+    worker-moves : (k d : ℕ) → Worker sys k
+        → ((leb d (sys .workers) && not (eqb d k)) || between treatNumber answerNumber d) ≡ true
+        → (s : State) → workerStep sys k d st ≡ some s → To (workerEvents k d) s
+    unfolding workerStep treat answer readWorker
+    worker-moves k d w ok s e = at-treat (eqb d treatNumber) refl e
+      where
+        Goal : Type 0
+        Goal = To (workerEvents k d) s
+
+        reading : eqb d treatNumber ≡ false → eqb d sendNumber ≡ false → eqb d answerNumber ≡ false
+            → readWorker d k st ≡ some s → Goal
+        reading p q r f =
+            ⊎-elim
+            (λ x.
+            let below : d ≤ sys .workers = leb-true d (sys .workers) (and-left (leb d (sys .workers)) _ x) in
+            let other : d ≡ k → ⊥ = eqb-false d k (not-true (eqb d k) (and-right (leb d (sys .workers)) _ x)) in
+            rw (p, q, and-left (leb d (sys .workers)) _ x) (read-moves d k w below other (st .channel d k) refl s f))
+            (λ x.
+            absurd
+            (omega (
+              arith,
+              between-low treatNumber answerNumber d x,
+              between-high treatNumber answerNumber d x,
+              eqb-false d treatNumber p,
+              eqb-false d sendNumber q,
+              eqb-false d answerNumber r,
+            )))
+            (or-cases _ _ ok)
+
+        at-answer : (b : Bool) → eqb d answerNumber ≡ b → eqb d treatNumber ≡ false → eqb d sendNumber ≡ false
+            → cond b (answer k st) (readWorker d k st) ≡ some s → Goal
+        at-answer true r p q f =
+            rw (p, q, lt-leb d (sys .workers) (omega (arith, eqb-true d answerNumber r)))
+            (answer-moves k w (st .held k) refl s f)
+        at-answer false r p q f = reading p q r f
+
+        at-send : (b : Bool) → eqb d sendNumber ≡ b → eqb d treatNumber ≡ false
+            → cond b (send sys k st) (cond (eqb d answerNumber) (answer k st) (readWorker d k st)) ≡ some s → Goal
+        at-send true q p f = rw q (send-moves k w s f)
+        at-send false q p f = at-answer (eqb d answerNumber) refl p q f
+
+        at-treat : (b : Bool) → eqb d treatNumber ≡ b
+            → cond b (treat sys k st)
+            (cond (eqb d sendNumber) (send sys k st) (cond (eqb d answerNumber) (answer k st) (readWorker d k st)))
+            ≡ some s
+            → Goal
+        at-treat true p f =
+            rw (ne-eqb d sendNumber (λ x. omega (arith, eqb-true d treatNumber p)), p)
+            (treat-moves k w (st .workList k) refl s f)
+        at-treat false p f = at-send (eqb d sendNumber) refl p f
+
+    controller-moves : (d : ℕ) → (between 1 (sys .workers) d || eqb d pollNumber) ≡ true → (s : State)
+        → controllerStep sys d st ≡ some s → To (cond (leb d (sys .workers)) (readEvent 0 d (st .channel d 0)) []) s
+    unfolding controllerStep readController
+    controller-moves d ok s e = at-poll (eqb d pollNumber) refl e
+      where
+        at-poll : (b : Bool) → eqb d pollNumber ≡ b → cond b (ask sys st) (readController sys d st) ≡ some s
+            → To (cond (leb d (sys .workers)) (readEvent 0 d (st .channel d 0)) []) s
+        at-poll true p f =
+            rw (lt-leb d (sys .workers) (omega (arith, eqb-true d pollNumber p))) (ask-moves s f)
+        at-poll false p f =
+            ⊎-elim
+            (λ x.
+            rw (and-right (leb 1 d) (leb d (sys .workers)) x)
+            (tally-moves d
+            (record { above = between-low 1 (sys .workers) d x; within = between-high 1 (sys .workers) d x })
+            (st .channel d 0) refl s f))
+            (λ x. clash x p)
+            (or-cases _ _ ok)
+
+    -- the events of a turn that is not idle, by its actor
+    events-of-worker : (t : Turn) → changes sys st t ≡ true → eqb (t .actor) 0 ≡ false
+        → eventsAt sys st t ≡ workerEvents (t .actor) (t .action)
+    unfolding eventsAt
+    events-of-worker t c p = rw (c, p)
+
+    events-of-controller : (d : ℕ) → changes sys st (turn 0 d) ≡ true
+        → eventsAt sys st (turn 0 d) ≡ cond (leb d (sys .workers)) (readEvent 0 d (st .channel d 0)) []
+    unfolding eventsAt
+    events-of-controller d c = rw c
+
+    allowed-worker : (t : Turn) → eqb (t .actor) 0 ≡ false → allowed (sys .workers) t ≡ true
+        → (t .actor ≤ sys .workers)
+        × (((leb (t .action) (sys .workers) && not (eqb (t .action) (t .actor)))
+        || between treatNumber answerNumber (t .action)) ≡ true)
+    unfolding allowed
+    allowed-worker t p ok =
+        let r = rw p at ok in (
+          leb-true (t .actor) (sys .workers) (and-left (leb (t .actor) (sys .workers)) _ r),
+          and-right (leb (t .actor) (sys .workers)) _ r,
+        )
+
+    controller-turn : (d : ℕ) (s : State) → allowed (sys .workers) (turn 0 d) ≡ true → changes sys st (turn 0 d) ≡ true
+        → controllerStep sys d st ≡ some s → Moves sys st s (eventsAt sys st (turn 0 d))
+    unfolding allowed
+    controller-turn d s ok c f = rw (events-of-controller d c) (controller-moves d ok s f)
+
+    worker-turn : (t : Turn) (s : State) → eqb (t .actor) 0 ≡ false → allowed (sys .workers) t ≡ true
+        → changes sys st t ≡ true → workerStep sys (t .actor) (t .action) st ≡ some s → Moves sys st s (eventsAt sys st t)
+    worker-turn t s p ok c f =
+        let a = allowed-worker t p ok in
+        rw (events-of-worker t c p)
+        (worker-moves (t .actor) (t .action)
+        (record { above = omega (arith, eqb-false (t .actor) 0 p); within = a .0 })
+        (a .1) s f)
+
+    -- a turn that is not idle was played in an open plan, and is one of the cases
+    pub moves : (t : Turn) (s : State) → step sys st t ≡ some s
+        → (st .controller .closed ≡ false) × (allowed (sys .workers) t ≡ true) × Moves sys st s (eventsAt sys st t)
+    unfolding step changes
+    moves t s e = go (st .controller .closed || not (allowed (sys .workers) t)) refl e
+      where
+        changed : changes sys st t ≡ true
+        changed = ap isSome e
+
+        acts : (b : Bool) → eqb (t .actor) 0 ≡ b → allowed (sys .workers) t ≡ true
+            → cond b (controllerStep sys (t .action) st) (workerStep sys (t .actor) (t .action) st) ≡ some s
+            → Moves sys st s (eventsAt sys st t)
+        acts true p ok f =
+            let z : t ≡ turn 0 (t .action) = λ i. record { actor = eqb-true (t .actor) 0 p i; action = t .action } in
+            subst (λ (u : Turn). Moves sys st s (eventsAt sys st u)) (sym z)
+            (controller-turn (t .action) s
+            (subst (λ (u : Turn). allowed (sys .workers) u ≡ true) z ok)
+            (subst (λ (u : Turn). changes sys st u ≡ true) z changed)
+            f)
+        acts false p ok f = worker-turn t s p ok changed f
+
+        go : (b : Bool) → (st .controller .closed || not (allowed (sys .workers) t)) ≡ b
+            → cond b none
+            (cond (eqb (t .actor) 0) (controllerStep sys (t .action) st) (workerStep sys (t .actor) (t .action) st))
+            ≡ some s
+            → (st .controller .closed ≡ false) × (allowed (sys .workers) t ≡ true) × Moves sys st s (eventsAt sys st t)
+        go true p f = none≢some f
+        go false p f =
+            let ok = not-false (allowed (sys .workers) t) (or-false-right (st .controller .closed) _ p) in
+            (or-false-left (st .controller .closed) _ p, ok, acts (eqb (t .actor) 0) refl ok f)
+
+-- ---- invariants of a run
+
+-- an idle turn has no events
+idle-events : (sys : System) (st : State) (t : Turn) → step sys st t ≡ none → eventsAt sys st t ≡ []
+unfolding eventsAt changes
+idle-events sys st t e = rw e
+
+pub after-idle : (sys : System) (st : State) (t : Turn) → step sys st t ≡ none → after sys st t ≡ st
+unfolding after
+after-idle sys st t e = rw e
+
+pub after-move : (sys : System) (st : State) (t : Turn) (s : State) → step sys st t ≡ some s → after sys st t ≡ s
+unfolding after
+after-move sys st t s e = rw e
+
+-- what every case of `Moves` keeps holds after any list of turns, with the events so far
+pub kept : (sys : System) → sys .workers ≤ 8 → (I : State → List Event → Type 0)
+    → ((st : State) (es : List Event) (s : State) (new : List Event) → st .controller .closed ≡ false → I st es
+    → Moves sys st s new → I s (es ++ new))
+    → (ts : List Turn) (st : State) (es : List Event) → I st es → I (play sys st ts) (es ++ events sys st ts)
+unfolding play events
+kept sys few I one-move [] st es h = rw append-nil h
+kept sys few I one-move (t ∷ ts) st es h =
+    rw (← append-assoc es (eventsAt sys st t) (events sys (after sys st t) ts))
+    (kept sys few I one-move ts (after sys st t) (es ++ eventsAt sys st t) (next (step sys st t) refl))
+  where
+    next : (o : Option State) → step sys st t ≡ o → I (after sys st t) (es ++ eventsAt sys st t)
+    next none p = rw (after-idle sys st t p, idle-events sys st t p, append-nil) h
+    next (some s) p =
+        rw (after-move sys st t s p)
+        (one-move st es s (eventsAt sys st t) (moves sys st few t s p .0) h (moves sys st few t s p .2))
