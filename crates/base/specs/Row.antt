@@ -15,7 +15,7 @@ bit r w = isOdd (r / 2 ^ w)
 unfoldable pub rowOf : ℕ → (ℕ → Bool) → ℕ
 rowOf n t = sumBelow n (λ w. cond (t w) (2 ^ w) 0)
 
--- a row of at most `width` values without its lowest one
+-- a row of values below `width` without its lowest one
 unfoldable pub withoutLowest : ℕ → ℕ → ℕ
 withoutLowest zero r = 0
 withoutLowest (suc width) r = cond (isOdd r) (r - 1) (2 * withoutLowest width (r / 2))

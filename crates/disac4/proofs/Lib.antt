@@ -1,2 +1,4 @@
+pub mod Channels
 pub mod Moves
+pub mod Sound
 pub mod Worked

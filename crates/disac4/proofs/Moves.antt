@@ -13,11 +13,12 @@ use Rattle.base.proofs.Bools.{decided, clash, and-left, and-right, and-intro, o
 use Rattle.base.proofs.Choice.{cond-true, cond-false, between-low, between-high}
 use Rattle.base.specs.Choice.{between}
 use Rattle.network.specs.Network.{Label}
-use Rattle.disac4.specs.Action.{isEmpty, afterTreat, treat, treatFrom, afterSend, send, afterList, afterPoll, afterDrop, readFrom, readWorker, afterAnswer, ready, answerTo, answer, afterAsk, ask, afterTally, afterMark, current, tallyFrom, readController}
+use Rattle.disac4.specs.Action.{isEmpty, afterTreat, treat, treatFrom, afterSend, send, afterList, afterPoll, afterDrop, readFrom, readWorker, afterAnswer, ready, answerTo, answer, afterAsk, ask, afterCount, afterMark, current, controllerFrom, readController}
 use Rattle.disac4.specs.Event.{Event, sent, taken, treated, eventsAt, events, treatEvent, readEvent, isTreat, isRead}
 use Rattle.disac4.specs.Report.{isSend}
 use Rattle.disac4.specs.State.{State, Message, list, poll, reply, Poll, Controller}
 use Rattle.disac4.specs.System.{System}
+use Rattle.disac4.specs.declared.Timestamp.{Timestamp}
 use Rattle.disac4.specs.Turn.{Turn, turn, treatNumber, sendNumber, answerNumber, pollNumber, allowed, workerStep, controllerStep, step, after, play, isSome, changes}
 
 -- an actor that is a worker
@@ -34,16 +35,16 @@ pub data Moves (sys : System) (st : State) : State → List Event → Type 0 whe
       → st .channel j k ≡ list labels ∷ rest → Moves sys st (afterList j k labels rest st) (taken k j labels ∷ [])
   hears : (j k : ℕ) (q : Poll) (rest : List Message) → Worker sys k → j ≤ sys .workers → (j ≡ k → ⊥)
       → st .channel j k ≡ poll q ∷ rest → Moves sys st (afterPoll j k q rest st) []
-  ignores : (j k n : ℕ) (rest : List Message) → Worker sys k → j ≤ sys .workers → (j ≡ k → ⊥)
+  ignores : (j k : ℕ) (n : Timestamp) (rest : List Message) → Worker sys k → j ≤ sys .workers → (j ≡ k → ⊥)
       → st .channel j k ≡ reply n ∷ rest → Moves sys st (afterDrop j k rest st) []
   answers : (k : ℕ) (q : Poll) → Worker sys k → st .held k ≡ some q → ready k q st ≡ true
       → Moves sys st (afterAnswer k q st) []
-  asks : st .controller .asked ≡ false → Moves sys st (afterAsk sys st) []
+  asks : st .controller .pollOpen ≡ false → Moves sys st (afterAsk sys st) []
   tallies : (k : ℕ) (labels : List Label) (rest : List Message) → Worker sys k → st .channel k 0 ≡ list labels ∷ rest
-      → Moves sys st (afterTally k rest st) (taken 0 k labels ∷ [])
-  marks : (k n : ℕ) (rest : List Message) → Worker sys k → st .channel k 0 ≡ reply n ∷ rest → current n st ≡ true
+      → Moves sys st (afterCount k rest st) (taken 0 k labels ∷ [])
+  marks : (k : ℕ) (n : Timestamp) (rest : List Message) → Worker sys k → st .channel k 0 ≡ reply n ∷ rest → current n st ≡ true
       → Moves sys st (afterMark sys k rest st) []
-  drops : (k n : ℕ) (rest : List Message) → Worker sys k → st .channel k 0 ≡ reply n ∷ rest → current n st ≡ false
+  drops : (k : ℕ) (n : Timestamp) (rest : List Message) → Worker sys k → st .channel k 0 ≡ reply n ∷ rest → current n st ≡ false
       → Moves sys st (afterDrop k 0 rest st) []
   discards : (k : ℕ) (q : Poll) (rest : List Message) → Worker sys k → st .channel k 0 ≡ poll q ∷ rest
       → Moves sys st (afterDrop k 0 rest st) []
@@ -93,10 +94,10 @@ module _ (sys : System) (st : State) where
 
   ask-moves : (s : State) → ask sys st ≡ some s → To [] s
   unfolding ask
-  ask-moves s e = reached (chosen (st .controller .asked) e .1) (asks (chosen (st .controller .asked) e .0))
+  ask-moves s e = reached (chosen (st .controller .pollOpen) e .1) (asks (chosen (st .controller .pollOpen) e .0))
 
   tally-moves : (k : ℕ) → Worker sys k → (l : List Message) → st .channel k 0 ≡ l
-      → (s : State) → tallyFrom sys k st l ≡ some s → To (readEvent 0 k l) s
+      → (s : State) → controllerFrom sys k st l ≡ some s → To (readEvent 0 k l) s
   tally-moves k w [] p s e = none≢some e
   tally-moves k w (list labels ∷ rest) p s e = reached e (tallies k labels rest w p)
   tally-moves k w (poll q ∷ rest) p s e = reached e (discards k q rest w p)

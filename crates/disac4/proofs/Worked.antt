@@ -2,9 +2,9 @@
 use mathlib.Core.List.{map}
 use mathlib.Core.Path.{_≡_, refl}
 use Rattle.disac4.specs.Computes.{disac4-computes}
-use Rattle.disac4.specs.Worked.{Line, answerTo, table}
+use Rattle.disac4.specs.Worked.{Line, findingOf, table}
 
 -- every question of the table is answered as document 01 states
-pub worked : map (λ (l : Line). answerTo (l .question)) table ≡ map (λ (l : Line). l .stated) table
+pub worked : map (λ (l : Line). findingOf (l .question)) table ≡ map (λ (l : Line). l .stated) table
 unfolding disac4-computes
 worked = refl

@@ -9,6 +9,7 @@ use Rattle.base.specs.Choice.{update, update₂}
 use Rattle.network.specs.Network.{Label, labelsWhere, supports}
 use Rattle.disac4.specs.State.{State, Message, list, poll, reply, Poll, Controller}
 use Rattle.disac4.specs.System.{System}
+use Rattle.disac4.specs.declared.Timestamp.{Timestamp}
 
 -- the channels after actor `k` sent a message to every other actor
 unfoldable pub broadcast : ℕ → ℕ → Message → (ℕ → ℕ → List Message) → ℕ → ℕ → List Message
@@ -19,7 +20,7 @@ abbrev pub isEmpty {ℓ} : {A : Type ℓ} → List A → Bool
 isEmpty [] = true
 isEmpty (a ∷ l) = false
 
--- ---- Treat
+-- ---- Treat: take the oldest label from the work list
 
 -- a label of worker `k`'s own variables that is still in its domain and had label `a` as a support
 unfoldable pub loses : System → ℕ → Label → State → ℕ → ℕ → Bool
@@ -58,7 +59,7 @@ treatFrom sys k st (a ∷ rest) = some (afterTreat sys k a rest st)
 unfoldable pub treat : System → ℕ → State → Option State
 treat sys k st = treatFrom sys k st (st .workList k)
 
--- ---- Send
+-- ---- Send: if the out list is not empty, one list message with all of it goes to every other worker and the controller
 
 unfoldable pub afterSend : System → ℕ → State → State
 afterSend sys k st = record {
@@ -126,7 +127,7 @@ readFrom j k st (reply n ∷ rest) = some (afterDrop j k rest st)
 unfoldable pub readWorker : ℕ → ℕ → State → Option State
 readWorker j k st = readFrom j k st (st .channel j k)
 
--- ---- Answer
+-- ---- Answer: if a poll is held and the worker is ready, a reply with the poll's number goes to the controller
 
 unfoldable pub afterAnswer : ℕ → Poll → State → State
 afterAnswer k q st = record {
@@ -142,7 +143,7 @@ afterAnswer k q st = record {
 
 -- both lists are empty, and the count of lists equals the wanted count
 unfoldable pub ready : ℕ → Poll → State → Bool
-ready k q st = isEmpty (st .workList k) && isEmpty (st .toSend k) && eqb (st .listCounter k) (q .wanted)
+ready k q st = isEmpty (st .workList k) && isEmpty (st .toSend k) && eqb (st .listCounter k) (q .wanted .0)
 
 abbrev pub answerTo : ℕ → State → Option Poll → Option State
 answerTo k st none = none
@@ -151,7 +152,10 @@ answerTo k st (some q) = cond (ready k q st) (some (afterAnswer k q st)) none
 unfoldable pub answer : ℕ → State → Option State
 answer k st = answerTo k st (st .held k)
 
--- ---- Poll
+-- ---- Poll: if no poll is open, a new one goes to every worker
+
+unfoldable pub pollOf : ℕ → ℕ → Poll
+pollOf n w = record { number = record { 0 = n }; wanted = record { 0 = w } }
 
 -- the poll number goes up by one, all marks are cleared, and the wanted count is the lists that the controller has read
 unfoldable pub afterAsk : System → State → State
@@ -164,24 +168,24 @@ afterAsk sys st = record {
   listCounter = st .listCounter;
   channel =
       broadcast (sys .workers) 0
-      (poll (record { number = suc (st .controller .timestamp); wanted = st .listCounter 0 }))
+      (poll (pollOf (suc (st .controller .timestamp)) (st .listCounter 0)))
       (st .channel);
   controller = record {
     timestamp = suc (st .controller .timestamp);
-    asked = true;
+    pollOpen = true;
     marked = λ k. false;
     closed = st .controller .closed;
   };
 }
 
 unfoldable pub ask : System → State → Option State
-ask sys st = cond (st .controller .asked) none (some (afterAsk sys st))
+ask sys st = cond (st .controller .pollOpen) none (some (afterAsk sys st))
 
 -- ---- Read, controller
 
 -- a list message adds one to the count and ends an open poll
-unfoldable pub afterTally : ℕ → List Message → State → State
-afterTally k rest st = record {
+unfoldable pub afterCount : ℕ → List Message → State → State
+afterCount k rest st = record {
   domain = st .domain;
   counter = st .counter;
   workList = st .workList;
@@ -191,7 +195,7 @@ afterTally k rest st = record {
   channel = update₂ (st .channel) k 0 rest;
   controller = record {
     timestamp = st .controller .timestamp;
-    asked = false;
+    pollOpen = false;
     marked = st .controller .marked;
     closed = st .controller .closed;
   };
@@ -213,22 +217,22 @@ afterMark sys k rest st = record {
   channel = update₂ (st .channel) k 0 rest;
   controller = record {
     timestamp = st .controller .timestamp;
-    asked = st .controller .asked;
+    pollOpen = st .controller .pollOpen;
     marked = update (st .controller .marked) k true;
     closed = allMarked sys (update (st .controller .marked) k true);
   };
 }
 
 -- a reply to the open poll, and no other
-unfoldable pub current : ℕ → State → Bool
-current n st = st .controller .asked && eqb n (st .controller .timestamp)
+unfoldable pub current : Timestamp → State → Bool
+current n st = st .controller .pollOpen && eqb (n .0) (st .controller .timestamp)
 
 -- the controller is never sent a poll
-abbrev pub tallyFrom : System → ℕ → State → List Message → Option State
-tallyFrom sys k st [] = none
-tallyFrom sys k st (list labels ∷ rest) = some (afterTally k rest st)
-tallyFrom sys k st (poll q ∷ rest) = some (afterDrop k 0 rest st)
-tallyFrom sys k st (reply n ∷ rest) = some (cond (current n st) (afterMark sys k rest st) (afterDrop k 0 rest st))
+abbrev pub controllerFrom : System → ℕ → State → List Message → Option State
+controllerFrom sys k st [] = none
+controllerFrom sys k st (list labels ∷ rest) = some (afterCount k rest st)
+controllerFrom sys k st (poll q ∷ rest) = some (afterDrop k 0 rest st)
+controllerFrom sys k st (reply n ∷ rest) = some (cond (current n st) (afterMark sys k rest st) (afterDrop k 0 rest st))
 
 unfoldable pub readController : System → ℕ → State → Option State
-readController sys k st = tallyFrom sys k st (st .channel k 0)
+readController sys k st = controllerFrom sys k st (st .channel k 0)

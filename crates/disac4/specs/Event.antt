@@ -54,42 +54,37 @@ events sys st (t ∷ ts) = eventsAt sys st t ++ events sys (after sys st t) ts
 unfoldable pub holds : List Label → ℕ → ℕ → Bool
 holds labels x v = anyOf (isLabel x v) labels
 
-abbrev pub sameLabels : List Label → List Label → Bool
-sameLabels [] [] = true
-sameLabels [] (b ∷ m) = false
-sameLabels (a ∷ l) [] = false
-sameLabels (a ∷ l) (b ∷ m) = isLabel (b .variable) (b .value) a && sameLabels l m
-
 -- the event is worker `k`'s send of a message that carries label `v` of `x`
 abbrev pub isSentWith : ℕ → ℕ → ℕ → Event → Bool
 isSentWith k x v (sent j labels) = eqb j k && holds labels x v
 isSentWith k x v (taken i j labels) = false
 isSentWith k x v (treated j a) = false
 
--- the event is `reader`'s read of the message that the first event sent
-abbrev pub isReadOf : Event → ℕ → Event → Bool
-isReadOf (sent j labels) reader (taken i k others) = eqb i reader && eqb k j && sameLabels others labels
-isReadOf (sent j labels) reader (sent k others) = false
-isReadOf (sent j labels) reader (treated k a) = false
-isReadOf (taken i j labels) reader e = false
-isReadOf (treated j a) reader e = false
+-- the event is `reader`'s read of a message from worker `k` that carries label `v` of `x`; a label is sent at most once, so
+-- this is the message that carries it
+abbrev pub isReadWith : ℕ → ℕ → ℕ → ℕ → Event → Bool
+isReadWith k reader x v (taken i j labels) = eqb i reader && eqb j k && holds labels x v
+isReadWith k reader x v (sent j labels) = false
+isReadWith k reader x v (treated j a) = false
 
+-- the event is worker `k`'s treating of label `v` of `x`
 abbrev pub isTreatOf : ℕ → ℕ → ℕ → Event → Bool
 isTreatOf k x v (treated j a) = eqb j k && isLabel x v a
 isTreatOf k x v (sent j labels) = false
 isTreatOf k x v (taken i j labels) = false
 
+-- Of a deleted label:
+
 -- unsent until a send of its owner carries it
 unfoldable pub unsent : System → List Event → ℕ → ℕ → Bool
 unsent sys es x v = not (anyOf (isSentWith (sys .owner x) x v) es)
 
--- every actor but worker `k` has read the message that the event sent: the other workers and the controller
-unfoldable pub readByOthers : System → List Event → ℕ → Event → Bool
-readByOthers sys es k e = allBelow (suc (sys .workers)) (λ i. eqb i k || anyOf (isReadOf e i) es)
-
 -- unread until every other worker and the controller have read the message that carries it
 unfoldable pub unread : System → List Event → ℕ → ℕ → Bool
-unread sys es x v = not (anyOf (λ e. isSentWith (sys .owner x) x v e && readByOthers sys es (sys .owner x) e) es)
+unread sys es x v =
+    not
+    (allBelow (suc (sys .workers))
+    (λ i. eqb i (sys .owner x) || anyOf (isReadWith (sys .owner x) i x v) es))
 
 -- untreated until every worker, its owner too, has treated it
 unfoldable pub untreated : System → List Event → ℕ → ℕ → Bool

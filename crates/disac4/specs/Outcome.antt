@@ -1,20 +1,18 @@
 -- The whole outcome of each run: its answer and every cell of the lent buffers, from all of its inputs.
-use Prim.Native.Nat.{ℕ, suc}
-use mathlib.Core.Bool.{Bool}
+use Prim.Native.Nat.{ℕ}
 use mathlib.Core.List.{List, [], _∷_, _++_}
 use mathlib.Core.Option.{Option, none, some}
 use lib.Dec.{leb}
 use lib.ListN.{length, drop, replicate}
 use Rattle.base.specs.Choice.{firstOf}
-use Rattle.plan.specs.Check.{Check, _orElse_, firstFault, faultAt}
-use Rattle.plan.specs.Decode.{Decoded, accepted, declined, decode}
-use Rattle.plan.specs.Plan.{Plan}
+use Rattle.plan.specs.Check.{_orElse_, firstFault, faultAt}
+use Rattle.plan.specs.Decode.{planFault, planOf}
+use Rattle.plan.specs.Format.{workerCount}
 use Rattle.plan.specs.declared.Decline.{Decline}
 use Rattle.plan.specs.declared.Fault.the-variants.{ShortWork, ShortLists, BadTurnList}
-use Rattle.disac4.specs.Loading.{load}
 use Rattle.disac4.specs.Report.{listCells, final, reportOf}
-use Rattle.disac4.specs.Round.{roundTurns}
-use Rattle.disac4.specs.System.{System, systemOf, boundOf}
+use Rattle.disac4.specs.Round.{roundRunTurns}
+use Rattle.disac4.specs.System.{System, systemOf}
 use Rattle.disac4.specs.Turn.{Turn, turnsOf, turnListFits, turnFault}
 use Rattle.disac4.specs.declared.Answer.{Answer}
 use Rattle.disac4.specs.declared.Answer.the-variants.{Reported, Declined}
@@ -47,39 +45,35 @@ played work lists sys turns = record {
   lists = overwrite (listCells sys (final sys turns)) lists;
 }
 
--- the buffers are large enough: 9, then 10
-unfoldable pub bufferChecks : List ℕ → List ℕ → List Check
-bufferChecks work lists =
-    (leb workNeed (length work) orElse ShortWork) ∷ (leb listNeed (length lists) orElse ShortLists) ∷ []
+-- 9 and 10: the buffers are too small
+unfoldable pub bufferFault : List ℕ → List ℕ → Option Decline
+bufferFault work lists =
+    faultAt 0
+    (firstFault
+    ((leb workNeed (length work) orElse ShortWork) ∷ (leb listNeed (length lists) orElse ShortLists) ∷ []))
 
-abbrev pub onAccepted : (Plan → Outcome) → (Decline → Outcome) → Decoded → Outcome
-onAccepted run stop (accepted plan) = run plan
-onAccepted run stop (declined d) = stop d
+-- 11; the plan's faults; 12
+unfoldable pub inputFault : List ℕ → List ℕ → Option Decline
+inputFault bytes turns =
+    firstOf (faultAt 0 (firstFault ((turnListFits turns orElse BadTurnList) ∷ [])))
+    (firstOf (planFault bytes) (turnFault (workerCount bytes) turns))
+
+-- the system of an accepted plan's bytes
+unfoldable pub systemAt : List ℕ → System
+systemAt bytes = systemOf (planOf bytes)
 
 abbrev pub unlessFault : Outcome → (Decline → Outcome) → Option Decline → Outcome
 unlessFault run stop none = run
 unlessFault run stop (some d) = stop d
 
--- the turn run: 9, 10, 11; the plan's faults; 12
+-- the turn run, from the plan, the turn list and the two buffers
 unfoldable pub turnRun : List ℕ → List ℕ → List ℕ → List ℕ → Outcome
 turnRun bytes turns work lists =
-    unlessFault
-    (onAccepted
-    (λ plan.
-    unlessFault (played work lists (systemOf plan) (turnsOf turns)) (refused work lists) (turnFault (plan .workers) turns))
-    (refused work lists)
-    (decode bytes))
-    (refused work lists)
-    (faultAt 0 (firstFault (bufferChecks work lists ++ ((turnListFits turns orElse BadTurnList) ∷ []))))
+    unlessFault (played work lists (systemAt bytes) (turnsOf turns)) (refused work lists)
+    (firstOf (bufferFault work lists) (inputFault bytes turns))
 
--- the rounds of a round run: one more than the bound on changing turns is never used up
-unfoldable pub roundRunTurns : System → List Turn
-roundRunTurns sys = roundTurns sys (suc (boundOf sys)) (load sys)
-
--- the round run: 9, 10; the plan's faults
+-- the round run: never 11 or 12
 unfoldable pub roundRun : List ℕ → List ℕ → List ℕ → Outcome
 roundRun bytes work lists =
-    unlessFault
-    (onAccepted (λ plan. played work lists (systemOf plan) (roundRunTurns (systemOf plan))) (refused work lists) (decode bytes))
-    (refused work lists)
-    (faultAt 0 (firstFault (bufferChecks work lists)))
+    unlessFault (played work lists (systemAt bytes) (roundRunTurns (systemAt bytes))) (refused work lists)
+    (firstOf (bufferFault work lists) (planFault bytes))

@@ -4,8 +4,9 @@ use mathlib.Core.Bool.{true, false, cond}
 use mathlib.Core.List.{List, [], _∷_, _++_, map}
 use lib.Dec.{eqb}
 use Rattle.base.specs.Below.{gatherBelow, listBelow}
+use Rattle.disac4.specs.Loading.{load}
 use Rattle.disac4.specs.State.{State}
-use Rattle.disac4.specs.System.{System}
+use Rattle.disac4.specs.System.{System, boundOf}
 use Rattle.disac4.specs.Turn.{Turn, turn, treatNumber, sendNumber, answerNumber, pollNumber, play}
 
 -- 0 and the workers other than `k`, ascending
@@ -21,7 +22,8 @@ unfoldable pub round : ℕ → List Turn
 round p =
     gatherBelow p (λ i. workerRound p (suc i)) ++ listBelow p (λ i. turn 0 (suc i)) ++ (turn 0 pollNumber ∷ [])
 
--- the turns of a round run: rounds until closed, and at most `fuel` of them
+-- the turns of a round run: rounds until closed, and at most `fuel` of them (by `elim`, so that no round is computed once
+-- the plan is closed)
 unfoldable pub roundTurns : System → ℕ → State → List Turn
 roundTurns sys zero st = []
 roundTurns sys (suc fuel) st =
@@ -29,3 +31,7 @@ roundTurns sys (suc fuel) st =
       | true ↦ []
       | false ↦ round (sys .workers) ++ roundTurns sys fuel (play sys st (round (sys .workers)))
     ]
+
+-- a run without a turn list: one round more than turns can change something, so the fuel is never used up
+unfoldable pub roundRunTurns : System → List Turn
+roundRunTurns sys = roundTurns sys (suc (boundOf sys)) (load sys)

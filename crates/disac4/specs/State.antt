@@ -4,21 +4,24 @@ use mathlib.Core.Bool.{Bool}
 use mathlib.Core.List.{List}
 use mathlib.Core.Option.{Option}
 use Rattle.network.specs.Network.{Label, Domains}
+use Rattle.disac4.specs.declared.ListCounter.{ListCounter}
+use Rattle.disac4.specs.declared.Timestamp.{Timestamp}
 
--- a poll carries its own number (timestamp) and the wanted count of lists (list counter)
+-- a poll carries its own number and the wanted count of lists: of two types, so that neither passes for the other
 pub record Poll : Type 0 where
-  pub number : ℕ
-  pub wanted : ℕ
+  pub number : Timestamp
+  pub wanted : ListCounter
 
 pub data Message : Type 0 where
   list : List Label → Message
   poll : Poll → Message
-  reply : ℕ → Message
+  reply : Timestamp → Message
 
--- the controller's poll: its number, whether it is open, the workers marked by their replies, whether the plan is closed
+-- the controller's part: the poll number, whether that poll is open, the workers marked by their replies, whether the plan
+-- is closed; its count of lists stands with the workers'
 pub record Controller : Type 0 where
   pub timestamp : ℕ
-  pub asked : Bool
+  pub pollOpen : Bool
   pub marked : ℕ → Bool
   pub closed : Bool
 

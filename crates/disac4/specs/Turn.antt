@@ -35,6 +35,8 @@ answerNumber = 11
 abbrev pub pollNumber : ℕ
 pollNumber = 12
 
+-- for a worker: read from any other actor, treat, send or answer; for the controller: read from a worker, or poll. With at
+-- most eight workers, no number means two things
 unfoldable pub allowed : ℕ → Turn → Bool
 allowed p t =
     cond (eqb (t .actor) 0)
@@ -69,7 +71,7 @@ abbrev pub isSome {ℓ} : {A : Type ℓ} → Option A → Bool
 isSome none = false
 isSome (some a) = true
 
--- the turn is not idle: exactly then the state after differs from the state before
+-- the turn is not idle; `changes-exactly` proves that this is exactly "the state after differs from the state before"
 unfoldable pub changes : System → State → Turn → Bool
 changes sys st t = isSome (step sys st t)
 

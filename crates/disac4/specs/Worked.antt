@@ -9,76 +9,69 @@ use Rattle.base.specs.Below.{gatherBelow}
 use Rattle.base.specs.Bytes.{hex}
 use Rattle.network.specs.Network.{Label, label, labelsWhere}
 use Rattle.network.specs.Solution.{solvable}
-use Rattle.plan.specs.Decode.{Decoded, accepted, declined, decode}
-use Rattle.plan.specs.Network.{networkOf, withinLimit}
+use Rattle.plan.specs.Decode.{planFault}
 use Rattle.plan.specs.Fault.{numberOf}
-use Rattle.plan.specs.Plan.{Plan}
 use Rattle.plan.specs.declared.Decline.{Decline}
 use Rattle.disac4.specs.Event.{events, unsent, deleted}
 use Rattle.disac4.specs.Loading.{load}
-use Rattle.disac4.specs.Outcome.{roundRunTurns}
+use Rattle.disac4.specs.Outcome.{inputFault, systemAt}
 use Rattle.disac4.specs.Report.{reportOf, listCells, final}
-use Rattle.disac4.specs.System.{System, systemOf, boundOf}
-use Rattle.disac4.specs.Turn.{Turn, turn, allowed, turnsOf}
+use Rattle.disac4.specs.Round.{roundRunTurns}
+use Rattle.disac4.specs.System.{System, boundOf}
+use Rattle.disac4.specs.Turn.{Turn, turn, allowed, turnAt, turnsOf}
 use Rattle.disac4.specs.declared.Report.{Report}
 use Rattle.disac4.specs.declared.Status.{Status}
 use Rattle.disac4.specs.declared.Status.the-variants.{Open, Closed, Bare}
 
 -- what is asked of the definitions; plans and turn lists are bytes
 pub data Question : Type 0 where
-  -- the report and list cells after these turns
+  -- the report and list cells of the turn run
   run : List ℕ → List ℕ → Question
-  -- the same with one more turn
-  runThen : List ℕ → List ℕ → Turn → Question
-  -- the deleted labels of a worker that no send has carried, after these turns
-  unsentOf : List ℕ → List ℕ → ℕ → Question
   -- the report and list cells of the round run
   rounds : List ℕ → Question
+  -- the deleted labels of a worker that no send has carried, after these turns
+  unsentOf : List ℕ → List ℕ → ℕ → Question
+  -- the turns that are allowed with so many workers
+  allowedWith : ℕ → Question
   -- the bound on changing turns
   bound : List ℕ → Question
   -- whether there is a solution
   solution : List ℕ → Question
   -- whether value `v` of variable `x` may stand with value `w` of `y`: `pair plan x v y w`
   pair : List ℕ → ℕ → ℕ → ℕ → ℕ → Question
-  -- the number and place of the decline
-  check : List ℕ → Question
 
 pub data Finding : Type 0 where
   report : Report → List ℕ → Finding
+  decline : ℕ → ℕ → Finding
   labels : List Label → Finding
+  turns : List Turn → Finding
   number : ℕ → Finding
   truth : Bool → Finding
-  decline : ℕ → ℕ → Finding
 
--- every allowed turn of `p` workers
 unfoldable pub allowedTurns : ℕ → List Turn
 allowedTurns p = gatherBelow (suc p) (λ k. gatherBelow 13 (λ d. cond (allowed p (turn k d)) (turn k d ∷ []) []))
 
--- an accepted plan's finding, or the decline
-abbrev pub ofDecoded : (System → Finding) → Decoded → Finding
-ofDecoded f (accepted plan) = f (systemOf plan)
-ofDecoded f (declined d) = decline (numberOf (d .fault)) (d .place)
+-- the finding, or the decline's number and place
+abbrev pub unless : Option Decline → Finding → Finding
+unless none f = f
+unless (some d) f = decline (numberOf (d .fault)) (d .place)
 
-abbrev pub ofPlan : List ℕ → (System → Finding) → Finding
-ofPlan b f = ofDecoded f (decode b)
-
-unfoldable pub ranTurns : System → List Turn → Finding
-ranTurns sys ts = report (reportOf sys ts) (listCells sys (final sys ts))
+unfoldable pub ran : System → List Turn → Finding
+ran sys ts = report (reportOf sys ts) (listCells sys (final sys ts))
 
 unfoldable pub unsentLabels : System → List Turn → ℕ → List Label
 unsentLabels sys ts k =
     labelsWhere (sys .net)
     (λ x v. eqb (sys .owner x) k && deleted sys (final sys ts) x v && unsent sys (events sys (load sys) ts) x v)
 
-unfoldable pub answerTo : Question → Finding
-answerTo (run b ts) = ofPlan b (λ sys. ranTurns sys (turnsOf ts))
-answerTo (runThen b ts t) = ofPlan b (λ sys. ranTurns sys (turnsOf ts ++ (t ∷ [])))
-answerTo (unsentOf b ts k) = ofPlan b (λ sys. labels (unsentLabels sys (turnsOf ts) k))
-answerTo (rounds b) = ofPlan b (λ sys. ranTurns sys (roundRunTurns sys))
-answerTo (bound b) = ofPlan b (λ sys. number (boundOf sys))
-answerTo (solution b) = ofPlan b (λ sys. truth (solvable (sys .net)))
-answerTo (pair b x v y w) = ofPlan b (λ sys. truth (sys .net .allows x v y w))
-answerTo (check b) = ofPlan b (λ sys. truth true)
+unfoldable pub findingOf : Question → Finding
+findingOf (run b ts) = unless (inputFault b ts) (ran (systemAt b) (turnsOf ts))
+findingOf (rounds b) = unless (planFault b) (ran (systemAt b) (roundRunTurns (systemAt b)))
+findingOf (unsentOf b ts k) = unless (inputFault b ts) (labels (unsentLabels (systemAt b) (turnsOf ts) k))
+findingOf (allowedWith p) = turns (allowedTurns p)
+findingOf (bound b) = unless (planFault b) (number (boundOf (systemAt b)))
+findingOf (solution b) = unless (planFault b) (truth (solvable (systemAt b .net)))
+findingOf (pair b x v y w) = unless (planFault b) (truth (systemAt b .net .allows x v y w))
 
 pub record Line : Type 0 where
   pub question : Question
@@ -122,13 +115,23 @@ abbrev pub planRing : List ℕ
 planRing =
     hex 69 0x01_0003010303_000A_0102_00010000_00020000_000A_0102_00010000_00020000_000A_0102_00010000_00020000_0007_010200_0002_0001_0007_010300_0002_0001_0007_020300_0002_0001
 
+-- the list of turns after which worker 1 still has an unsent deletion
+abbrev pub turnsUnsent : List ℕ
+turnsUnsent = hex 12 0x000C_0200_020B_0109_0100_010B
+
+-- every allowed turn of two workers, by its two bytes
+abbrev pub turnsOfTwo : List (List ℕ)
+turnsOfTwo =
+    map (hex 2)
+    (0x0001 ∷ 0x0002 ∷ 0x000C ∷ 0x0100 ∷ 0x0102 ∷ 0x0109 ∷ 0x010A ∷ 0x010B ∷ 0x0200 ∷ 0x0201 ∷ 0x0209 ∷ 0x020A ∷ 0x020B ∷ [])
+
 unfoldable pub table : List Line
 table =
     (run planP turnsT gives reported Closed 17 2 1 0 (1 ∷ 3 ∷ 1 ∷ []))
     ∷ (run planP [] gives reported Open 0 0 0 0 (1 ∷ 3 ∷ 3 ∷ []))
     ∷ (run planP (take 32 turnsT) gives reported Open 16 2 1 0 (1 ∷ 3 ∷ 1 ∷ []))
-    ∷ (run planP (hex 12 0x000C_0200_020B_0109_0100_010B) gives reported Open 5 0 1 0 (1 ∷ 3 ∷ 3 ∷ []))
-    ∷ (unsentOf planP (hex 12 0x000C_0200_020B_0109_0100_010B) 1 gives labels (label 0 1 ∷ []))
+    ∷ (run planP turnsUnsent gives reported Open 5 0 1 0 (1 ∷ 3 ∷ 3 ∷ []))
+    ∷ (unsentOf planP turnsUnsent 1 gives labels (label 0 1 ∷ []))
     ∷ (run planBare (hex 8 0x000C_0100_010B_0001) gives reported Bare 4 0 1 1 (0 ∷ []))
     ∷ (bound planBare gives number 4)
     ∷ (pair planLimit 0 0 1 0 gives truth true)
@@ -136,8 +139,10 @@ table =
     ∷ (pair planUnrecorded 0 0 1 0 gives truth true)
     ∷ (pair planUnrecorded 0 0 1 1 gives truth false)
     ∷ (run planHalves [] gives reported Open 0 0 0 1 (0 ∷ 0 ∷ []))
+    ∷ (unsentOf planHalves [] 1 gives labels (label 0 0 ∷ label 1 0 ∷ label 1 1 ∷ []))
     ∷ (rounds planRing gives reported Closed 4 0 1 0 (3 ∷ 3 ∷ 3 ∷ []))
     ∷ (solution planRing gives truth false)
-    ∷ (check [] gives decline 1 0)
-    ∷ (check (hex 1 0x02 ++ drop 1 planP) gives decline 2 0)
-    ∷ map (λ t. runThen planP turnsT t gives reported Closed 17 2 1 0 (1 ∷ 3 ∷ 1 ∷ [])) (allowedTurns 2)
+    ∷ (run [] [] gives decline 1 0)
+    ∷ (run (hex 1 0x02 ++ drop 1 planP) [] gives decline 2 0)
+    ∷ (allowedWith 2 gives turns (map (λ (b : List ℕ). turnAt b 0) turnsOfTwo))
+    ∷ map (λ t. run planP (turnsT ++ t) gives reported Closed 17 2 1 0 (1 ∷ 3 ∷ 1 ∷ [])) turnsOfTwo

@@ -21,6 +21,12 @@ pub struct Report {
     pub empty: usize,
 }
 
+// A poll's number.
+pub struct Timestamp(pub u16);
+
+// A count of lists.
+pub struct ListCounter(pub u16);
+
 // A run's answer.
 pub enum Answer {
     Reported(Report),

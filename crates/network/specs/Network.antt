@@ -44,10 +44,10 @@ labelsWhere net t =
 unfoldable pub labelCount : Network → ℕ
 labelCount net = sumBelow (net .variables) (net .size)
 
--- label `w` of `y` is a support of label `v` of `x`
+-- label `w` of `y` is a support of label `v` of `x`: the variables share a constraint, and the pair is allowed
 unfoldable pub supports : Network → ℕ → ℕ → ℕ → ℕ → Bool
 supports net x v y w = net .linked x y && net .allows x v y w
 
 -- how many of the loaded values of `y` support label `v` of `x`, counted by the row of them
 unfoldable pub supportCount : Network → ℕ → ℕ → ℕ → ℕ
-supportCount net x v y = rowCount (net .size y) (rowOf (net .size y) (λ w. net .allows x v y w))
+supportCount net x v y = rowCount (net .size y) (rowOf (net .size y) (supports net x v y))

@@ -28,14 +28,16 @@ abbrev pub firstFault : List Check → Option Fault
 firstFault [] = none
 firstFault (c ∷ cs) = cond (c .holds) (firstFault cs) (some (c .fault))
 
--- neither the section nor its length is cut off; where the length is, what is read of it is no less than 0
+-- neither the section nor its length is cut off: a length that is cut off puts the end past the bytes all the same
 unfoldable pub complete : List ℕ → ℕ → Bool
 complete b at = leb (behind b at) (length b)
 
+-- p from 1 to 8, n from 1 to 32, at most 128 rules
 unfoldable pub headInRange : List ℕ → Bool
 headInRange b =
     between 1 8 (workerCount b) && between 1 32 (variableCount b) && leb (constraintCount b) 128
 
+-- head: 1, 3, 4
 unfoldable pub headChecks : List ℕ → ℕ → List Check
 headChecks b at =
     (complete b at orElse Truncated) ∷ (eqb (wordAt b at) 3 orElse BadLength) ∷ (headInRange b orElse BadCount) ∷ []
@@ -44,6 +46,7 @@ headChecks b at =
 unfoldable pub repeatsCode : List ℕ → ℕ → Bool
 repeatsCode b at = anyBelow (valueCountAt b at) (λ v. anyBelow v (λ u. eqb (codeAt b at u) (codeAt b at v)))
 
+-- slot: 1, 3 (length under 2), 4, 3, 5, 6
 unfoldable pub variableChecks : List ℕ → ℕ → List Check
 variableChecks b at =
     (complete b at orElse Truncated)
@@ -69,6 +72,7 @@ tableFits b at =
     (allBelow (sizeAt b (firstAt b at)) (λ v. ltb (tableRowAt b at v) (2 ^ sizeAt b (secondAt b at))))
     true
 
+-- rule: 1, 3 (length under 3), 7 (kind), 5, 3, 7 (bits)
 unfoldable pub constraintChecks : List ℕ → ℕ → List Check
 constraintChecks b at =
     (complete b at orElse Truncated)

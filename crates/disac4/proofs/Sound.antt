@@ -1,0 +1,26 @@
+-- What the theorems ask of a system, and the state in which no deletion is on its way.
+use Prim.Native.Nat.{ℕ, _<_, _≤_}
+use mathlib.Core.List.{List, []}
+use mathlib.Core.Path.{_≡_}
+use Rattle.base.proofs.Weight.{weigh}
+use Rattle.disac4.proofs.Moves.{Worker}
+use Rattle.disac4.specs.State.{State, Message, list, poll, reply}
+use Rattle.disac4.specs.System.{System}
+
+-- one to eight workers, and every variable has its owner among them: so is each accepted plan's system
+pub record Sound (sys : System) : Type 0 where
+  pub few : sys .workers ≤ 8
+  pub some-worker : 0 < sys .workers
+  pub owned : (x : ℕ) → x < sys .net .variables → Worker sys (sys .owner x)
+
+-- 1 for a list message
+abbrev pub isList : Message → ℕ
+isList (list labels) = 1
+isList (poll q) = 0
+isList (reply n) = 0
+
+-- no worker has a label to treat or to send, and no list message is on its way
+pub record Quiet (sys : System) (st : State) : Type 0 where
+  pub no-work : (k : ℕ) → Worker sys k → st .workList k ≡ []
+  pub no-send : (k : ℕ) → Worker sys k → st .toSend k ≡ []
+  pub no-list : (j k : ℕ) → j ≤ sys .workers → k ≤ sys .workers → weigh isList (st .channel j k) ≡ 0
