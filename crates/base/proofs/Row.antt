@@ -10,8 +10,8 @@ use lib.Dec.{eqb}
 use lib.Pow.{pow-mono}
 use Rattle.base.proofs.Bools.{decided}
 use Rattle.base.proofs.Choice.{cond-true, cond-false}
-use Rattle.base.proofs.Sums.{sum-ext, sum-times, sum-zero, sum-first, count-ext, count-le}
-use Rattle.base.specs.Below.{sumBelow, countBelow, one}
+use Rattle.base.proofs.Sums.{sum-ext, sum-times, sum-first, count-ext, count-le}
+use Rattle.base.specs.Below.{countBelow, one}
 use Rattle.base.specs.Row.{isOdd, bit, rowOf, withoutLowest, rowCountIn, rowCount}
 
 -- ---- a row by halves: whether it is odd, and the rest
@@ -70,6 +70,7 @@ row-bit (suc n) t (suc w) h =
     ∙ ap (λ (r : ℕ). bit r w) (row-half n t)
     ∙ row-bit n (λ u. t (suc u)) w (le-of-suc-le-suc h)
 
+-- a row of n values is below 2 ^ n
 pub row-small : (n : ℕ) (t : ℕ → Bool) → rowOf n t < 2 ^ n
 unfolding rowOf
 row-small zero t = omega arith
@@ -86,6 +87,7 @@ bit-past n r w h l =
     let small : r < 2 ^ w = omega (arith, pow-mono l) in
     ap isOdd (div-eq-of-lt small)
 
+-- a row holds no value from its width on
 pub row-past : (n : ℕ) (t : ℕ → Bool) (w : ℕ) → n ≤ w → bit (rowOf n t) w ≡ false
 row-past n t w l = bit-past n (rowOf n t) w (row-small n t) l
 
@@ -123,26 +125,10 @@ count-halves n r =
       count-ext n (λ w. bit r (suc w)) (bit (r / 2)) (λ w p. bit-suc r w),
     )
 
+-- the empty row holds no value
 pub count-empty : (n : ℕ) → countBelow n (bit 0) ≡ 0
 count-empty zero = refl
 count-empty (suc n) = omega (arith, count-halves n 0, count-empty n)
-
--- a row without its lowest value stays within its width
-pub lowest-small : (n r : ℕ) → r < 2 ^ n → withoutLowest n r < 2 ^ n
-unfolding withoutLowest
-lowest-small zero r h = omega arith
-lowest-small (suc n) r h =
-    ⊎-elim
-    (λ p.
-    omega (arith, cond-true (r - 1) (2 * withoutLowest n (r / 2)) p))
-    (λ p.
-    omega (
-      arith,
-      cond-false (r - 1) (2 * withoutLowest n (r / 2)) p,
-      two-pow-succ n,
-      lowest-small n (r / 2) (half-small n r h),
-    ))
-    (decided (isOdd r))
 
 -- a row that is not empty holds one value more than it does without its lowest
 pub lowest-count : (n r : ℕ) → 0 < r → r < 2 ^ n
@@ -151,7 +137,6 @@ unfolding withoutLowest
 lowest-count zero r l h = omega arith
 lowest-count (suc n) r l h = go (lowest-count n (r / 2))
   where
-    -- of two rows with the rests `a` and `b`, given as the rests' halves
     counts : (q a : ℕ) → q / 2 ≡ a → countBelow (suc n) (bit q) ≡ q % 2 + countBelow n (bit a)
     counts q a e = count-halves n q ∙ ap (λ (k : ℕ). q % 2 + countBelow n (bit k)) e
 
@@ -176,6 +161,23 @@ lowest-count (suc n) r l h = go (lowest-count n (r / 2))
         ))
         (decided (isOdd r))
 
+-- a row without its lowest value stays within its width
+pub lowest-small : (n r : ℕ) → r < 2 ^ n → withoutLowest n r < 2 ^ n
+unfolding withoutLowest
+lowest-small zero r h = omega arith
+lowest-small (suc n) r h =
+    ⊎-elim
+    (λ p.
+    omega (arith, cond-true (r - 1) (2 * withoutLowest n (r / 2)) p))
+    (λ p.
+    omega (
+      arith,
+      cond-false (r - 1) (2 * withoutLowest n (r / 2)) p,
+      two-pow-succ n,
+      lowest-small n (r / 2) (half-small n r h),
+    ))
+    (decided (isOdd r))
+
 counts-in : (n calls r : ℕ) → r < 2 ^ n → countBelow n (bit r) ≤ calls → rowCountIn n calls r ≡ countBelow n (bit r)
 unfolding rowCountIn
 counts-in n zero r h l = omega arith
@@ -188,12 +190,8 @@ counts-in n (suc calls) r h l = go (decided (eqb r 0)) (counts-in n calls (witho
         → (countBelow n (bit low) ≤ calls → rowCountIn n calls low ≡ countBelow n (bit low))
         → rowCountIn n (suc calls) r ≡ countBelow n (bit r)
     go (inl p) ih =
-        omega (
-          arith,
-          cond-true 0 (suc (rowCountIn n calls low)) p,
-          count-empty n,
-          ap (λ (k : ℕ). countBelow n (bit k)) (eqb-true r 0 p),
-        )
+        let e : r ≡ 0 = eqb-true r 0 p in
+        ap (rowCountIn n (suc calls)) e ∙ sym (count-empty n) ∙ ap (λ (k : ℕ). countBelow n (bit k)) (sym e)
     go (inr p) ih =
         let pos : 0 < r = omega (arith, eqb-false r 0 p) in
         let more : countBelow n (bit r) ≡ suc (countBelow n (bit low)) = lowest-count n r pos h in

@@ -8,24 +8,24 @@ use Rattle.network.specs.Consistency.{Within, Supported, ArcConsistent, 
 use Rattle.network.specs.Network.{Network, Domains, loaded}
 
 module _ (net : Network) where
-  -- the largest domains contain all arc-consistent domains within the loaded ones
-  pub largest-contains : (d e : Domains) → Largest net d → ConsistentWithin net e → Within e d
-  unfolding Within InSome Largest
-  largest-contains d e h c x v p = h x v .1 (e, c, p)
-
   -- the largest domains are arc-consistent domains within the loaded ones themselves
   pub largest-consistent : (d : Domains) → Largest net d → ConsistentWithin net d
   unfolding Within Supported ArcConsistent InSome Largest
   largest-consistent d h = record { within = inner; consistent = supported }
     where
-      inner : (x v : ℕ) → d x v ≡ true → loaded net x v ≡ true
-      inner x v p = let s : InSome net x v = h x v .0 p in s .1 .within x v (s .2)
-
       supported : (x v : ℕ) → d x v ≡ true → (y : ℕ) → y < net .variables → net .linked x y ≡ true → Supported net d x v y
       supported x v p y l q =
           let s : InSome net x v = h x v .0 p in
           let w : Supported net (s .0) x v y = s .1 .consistent x v (s .2) y l q in
           (w .0, h y (w .0) .1 (s .0, s .1, w .1), w .2)
+
+      inner : (x v : ℕ) → d x v ≡ true → loaded net x v ≡ true
+      inner x v p = let s : InSome net x v = h x v .0 p in s .1 .within x v (s .2)
+
+  -- the largest domains contain all arc-consistent domains within the loaded ones
+  pub largest-contains : (d e : Domains) → Largest net d → ConsistentWithin net e → Within e d
+  unfolding Within InSome Largest
+  largest-contains d e h c x v p = h x v .1 (e, c, p)
 
   -- arc-consistent domains that contain all others are the largest
   pub largest-of : (d : Domains) → ConsistentWithin net d → ((e : Domains) → ConsistentWithin net e → Within e d)

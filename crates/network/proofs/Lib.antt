@@ -3,4 +3,5 @@ pub mod Largest
 pub mod Loaded
 pub mod Solution
 pub mod Solvable
+pub mod Supports
 pub mod Sweeps

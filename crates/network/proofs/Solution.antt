@@ -1,4 +1,4 @@
--- Solutions: when a choice of values is one, and that each lies within the largest domains.
+-- Solutions: each lies within the largest domains, and a choice of loaded values is one exactly if it breaks no constraint.
 use Prim.Native.Nat.{ℕ, _<_}
 use mathlib.Core.Bool.{true, _&&_, _||_, not}
 use mathlib.Core.Path.{_≡_, refl}
@@ -13,40 +13,6 @@ use Rattle.network.proofs.Loaded.{loaded-intro}
 use Rattle.network.specs.Consistency.{Within, Supported, ArcConsistent, ConsistentWithin, Largest}
 use Rattle.network.specs.Network.{Network, Domains, loaded}
 use Rattle.network.specs.Solution.{Solution, agrees}
-
--- choices that agree on the variables of the network are solutions together
-pub solution-ext : (net : Network) (r s : ℕ → ℕ) → ((x : ℕ) → x < net .variables → r x ≡ s x) → Solution net s
-    → Solution net r
-solution-ext net r s h sol =
-    record {
-      chosen = λ x l. omega (arith, h x l, sol .chosen x l);
-      allowed = λ x y l m q. rw (h x l, h y m) (sol .allowed x y l m q);
-    }
-
-module _ (net : Network) where
-  -- a choice of loaded values is a solution exactly if it breaks no constraint
-  pub solution-agrees : (s : ℕ → ℕ) → Solution net s → agrees net (net .variables) s ≡ true
-  unfolding agrees
-  solution-agrees s sol =
-      every-below (net .variables)
-      (λ x. allBelow (net .variables) (λ y. not (net .linked x y) || net .allows x (s x) y (s y)))
-      (λ x l.
-      every-below (net .variables) (λ y. not (net .linked x y) || net .allows x (s x) y (s y))
-      (λ y m. implies (net .linked x y) (net .allows x (s x) y (s y)) (sol .allowed x y l m)))
-
-  pub agrees-solution : (s : ℕ → ℕ) → ((x : ℕ) → x < net .variables → s x < net .size x)
-      → agrees net (net .variables) s ≡ true → Solution net s
-  unfolding agrees
-  agrees-solution s c e =
-      record {
-        chosen = c;
-        allowed =
-            λ x y l m.
-            implied (net .linked x y) (net .allows x (s x) y (s y))
-            (all-below (net .variables) (λ z. not (net .linked x z) || net .allows x (s x) z (s z))
-            (all-below (net .variables)
-            (λ u. allBelow (net .variables) (λ z. not (net .linked u z) || net .allows u (s u) z (s z))) e x l) y m);
-      }
 
 -- the domains that hold the values of a choice alone
 abbrev pub chosenOnly : Network → (ℕ → ℕ) → Domains
@@ -82,3 +48,38 @@ module _ (net : Network) (s : ℕ → ℕ) (sol : Solution net s) where
   solution-within d h x l =
       largest-contains net d (chosenOnly net s) h solution-consistent x (s x)
       (and-intro (lt-ltb x (net .variables) l) (eq-eqb (s x) (s x) refl))
+
+-- choices that agree on the variables of the network are solutions together
+pub solution-ext : (net : Network) (r s : ℕ → ℕ) → ((x : ℕ) → x < net .variables → r x ≡ s x) → Solution net s
+    → Solution net r
+solution-ext net r s h sol =
+    record {
+      chosen = λ x l. omega (arith, h x l, sol .chosen x l);
+      allowed = λ x y l m q. rw (h x l, h y m) (sol .allowed x y l m q);
+    }
+
+module _ (net : Network) where
+  -- a solution breaks no constraint
+  pub solution-agrees : (s : ℕ → ℕ) → Solution net s → agrees net (net .variables) s ≡ true
+  unfolding agrees
+  solution-agrees s sol =
+      every-below (net .variables)
+      (λ x. allBelow (net .variables) (λ y. not (net .linked x y) || net .allows x (s x) y (s y)))
+      (λ x l.
+      every-below (net .variables) (λ y. not (net .linked x y) || net .allows x (s x) y (s y))
+      (λ y m. implies (net .linked x y) (net .allows x (s x) y (s y)) (sol .allowed x y l m)))
+
+  -- a choice of loaded values that breaks no constraint is a solution
+  pub agrees-solution : (s : ℕ → ℕ) → ((x : ℕ) → x < net .variables → s x < net .size x)
+      → agrees net (net .variables) s ≡ true → Solution net s
+  unfolding agrees
+  agrees-solution s c e =
+      record {
+        chosen = c;
+        allowed =
+            λ x y l m.
+            implied (net .linked x y) (net .allows x (s x) y (s y))
+            (all-below (net .variables) (λ z. not (net .linked x z) || net .allows x (s x) z (s z))
+            (all-below (net .variables)
+            (λ u. allBelow (net .variables) (λ z. not (net .linked u z) || net .allows u (s u) z (s z))) e x l) y m);
+      }

@@ -14,32 +14,6 @@ use Rattle.network.specs.Network.{Network}
 use Rattle.network.specs.Solution.{Solution, agrees, solvableFrom, solvable}
 
 module _ (net : Network) where
-  -- the search from a choice that has the solution's values from `n` on
-  found-from : (s : ℕ → ℕ) → Solution net s → (n : ℕ) (r : ℕ → ℕ) → n ≤ net .variables
-      → ((x : ℕ) → n ≤ x → x < net .variables → r x ≡ s x) → solvableFrom net n r ≡ true
-  unfolding solvableFrom
-  found-from s sol zero r l h = solution-agrees net r (solution-ext net r s (λ x m. h x (omega arith) m) sol)
-  found-from s sol (suc n) r l h =
-      any-below (net .size n) (λ v. solvableFrom net n (update r n v)) (s n) (sol .chosen n l)
-      (found-from s sol n (update r n (s n)) (omega arith) same)
-    where
-      same : (x : ℕ) → n ≤ x → x < net .variables → update r n (s n) x ≡ s x
-      same x k m =
-          elim (ℕ-discrete x n) [
-            | yes p ↦ ap (update r n (s n)) p ∙ update-same r n (s n) ∙ ap s (sym p)
-            | no p ↦ update-other r n (s n) x p ∙ h x (omega arith) m
-          ]
-
-  -- the search succeeds where there is a solution
-  pub solution-found : (s : ℕ → ℕ) → Solution net s → solvable net ≡ true
-  unfolding solvable
-  solution-found s sol =
-      found-from s sol (net .variables) (λ x. 0) (le-refl (net .variables)) (λ x k m. absurd (omega arith))
-
-  -- where the search fails there is none
-  pub no-solution : (s : ℕ → ℕ) → solvable net ≡ false → Solution net s → ⊥
-  no-solution s e sol = clash (solution-found s sol) e
-
   -- what a search from `n` and `r` finds
   Found : ℕ → (ℕ → ℕ) → Type 0
   Found n r =
@@ -71,3 +45,29 @@ module _ (net : Network) where
   solvable-solution e =
       let f : Found (net .variables) (λ x. 0) = finds (net .variables) (λ x. 0) e in
       (f .0, agrees-solution net (f .0) (f .2) (f .1))
+
+  -- the search from a choice that has the solution's values from `n` on
+  found-from : (s : ℕ → ℕ) → Solution net s → (n : ℕ) (r : ℕ → ℕ) → n ≤ net .variables
+      → ((x : ℕ) → n ≤ x → x < net .variables → r x ≡ s x) → solvableFrom net n r ≡ true
+  unfolding solvableFrom
+  found-from s sol zero r l h = solution-agrees net r (solution-ext net r s (λ x m. h x (omega arith) m) sol)
+  found-from s sol (suc n) r l h =
+      any-below (net .size n) (λ v. solvableFrom net n (update r n v)) (s n) (sol .chosen n l)
+      (found-from s sol n (update r n (s n)) (omega arith) same)
+    where
+      same : (x : ℕ) → n ≤ x → x < net .variables → update r n (s n) x ≡ s x
+      same x k m =
+          elim (ℕ-discrete x n) [
+            | yes p ↦ ap (update r n (s n)) p ∙ update-same r n (s n) ∙ ap s (sym p)
+            | no p ↦ update-other r n (s n) x p ∙ h x (omega arith) m
+          ]
+
+  -- the search succeeds where there is a solution
+  pub solution-found : (s : ℕ → ℕ) → Solution net s → solvable net ≡ true
+  unfolding solvable
+  solution-found s sol =
+      found-from s sol (net .variables) (λ x. 0) (le-refl (net .variables)) (λ x k m. absurd (omega arith))
+
+  -- where the search fails there is none
+  pub no-solution : (s : ℕ → ℕ) → solvable net ≡ false → Solution net s → ⊥
+  no-solution s e sol = clash (solution-found s sol) e

@@ -1,6 +1,6 @@
--- Sweeps: each takes away every label that has lost all its supports in some domain. After at most as many sweeps as there
--- are labels nothing is taken away any more, and the domains left are arc-consistent.
-use Prim.Native.Nat.{ℕ, zero, suc, _+_, _<_, _≤_}
+-- Sweeps: each takes away every label that lacks a support in some domain. Sweeps from the loaded domains come to rest, since
+-- every other sweep takes a label away, and domains are arc-consistent exactly if a sweep leaves them alone.
+use Prim.Native.Nat.{ℕ, zero, suc, _<_, _≤_}
 use mathlib.Core.Bool.{Bool, true, false, _&&_, _||_, not}
 use mathlib.Core.Logic.{⊎-elim}
 use mathlib.Core.Path.{_≡_}
@@ -79,6 +79,17 @@ module _ (net : Network) (d : Domains) where
       let s : (w : ℕ) × (w < net .size y) × (d y w && net .allows x v y w ≡ true) =
       some-below (net .size y) (λ w. d y w && net .allows x v y w) here in
       (s .0, and-left (d y (s .0)) (net .allows x v y (s .0)) (s .2), and-right (d y (s .0)) (net .allows x v y (s .0)) (s .2))
+
+  -- and a sweep leaves arc-consistent domains alone
+  pub consistent-rests : ConsistentWithin net d → rests net d ≡ true
+  unfolding Within
+  consistent-rests c =
+      every-below (net .variables) (λ x. allBelow (net .size x) (λ v. not (d x v) || supportedAll net d x v))
+      (λ x l.
+      every-below (net .size x) (λ v. not (d x v) || supportedAll net d x v)
+      (λ v m.
+      implies (d x v) (supportedAll net d x v)
+      (λ p. and-right (d x v) (supportedAll net d x v) (sweep-keeps d c (λ y w q. q) x v p))))
 
   -- any other sweep takes a label away
   pub sweep-fewer : rests net d ≡ false → labelsIn net (sweep net d) < labelsIn net d
