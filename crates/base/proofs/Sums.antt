@@ -96,6 +96,7 @@ sum-less (suc n) f g h i l s =
     omega (arith, sum-less n f g (λ j q. h j (le-step q)) i p s, h n (le-refl (suc n))))
     (below-cases l)
 
+-- a test counts at most 1
 pub one-le : (b : Bool) → one b ≤ 1
 one-le true = le-refl 1
 one-le false = le-step (le-refl 0)
