@@ -1,1 +1,29 @@
-// Loops below a bound, updates, rows of bits and big-endian reads, with their laws. No code yet.
+// Big-endian reads in a slice of bytes; and, as definitions, loops below a bound, updates and rows of bits.
+ghost use mathlib.Core.Path.{_≡_};
+ghost use Prim.Native.Nat.{_<_};
+ghost use Rattle.base.specs.Bytes.{byteAt, wordAt};
+
+// A byte as a number.
+fn wide(x: u8) -> usize
+    ensures { λ r. ⌜ (r ≡ x) × (r < 256) ⌝ }
+{
+    x as usize
+}
+
+// The byte at i, 0 past the end.
+pub fn byte_at(b: &[u8], i: usize) -> usize
+    ensures { λ r. ⌜ (r ≡ byteAt (now (b .entry)) i) × (r < 256) ⌝ }
+{
+    if i < b.len() { wide(b[i]) } else { 0 }
+}
+
+// The 16-bit number at i, with 0 for bytes past the end.
+pub fn word_at(b: &[u8], i: usize) -> usize
+    ensures { λ r. ⌜ (r ≡ wordAt (now (b .entry)) i) × (r < 65536) ⌝ }
+{
+    if i < b.len() {
+        byte_at(b, i) * 256 + byte_at(b, i + 1)
+    } else {
+        0
+    }
+}

@@ -28,6 +28,12 @@ pub enum Fault {
     BadTurn,
 }
 
+// What the checks of one section find.
+pub enum Verdict {
+    Passes,
+    Fails(Fault),
+}
+
 // A fault and its place.
 pub struct Decline {
     pub fault: Fault,
@@ -47,3 +53,6 @@ pub enum Checked {
     Accepted(Figures),
     Declined(Decline),
 }
+
+mod read;
+mod section;
