@@ -10,7 +10,7 @@ use native.Mathlib.Numerals.{add-one}
 use native.Mathlib.Omega.{arith}
 use lib.ListN.{length, getD, length-append, List·getD-append}
 use lib.Seq.{getD-append-seam, getD-at}
-use Rattle.base.proofs.Bools.{and-left, and-right, and-intro, or-cases, or-left, or-right}
+use Rattle.base.proofs.Bools.{and-left, and-right, and-intro, or-cases, or-left, or-right, or-false}
 use Rattle.base.specs.Below.{anyBelow, allBelow, gatherBelow, listBelow, firstBelow}
 use Rattle.base.specs.Choice.{firstOf}
 
@@ -32,6 +32,13 @@ some-below (suc n) t e = go (or-cases (anyBelow n t) (t n) e) (some-below n t)
         → (i : ℕ) × (i < suc n) × (t i ≡ true)
     go (inl p) ih = (ih p .0, le-step (ih p .1), ih p .2)
     go (inr p) ih = (n, le-refl (suc n), p)
+
+-- one more index fails, or passes
+pub any-more : (n : ℕ) (t : ℕ → Bool) → anyBelow n t ≡ false → t n ≡ false → anyBelow (n + 1) t ≡ false
+any-more n t e p = rw add-one (or-false e p)
+
+pub all-more : (n : ℕ) (t : ℕ → Bool) → allBelow n t ≡ true → t n ≡ true → allBelow (n + 1) t ≡ true
+all-more n t e p = rw add-one (and-intro e p)
 
 -- no index passes
 pub none-below : (n : ℕ) (t : ℕ → Bool) → anyBelow n t ≡ false → (i : ℕ) → i < n → t i ≡ false

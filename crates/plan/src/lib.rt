@@ -56,3 +56,4 @@ pub enum Checked {
 
 mod read;
 mod section;
+mod variable;

@@ -4,7 +4,7 @@ use base::word_at;
 ghost use mathlib.Core.Path.{_≡_};
 ghost use Prim.Native.Nat.{_<_, _≤_};
 ghost use lib.ListN.{length};
-ghost use Rattle.plan.specs.Format.{behind as behindOf, ownerAt, valueCountAt, codeAt, figureAt, firstAt, secondAt, kindAt, tableRowAt, limitAt};
+ghost use Rattle.plan.specs.Format.{behind as behindOf, workerCount, variableCount, constraintCount, ownerAt, valueCountAt, codeAt, figureAt, firstAt, secondAt, kindAt, tableRowAt, limitAt};
 
 // The place behind the section at `at`.
 pub fn behind(b: &[u8], at: usize) -> usize
@@ -12,6 +12,27 @@ pub fn behind(b: &[u8], at: usize) -> usize
     ensures { λ r. ⌜ r ≡ behindOf (now (b .entry)) at ⌝ }
 {
     at + 2 + word_at(b, at)
+}
+
+// p: how many workers the head names.
+pub fn worker_count(b: &[u8]) -> usize
+    ensures { λ r. ⌜ (r ≡ workerCount (now (b .entry))) × (r < 256) ⌝ }
+{
+    byte_at(b, 3)
+}
+
+// n: how many variables the head names.
+pub fn variable_count(b: &[u8]) -> usize
+    ensures { λ r. ⌜ (r ≡ variableCount (now (b .entry))) × (r < 256) ⌝ }
+{
+    byte_at(b, 4)
+}
+
+// How many constraints the head names.
+pub fn constraint_count(b: &[u8]) -> usize
+    ensures { λ r. ⌜ (r ≡ constraintCount (now (b .entry))) × (r < 256) ⌝ }
+{
+    byte_at(b, 5)
 }
 
 // A slot's owning kitchen.

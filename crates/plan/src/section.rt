@@ -1,11 +1,10 @@
-// The checks of each kind of section, in document 01's order.
+// What the checks of every kind of section share, and the checks of the head.
 use crate::Fault;
 use crate::Verdict;
 use crate::read;
-use base::byte_at;
 use base::word_at;
 ghost use mathlib.Core.Path.{_≡_};
-ghost use Prim.Native.Nat.{_<_, _≤_};
+ghost use Prim.Native.Nat.{_≤_};
 ghost use lib.ListN.{length};
 ghost use Rattle.base.specs.Choice.{between as betweenOf};
 ghost use Rattle.plan.specs.Check.{complete as completeOf, headInRange, headChecks, firstFault, verdictOf};
@@ -18,26 +17,26 @@ pub fn complete(b: &[u8], at: usize) -> bool
     read::behind(b, at) <= b.len()
 }
 
-fn between(low: usize, high: usize, x: usize) -> bool
+pub fn between(low: usize, high: usize, x: usize) -> bool
     ensures { λ r. ⌜ r ≡ betweenOf low high x ⌝ }
 {
-    if low <= x { x <= high } else { false }
+    low <= x && x <= high
 }
 
 // p, n and the number of rules are in range.
 fn head_in_range(b: &[u8]) -> bool
     ensures { λ r. ⌜ r ≡ headInRange (now (b .entry)) ⌝ }
 {
-    if !between(1, 8, byte_at(b, 3)) {
+    if !between(1, 8, read::worker_count(b)) {
         return false;
     }
-    if !between(1, 32, byte_at(b, 4)) {
+    if !between(1, 32, read::variable_count(b)) {
         return false;
     }
-    byte_at(b, 5) <= 128
+    read::constraint_count(b) <= 128
 }
 
-// The checks of the head.
+// The head: 1, 3, 4.
 pub fn check_head(b: &[u8], at: usize) -> Verdict
     requires { ⌜ at ≤ length (now b) ⌝ }
     ensures { λ r. ⌜ r ≡ verdictOf (firstFault (headChecks (now (b .entry)) at)) ⌝ }
