@@ -1,6 +1,6 @@
 // Big-endian reads in a slice of bytes; and, as definitions, loops below a bound, updates and rows of bits.
 ghost use mathlib.Core.Path.{_≡_};
-ghost use Prim.Native.Nat.{_<_};
+ghost use Prim.Native.Nat.{_<_, _^_};
 ghost use Rattle.base.specs.Bytes.{byteAt, wordAt};
 
 // A byte as a number.
@@ -26,4 +26,12 @@ pub fn word_at(b: &[u8], i: usize) -> usize
     } else {
         0
     }
+}
+
+// The row of value k alone: 2 to the k.
+pub fn power(k: usize) -> usize
+    requires { ⌜ k < 64 ⌝ }
+    ensures { λ r. ⌜ r ≡ 2 ^ k ⌝ }
+{
+    1 << k
 }

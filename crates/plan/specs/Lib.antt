@@ -4,5 +4,6 @@ pub mod Computes
 pub mod Decode
 pub mod Fault
 pub mod Format
+pub mod Known
 pub mod Network
 pub mod Plan

@@ -54,6 +54,7 @@ pub enum Checked {
     Declined(Decline),
 }
 
+mod constraint;
 mod read;
 mod section;
 mod variable;
