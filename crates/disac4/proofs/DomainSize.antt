@@ -1,17 +1,22 @@
 -- How many loaded labels are in the domains, and how deletions lower that number.
-use Prim.Native.Nat.{ℕ, _+_, _<_}
+use Prim.Native.Nat.{ℕ, zero, suc, _+_, _<_, _≤_}
 use mathlib.Core.Bool.{Bool, true, false, _&&_, not}
 use mathlib.Core.Path.{_≡_, refl, sym, _∙_, ap}
+use native.Mathlib.Nat.{not-suc-le-zero}
 use native.Mathlib.Omega.{arith}
+use borrow.Author.Tests.{eq-eqb, ne-eqb, lt-ltb}
 use lib.Dec.{eqb}
 use lib.ListN.{length}
-use Rattle.base.proofs.Bools.{and-left, and-right}
-use Rattle.base.proofs.Sums.{sum-ext, sum-add}
+use Rattle.base.proofs.Bools.{and-left, and-right, and-intro, and-false-left}
+use Rattle.base.proofs.Sums.{sum-ext, sum-add, sum-const, sum-single, sum-swap}
 use Rattle.base.proofs.Weight.{weigh-one}
 use Rattle.base.specs.Below.{sumBelow, one, countBelow}
 use Rattle.network.proofs.Labels.{weigh-labels}
-use Rattle.network.specs.Network.{Network, Domains, Label, labelsWhere, supports}
+use Rattle.network.specs.Network.{Network, Domains, Label, labelsWhere, labelCount, loaded, supports}
+use Rattle.disac4.proofs.Moves.{Worker}
+use Rattle.disac4.proofs.Workers.{overWorkers}
 use Rattle.disac4.specs.Action.{loses, deletes, deletions, afterTreat}
+use Rattle.disac4.specs.Loading.{unsupported, loadedDeletions, load}
 use Rattle.disac4.specs.State.{State}
 use Rattle.disac4.specs.System.{System}
 
@@ -59,3 +64,51 @@ treat-size sys k a st =
     (length-labels (sys .net) (deletes sys k a st))
     ∙ size-split (sys .net) (st .domain) _ (deletes sys k a st)
     (λ x v h i. one-split (st .domain x v) (deletes sys k a st x v) (deletes-listed sys k a st x v))
+
+-- of the workers, one owns the label
+one-owner : (p k : ℕ) (b : Bool) → 0 < k → k ≤ p → overWorkers p (λ i. one (eqb k i && b)) ≡ one b
+one-owner p zero b a h = absurd (not-suc-le-zero a)
+one-owner p (suc k) b a h =
+    sum-single p (λ i. one (eqb (suc k) (suc i) && b)) k h
+    (λ i j n. ap one (and-false-left b (ne-eqb (suc k) (suc i) (λ q. omega arith))))
+    ∙ ap (λ x. one (x && b)) (eq-eqb (suc k) (suc k) refl)
+
+-- each label is counted at its owner alone
+pub size-by-owner : (sys : System) → ((x : ℕ) → x < sys .net .variables → Worker sys (sys .owner x)) → (t : Domains)
+    → overWorkers (sys .workers) (λ k. domainSize (sys .net) (λ x v. eqb (sys .owner x) k && t x v))
+    ≡ domainSize (sys .net) t
+unfolding domainSize
+size-by-owner sys owned t =
+    sum-swap (sys .workers) (sys .net .variables) _
+    ∙ sum-ext (sys .net .variables) _ _ (λ x h.
+    sum-swap (sys .workers) (sys .net .size x) _
+    ∙ sum-ext (sys .net .size x) _ _ (λ v i.
+    one-owner (sys .workers) (sys .owner x) (t x v) (owned x h .above) (owned x h .within)))
+
+-- all labels in their ranges are as many as were loaded
+size-all : (net : Network) → domainSize net (λ x v. true) ≡ labelCount net
+unfolding domainSize labelCount
+size-all net = sum-ext (net .variables) _ _ (λ x h. sum-const (net .size x) 1 ∙ omega arith)
+
+loaded-below : (net : Network) (x v : ℕ) → x < net .variables → v < net .size x → loaded net x v ≡ true
+unfolding loaded
+loaded-below net x v h i = and-intro (lt-ltb x (net .variables) h) (lt-ltb v (net .size x) i)
+
+-- every loaded label is in its domain or on a list
+pub load-size : (sys : System)
+    → domainSize (sys .net) (load sys .domain) + domainSize (sys .net) (unsupported (sys .net)) ≡ labelCount (sys .net)
+unfolding load
+load-size sys =
+    size-split (sys .net) (λ x v. true) (load sys .domain) (unsupported (sys .net))
+    (λ x v h i.
+    rw (loaded-below (sys .net) x v h i) (one-split true (unsupported (sys .net) x v) (λ e. refl)))
+    ∙ size-all (sys .net)
+
+-- every unsupported label is on one worker's list
+pub deletions-loaded : (sys : System) → ((x : ℕ) → x < sys .net .variables → Worker sys (sys .owner x))
+    → overWorkers (sys .workers) (λ k. length (loadedDeletions sys k)) ≡ domainSize (sys .net) (unsupported (sys .net))
+unfolding loadedDeletions
+deletions-loaded sys owned =
+    sum-ext (sys .workers) _ _ (λ i h.
+    length-labels (sys .net) (λ x v. eqb (sys .owner x) (suc i) && unsupported (sys .net) x v))
+    ∙ size-by-owner sys owned (unsupported (sys .net))

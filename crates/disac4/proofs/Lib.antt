@@ -1,3 +1,4 @@
+pub mod Bound
 pub mod Channels
 pub mod DomainSize
 pub mod Moves
