@@ -7,7 +7,8 @@ use mathlib.Core.Option.{Option, none, some}
 use mathlib.Core.Path.{_≡_, refl, sym, _∙_, ap, subst}
 use native.Mathlib.Nat.{le-refl, mul-add, add-mul}
 use native.Mathlib.Omega.{arith}
-use Rattle.base.proofs.Sums.{sum-zero}
+use Rattle.base.proofs.Bools.{and-left, and-intro, and-comm}
+use Rattle.base.proofs.Sums.{sum-zero, one-mono}
 use Rattle.base.specs.Below.{one}
 use Rattle.network.specs.Network.{labelCount}
 use Rattle.disac4.proofs.Channels.{into}
@@ -19,15 +20,6 @@ use Rattle.disac4.specs.Loading.{unsupported, load}
 use Rattle.disac4.specs.State.{State}
 use Rattle.disac4.specs.System.{System, turnBound, boundOf}
 use Rattle.disac4.specs.Turn.{Turn, step, after, play, isSome, changes, changesWhere}
-
-and-true : (a : Bool) → a && true ≡ a
-and-true true = refl
-and-true false = refl
-
-one-and : (a b : Bool) → one (a && b) ≤ one (a && true)
-one-and true true = le-refl 1
-one-and true false = omega arith
-one-and false b = le-refl 0
 
 module _ (sys : System) (few : sys .workers ≤ 8) where
   -- a turn that is not idle lowers the potential by 1 or more
@@ -65,7 +57,7 @@ module _ (sys : System) (few : sys .workers ≤ 8) where
   unfolding changesWhere play
   turns-bounded [] st = omega arith
   turns-bounded (t ∷ ts) st =
-      omega (arith, turns-bounded ts (after sys st t), turn-bounded st t, ap one (and-true (changes sys st t)))
+      omega (arith, turns-bounded ts (after sys st t), turn-bounded st t, ap one (and-comm (changes sys st t) true))
 
   -- a test picks some of the turns that change something
   pub picked-fewer : (test : Turn → Bool) (ts : List Turn) (st : State)
@@ -73,7 +65,7 @@ module _ (sys : System) (few : sys .workers ≤ 8) where
   unfolding changesWhere
   picked-fewer test [] st = le-refl 0
   picked-fewer test (t ∷ ts) st =
-      omega (arith, picked-fewer test ts (after sys st t), one-and (changes sys st t) (test t))
+      omega (arith, picked-fewer test ts (after sys st t), one-mono _ _ (λ e. and-intro (and-left (changes sys st t) (test t) e) refl))
 
 -- at loading the potential is the bound
 pub potential-loaded : (sys : System) → Sound sys → potential sys (load sys) ≡ boundOf sys

@@ -4,18 +4,19 @@ use mathlib.Core.Bool.{Bool, true, false, _&&_, not}
 use mathlib.Core.Path.{_≡_, refl, sym, _∙_, ap}
 use native.Mathlib.Nat.{not-suc-le-zero}
 use native.Mathlib.Omega.{arith}
-use borrow.Author.Tests.{eq-eqb, ne-eqb, lt-ltb}
+use borrow.Author.Tests.{eq-eqb, ne-eqb}
 use lib.Dec.{eqb}
 use lib.ListN.{length}
-use Rattle.base.proofs.Bools.{and-left, and-right, and-intro, and-false-left}
-use Rattle.base.proofs.Sums.{sum-ext, sum-add, sum-const, sum-single, sum-swap}
+use Rattle.base.proofs.Bools.{and-left, and-right, and-false-left}
+use Rattle.base.proofs.Sums.{sum-ext, sum-add, sum-single, sum-swap}
 use Rattle.base.proofs.Weight.{weigh-one}
 use Rattle.base.specs.Below.{sumBelow, one, countBelow}
-use Rattle.network.proofs.Labels.{weigh-labels}
-use Rattle.network.specs.Network.{Network, Domains, Label, labelsWhere, labelCount, loaded, supports}
+use Rattle.network.proofs.Labels.{labels-length, label-count}
+use Rattle.network.proofs.Loaded.{loaded-intro}
+use Rattle.network.specs.Network.{Network, Domains, Label, labelsWhere, labelCount, supports}
 use Rattle.disac4.proofs.Moves.{Worker}
 use Rattle.disac4.proofs.Workers.{overWorkers}
-use Rattle.disac4.specs.Action.{loses, deletes, deletions, afterTreat}
+use Rattle.disac4.specs.Action.{loses, deletes, deletions}
 use Rattle.disac4.specs.Loading.{unsupported, loadedDeletions, load}
 use Rattle.disac4.specs.State.{State}
 use Rattle.disac4.specs.System.{System}
@@ -23,11 +24,6 @@ use Rattle.disac4.specs.System.{System}
 -- the loaded labels in the domains
 unfoldable pub domainSize : Network → Domains → ℕ
 domainSize net d = sumBelow (net .variables) (λ x. countBelow (net .size x) (d x))
-
--- as many as there are on their list
-pub length-labels : (net : Network) (t : Domains) → length (labelsWhere net t) ≡ domainSize net t
-unfolding domainSize
-length-labels net t = sym (weigh-one (labelsWhere net t)) ∙ weigh-labels net t (λ a. 1)
 
 -- domains that are made of two parts
 pub size-split : (net : Network) (d e t : Domains)
@@ -58,11 +54,11 @@ deletes-listed sys k a st x v e =
 pub treat-size : (sys : System) (k : ℕ) (a : Label) (st : State)
     → domainSize (sys .net) (λ x v. st .domain x v && not (deletes sys k a st x v)) + length (deletions sys k a st)
     ≡ domainSize (sys .net) (st .domain)
-unfolding deletions
+unfolding deletions domainSize
 treat-size sys k a st =
-    ap (λ n. domainSize (sys .net) (λ x v. st .domain x v && not (deletes sys k a st x v)) + n)
-    (length-labels (sys .net) (deletes sys k a st))
-    ∙ size-split (sys .net) (st .domain) _ (deletes sys k a st)
+    let left : Domains = λ x v. st .domain x v && not (deletes sys k a st x v) in
+    ap (λ n. domainSize (sys .net) left + n) (labels-length (sys .net) (deletes sys k a st))
+    ∙ size-split (sys .net) (st .domain) left (deletes sys k a st)
     (λ x v h i. one-split (st .domain x v) (deletes sys k a st x v) (deletes-listed sys k a st x v))
 
 -- of the workers, one owns the label
@@ -85,30 +81,21 @@ size-by-owner sys owned t =
     ∙ sum-ext (sys .net .size x) _ _ (λ v i.
     one-owner (sys .workers) (sys .owner x) (t x v) (owned x h .above) (owned x h .within)))
 
--- all labels in their ranges are as many as were loaded
-size-all : (net : Network) → domainSize net (λ x v. true) ≡ labelCount net
-unfolding domainSize labelCount
-size-all net = sum-ext (net .variables) _ _ (λ x h. sum-const (net .size x) 1 ∙ omega arith)
-
-loaded-below : (net : Network) (x v : ℕ) → x < net .variables → v < net .size x → loaded net x v ≡ true
-unfolding loaded
-loaded-below net x v h i = and-intro (lt-ltb x (net .variables) h) (lt-ltb v (net .size x) i)
-
 -- every loaded label is in its domain or on a list
 pub load-size : (sys : System)
     → domainSize (sys .net) (load sys .domain) + domainSize (sys .net) (unsupported (sys .net)) ≡ labelCount (sys .net)
-unfolding load
+unfolding load domainSize
 load-size sys =
     size-split (sys .net) (λ x v. true) (load sys .domain) (unsupported (sys .net))
     (λ x v h i.
-    rw (loaded-below (sys .net) x v h i) (one-split true (unsupported (sys .net) x v) (λ e. refl)))
-    ∙ size-all (sys .net)
+    rw (loaded-intro (sys .net) x v h i) (one-split true (unsupported (sys .net) x v) (λ e. refl)))
+    ∙ (sym (labels-length (sys .net) (λ x v. true)) ∙ label-count (sys .net))
 
 -- every unsupported label is on one worker's list
 pub deletions-loaded : (sys : System) → ((x : ℕ) → x < sys .net .variables → Worker sys (sys .owner x))
     → overWorkers (sys .workers) (λ k. length (loadedDeletions sys k)) ≡ domainSize (sys .net) (unsupported (sys .net))
-unfolding loadedDeletions
+unfolding loadedDeletions domainSize
 deletions-loaded sys owned =
     sum-ext (sys .workers) _ _ (λ i h.
-    length-labels (sys .net) (λ x v. eqb (sys .owner x) (suc i) && unsupported (sys .net) x v))
+    labels-length (sys .net) (λ x v. eqb (sys .owner x) (suc i) && unsupported (sys .net) x v))
     ∙ size-by-owner sys owned (unsupported (sys .net))
