@@ -1,6 +1,7 @@
 pub mod Bound
 pub mod Channels
 pub mod DomainSize
+pub mod Final
 pub mod Moves
 pub mod Potential
 pub mod Sound
