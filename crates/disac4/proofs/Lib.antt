@@ -2,8 +2,10 @@ pub mod Bound
 pub mod Channels
 pub mod DomainSize
 pub mod Final
+pub mod Members
 pub mod Moves
 pub mod Potential
+pub mod Rounds
 pub mod Sound
 pub mod Worked
 pub mod Workers
