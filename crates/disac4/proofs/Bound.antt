@@ -1,10 +1,10 @@
 -- How many turns of a run change something: by the potential, at most 5pL + 2L + 3p + 1.
-use Prim.Native.Nat.{ℕ, zero, suc, _+_, _*_, _<_, _≤_}
-use mathlib.Core.Bool.{Bool, true, false, cond, _&&_, not, false≢true}
+use Prim.Native.Nat.{ℕ, suc, _+_, _*_, _≤_}
+use mathlib.Core.Bool.{Bool, true}
 use mathlib.Core.List.{List, [], _∷_}
 use mathlib.Core.Logic.{_↔_}
 use mathlib.Core.Option.{Option, none, some}
-use mathlib.Core.Path.{_≡_, refl, sym, _∙_, ap, subst}
+use mathlib.Core.Path.{_≡_, refl, ap}
 use native.Mathlib.Nat.{le-refl, mul-add, add-mul}
 use native.Mathlib.Omega.{arith}
 use Rattle.base.proofs.Bools.{and-left, and-intro, and-comm}

@@ -9,11 +9,10 @@ use lib.Dec.{eqb}
 use lib.ListN.{length}
 use Rattle.base.proofs.Bools.{and-left, and-right, and-false-left}
 use Rattle.base.proofs.Sums.{sum-ext, sum-add, sum-single, sum-swap}
-use Rattle.base.proofs.Weight.{weigh-one}
 use Rattle.base.specs.Below.{sumBelow, one, countBelow}
 use Rattle.network.proofs.Labels.{labels-length, label-count}
 use Rattle.network.proofs.Loaded.{loaded-intro}
-use Rattle.network.specs.Network.{Network, Domains, Label, labelsWhere, labelCount, supports}
+use Rattle.network.specs.Network.{Network, Domains, Label, labelCount, supports}
 use Rattle.disac4.proofs.Moves.{Worker}
 use Rattle.disac4.proofs.Workers.{overWorkers}
 use Rattle.disac4.specs.Action.{loses, deletes, deletions}

@@ -1,5 +1,5 @@
 -- What stays: a closed plan, and every deletion.
-use Prim.Native.Nat.{ℕ, _≤_}
+use Prim.Native.Nat.{_≤_}
 use mathlib.Core.Bool.{true, not}
 use mathlib.Core.List.{List, [], _∷_}
 use mathlib.Core.Option.{none}
@@ -11,7 +11,7 @@ use Rattle.disac4.specs.Action.{deletes, afterTreat, afterSend, afterLis
 use Rattle.disac4.specs.Event.{Event}
 use Rattle.disac4.specs.State.{State}
 use Rattle.disac4.specs.System.{System}
-use Rattle.disac4.specs.Turn.{Turn, step, after, play}
+use Rattle.disac4.specs.Turn.{Turn, step, play}
 
 -- in a closed plan every turn is idle
 pub closed-idle : (sys : System) (st : State) → st .controller .closed ≡ true → (t : Turn) → step sys st t ≡ none

@@ -5,6 +5,7 @@ pub mod Final
 pub mod Members
 pub mod Moves
 pub mod Potential
+pub mod RoundRun
 pub mod Rounds
 pub mod Sound
 pub mod Worked

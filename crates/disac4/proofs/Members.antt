@@ -1,8 +1,8 @@
 -- Members of a list that is gathered or mapped.
 use Prim.Native.Nat.{ℕ, zero, suc, _<_}
 use mathlib.Core.List.{List, [], _∷_, _++_, map, List·Memᴰ, List·Memᴰ·head, List·Memᴰ·tail, List·Memᴰ·not-nil, List·Memᴰ·cases-cons, List·Memᴰ·append-cases, Memᴰ·append-left, Memᴰ·append-right}
-use mathlib.Core.Logic.{_⊎_, inl, inr, ⊎-elim}
-use mathlib.Core.Path.{_≡_, refl, sym, subst}
+use mathlib.Core.Logic.{⊎-elim}
+use mathlib.Core.Path.{refl, sym, subst}
 use native.Mathlib.Nat.{not-suc-le-zero, le-step, le-refl}
 use Rattle.base.proofs.Below.{below-cases}
 use Rattle.base.specs.Below.{gatherBelow}

@@ -1,9 +1,9 @@
 -- A number of the state that every turn lowers unless it is idle. It bounds how many turns of a run change something.
-use Prim.Native.Nat.{ℕ, zero, suc, _+_, _*_, _<_, _≤_}
-use mathlib.Core.Bool.{Bool, true, false, cond, _&&_, not, true≢false}
+use Prim.Native.Nat.{ℕ, suc, _+_, _*_, _<_, _≤_}
+use mathlib.Core.Bool.{false, cond, _&&_, not, true≢false}
 use mathlib.Core.List.{List, [], _∷_, _++_}
-use mathlib.Core.Option.{Option, none, some}
-use mathlib.Core.Path.{_≡_, refl, sym, _∙_, ap}
+use mathlib.Core.Option.{none, some}
+use mathlib.Core.Path.{_≡_, refl, ap}
 use native.Mathlib.Nat.{mul-add, add-mul, mul-assoc}
 use native.Mathlib.Omega.{arith}
 use lib.ListN.{length, length-append}
@@ -13,13 +13,12 @@ use Rattle.network.specs.Network.{Label}
 use Rattle.disac4.proofs.Channels.{Channels, into, into-take, into-put, into-other, into-broadcast, into-broadcast-self}
 use Rattle.disac4.proofs.DomainSize.{domainSize, treat-size}
 use Rattle.disac4.proofs.Moves.{Worker, Moves, treats, sends, reads, hears, ignores, answers, asks, tallies, marks, drops, discards}
-use Rattle.disac4.proofs.Workers.{overWorkers, toWorkers, over-update, over-append, workers-take, workers-apart, workers-broadcast, workers-poll}
-use Rattle.disac4.specs.Action.{isEmpty, deletes, deletions, afterTreat, afterSend, afterList, afterPoll, afterDrop, ready, afterAnswer, pollOf, afterAsk, afterCount, current, afterMark}
+use Rattle.disac4.proofs.Workers.{overWorkers, over-update, over-append, workers-take, workers-apart, workers-broadcast, workers-poll}
+use Rattle.disac4.specs.Action.{isEmpty, deletes, deletions, afterTreat, afterSend, afterList, afterPoll, afterDrop, afterAnswer, pollOf, afterAsk, afterCount, afterMark}
 use Rattle.disac4.specs.Event.{Event}
 use Rattle.disac4.specs.State.{State, Message, list, poll, reply, Poll}
 use Rattle.disac4.specs.System.{System}
 use Rattle.disac4.specs.Turn.{isSome}
-use Rattle.disac4.specs.declared.Timestamp.{Timestamp}
 
 -- what a message to a worker weighs
 abbrev pub workerWeight : Message → ℕ
@@ -94,8 +93,8 @@ module _ (sys : System) (st : State) where
         ap (λ x. (5 * p + 1) * x) (over-append p (st .toSend) k new (w .above) (w .within)),
         ap (λ x. (5 * p + 2) * x) (treat-size sys k a st),
         moved p (overWorkers p (λ j. length (st .toSend j)))
-        (domainSize (sys .net) (λ x v. st .domain x v && not (deletes sys k a st x v)))
-        (length new),
+            (domainSize (sys .net) (λ x v. st .domain x v && not (deletes sys k a st x v)))
+            (length new),
       )
 
   send-falls : (k : ℕ) → Worker sys k → (l : List Label) → st .toSend k ≡ l → isEmpty l ≡ false → Falls (afterSend sys k st)

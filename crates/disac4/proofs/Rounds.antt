@@ -1,15 +1,15 @@
 -- The round has exactly the allowed turns, so a round that changes nothing shows that no allowed turn would.
-use Prim.Native.Nat.{ℕ, zero, suc, _+_, _<_, _≤_}
+use Prim.Native.Nat.{ℕ, zero, suc, _<_, _≤_}
 use mathlib.Core.Bool.{Bool, true, false, cond, _&&_, _||_, not}
 use mathlib.Core.List.{List, [], _∷_, _++_, map, List·Memᴰ, List·Memᴰ·head, List·Memᴰ·tail, Memᴰ·append-left, Memᴰ·append-right, Memᴰ·map}
-use mathlib.Core.Logic.{_⊎_, inl, inr, ⊎-elim}
-use mathlib.Core.Path.{_≡_, refl, sym, _∙_, ap, subst}
+use mathlib.Core.Logic.{⊎-elim}
+use mathlib.Core.Path.{_≡_, refl, sym, _∙_, ap}
 use native.Mathlib.Decide.{ℕ-discrete}
 use native.Mathlib.Nat.{not-suc-le-zero}
 use native.Mathlib.Omega.{arith}
 use borrow.Author.Tests.{leb-true, eqb-true, eqb-false, le-leb, ne-eqb, not-true}
 use lib.Dec.{leb, eqb}
-use Rattle.base.proofs.Bools.{and-left, and-right, and-intro, or-cases, or-left, or-right, not-of, decided}
+use Rattle.base.proofs.Bools.{and-left, and-right, and-intro, or-cases, or-left, or-right, not-of}
 use Rattle.base.proofs.Choice.{between-low, between-high}
 use Rattle.base.specs.Below.{gatherBelow, listBelow}
 use Rattle.base.specs.Choice.{between}

@@ -1,7 +1,7 @@
 -- Sums over the workers, and what a change at one of them or a message to them does to such a sum.
 use Prim.Native.Nat.{ℕ, zero, suc, _+_, _*_, _<_, _≤_}
-use mathlib.Core.List.{List, [], _∷_, _++_}
-use mathlib.Core.Path.{_≡_, refl, sym, _∙_, ap}
+use mathlib.Core.List.{List, _∷_, _++_}
+use mathlib.Core.Path.{_≡_, sym, _∙_, ap}
 use native.Mathlib.Nat.{not-suc-le-zero}
 use native.Mathlib.Omega.{arith}
 use lib.ListN.{length, length-append}
@@ -54,7 +54,6 @@ module _ (p : ℕ) where
     pub workers-apart : (j : ℕ) (l : List Message) → toWorkers (update₂ c j 0 l) ≡ toWorkers c
     workers-apart j l = sum-ext p _ _ (λ i h. into-other w p c j 0 l (suc i) (λ q. omega arith))
 
-
     -- worker `k` sends a message to all other workers
     pub workers-broadcast : (k : ℕ) (m : Message) → 0 < k → k ≤ p
         → toWorkers (broadcast p k m c) + w m ≡ toWorkers c + p * w m
@@ -63,7 +62,7 @@ module _ (p : ℕ) where
           arith,
           into-broadcast-self w p c k m,
           over-change (λ i. into w p c i + w m) (into w p (broadcast p k m c)) k a b
-          (λ i h n. sym (into-broadcast w p c k m i b h n)),
+              (λ i h n. sym (into-broadcast w p c k m i b h n)),
           sum-add p (λ i. into w p c (suc i)) (λ i. w m),
           sum-const p (w m),
         )
@@ -74,7 +73,7 @@ module _ (p : ℕ) where
         omega (
           arith,
           sum-ext p (λ i. into w p (broadcast p 0 m c) (suc i)) (λ i. into w p c (suc i) + w m)
-          (λ i h. into-broadcast w p c 0 m (suc i) (omega arith) h (λ q. omega arith)),
+              (λ i h. into-broadcast w p c 0 m (suc i) (omega arith) h (λ q. omega arith)),
           sum-add p (λ i. into w p c (suc i)) (λ i. w m),
           sum-const p (w m),
         )
