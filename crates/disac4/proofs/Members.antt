@@ -22,23 +22,29 @@ module _ {ℓ} {A : Type ℓ} where
   Each P l = (a : A) → List·Memᴰ a l → P a
 
   module _ (P : A → Type 0) where
+    -- the empty list has none
     pub each-none : Each P []
     each-none a i = absurd (List·Memᴰ·not-nil i)
 
+    -- one more member in front
     pub each-cons : (a : A) (l : List A) → P a → Each P l → Each P (a ∷ l)
     each-cons a l p f b i = ⊎-elim (λ x. subst P (sym x) p) (λ x. f b x) (List·Memᴰ·cases-cons i)
 
+    -- a list of one member
     pub each-single : (a : A) → P a → Each P (a ∷ [])
     each-single a p = each-cons a [] p each-none
 
+    -- two lists joined
     pub each-append : (l m : List A) → Each P l → Each P m → Each P (l ++ m)
     each-append l m f g a i = ⊎-elim (λ x. f a x) (λ x. g a x) (List·Memᴰ·append-cases l i)
 
+    -- many lists joined
     pub each-gather : (n : ℕ) (f : ℕ → List A) → ((i : ℕ) → i < n → Each P (f i)) → Each P (gatherBelow n f)
     each-gather zero f h = each-none
     each-gather (suc n) f h =
         each-append (gatherBelow n f) (f n) (each-gather n f (λ i l. h i (le-step l))) (h n (le-refl (suc n)))
 
+-- the members' images
 pub each-map {ℓ κ} : {A : Type ℓ} {B : Type κ} (P : B → Type 0) (g : A → B) (l : List A) → Each (λ a. P (g a)) l
     → Each P (map g l)
 each-map P g [] h = each-none P

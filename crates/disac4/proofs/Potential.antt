@@ -154,17 +154,17 @@ module _ (sys : System) (st : State) where
         worker-takes j k (poll q) rest w h e,
       )
 
-  -- a message of any weight is dropped
-  drop-falls : (j k n : ℕ) (rest : List Message)
-      → traffic p (update₂ (st .channel) j k rest) + suc n ≡ traffic p (st .channel) → Falls (afterDrop j k rest st)
+  -- a message of weight 1 is dropped
+  drop-falls : (j k : ℕ) (rest : List Message)
+      → traffic p (update₂ (st .channel) j k rest) + 1 ≡ traffic p (st .channel) → Falls (afterDrop j k rest st)
   unfolding potential afterDrop
-  drop-falls j k n rest e = omega arith
+  drop-falls j k rest e = omega arith
 
   -- a mark costs no more than a dropped message
-  mark-falls : (k n : ℕ) (rest : List Message)
-      → traffic p (update₂ (st .channel) k 0 rest) + suc n ≡ traffic p (st .channel) → Falls (afterMark sys k rest st)
+  mark-falls : (k : ℕ) (rest : List Message)
+      → traffic p (update₂ (st .channel) k 0 rest) + 1 ≡ traffic p (st .channel) → Falls (afterMark sys k rest st)
   unfolding potential afterDrop afterMark
-  mark-falls k n rest e = drop-falls k 0 n rest e
+  mark-falls k rest e = drop-falls k 0 rest e
 
   count-falls : (k : ℕ) (labels : List Label) (rest : List Message) → Worker sys k → st .channel k 0 ≡ list labels ∷ rest
       → Falls (afterCount k rest st)
@@ -199,10 +199,10 @@ module _ (sys : System) (st : State) where
   potential-falls (sends k w e) = send-falls k w (st .toSend k) refl e
   potential-falls (reads j k labels rest w h n e) = list-falls j k labels rest w h e
   potential-falls (hears j k q rest w h n e) = poll-falls j k q rest w h e
-  potential-falls (ignores j k i rest w h n e) = drop-falls j k 0 rest (worker-takes j k (reply i) rest w h e)
+  potential-falls (ignores j k i rest w h n e) = drop-falls j k rest (worker-takes j k (reply i) rest w h e)
   potential-falls (answers k q w e r) = answer-falls k q w e
   potential-falls (asks e) = ask-falls e
   potential-falls (tallies k labels rest w e) = count-falls k labels rest w e
-  potential-falls (marks k n rest w e c) = mark-falls k 0 rest (controller-takes k (reply n) rest w e)
-  potential-falls (drops k n rest w e c) = drop-falls k 0 0 rest (controller-takes k (reply n) rest w e)
-  potential-falls (discards k q rest w e) = drop-falls k 0 0 rest (controller-takes k (poll q) rest w e)
+  potential-falls (marks k n rest w e c) = mark-falls k rest (controller-takes k (reply n) rest w e)
+  potential-falls (drops k n rest w e c) = drop-falls k 0 rest (controller-takes k (reply n) rest w e)
+  potential-falls (discards k q rest w e) = drop-falls k 0 rest (controller-takes k (poll q) rest w e)

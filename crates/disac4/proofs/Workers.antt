@@ -14,6 +14,7 @@ use Rattle.disac4.specs.Action.{broadcast}
 use Rattle.disac4.specs.State.{Message}
 
 module _ (p : ℕ) where
+  -- the sum over the workers 1 to p
   abbrev pub overWorkers : (ℕ → ℕ) → ℕ
   overWorkers f = sumBelow p (λ i. f (suc i))
 
@@ -37,6 +38,7 @@ module _ (p : ℕ) where
   over-append f k l a b = omega (arith, over-update length f k (f k ++ l) a b, length-append (f k) l)
 
   module _ (w : Message → ℕ) (c : Channels) where
+    -- the weight of all messages to workers
     abbrev pub toWorkers : Channels → ℕ
     toWorkers d = overWorkers (into w p d)
 
