@@ -61,6 +61,12 @@ pub or-false-right : (a b : Bool) → a || b ≡ false → b ≡ false
 or-false-right true b e = absurd (false≢true (sym e))
 or-false-right false b e = e
 
+pub or-comm : (a b : Bool) → a || b ≡ b || a
+or-comm true true = refl
+or-comm true false = refl
+or-comm false true = refl
+or-comm false false = refl
+
 pub or-false : {a b : Bool} → a ≡ false → b ≡ false → a || b ≡ false
 or-false {a} {b} p q = ap (λ (x : Bool). x || b) p ∙ q
 

@@ -1,5 +1,6 @@
 pub mod Below
 pub mod Bools
 pub mod Choice
+pub mod Members
 pub mod Sums
 pub mod Weight
