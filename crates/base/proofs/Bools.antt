@@ -61,6 +61,10 @@ pub or-false-right : (a b : Bool) → a || b ≡ false → b ≡ false
 or-false-right true b e = absurd (false≢true (sym e))
 or-false-right false b e = e
 
+-- the second of two tests holds where the first fails
+pub or-second : {a : Bool} (b : Bool) → a ≡ false → a || b ≡ true → b ≡ true
+or-second b p e = ap (λ (x : Bool). x || b) (sym p) ∙ e
+
 pub or-comm : (a b : Bool) → a || b ≡ b || a
 or-comm true true = refl
 or-comm true false = refl

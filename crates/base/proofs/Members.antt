@@ -6,7 +6,7 @@ use mathlib.Core.Logic.{⊎-elim}
 use mathlib.Core.Path.{_≡_, refl, ap₂}
 use native.Mathlib.Nat.{not-suc-le-zero, le-of-suc-le-suc}
 use lib.ListN.{length, getD}
-use Rattle.base.proofs.Bools.{and-left, and-right, and-intro, or-cases}
+use Rattle.base.proofs.Bools.{and-left, and-right, and-intro, or-cases, or-left, or-right}
 use Rattle.base.specs.Choice.{anyOf, allOf}
 
 module _ {ℓ} {A : Type ℓ} where
@@ -31,6 +31,12 @@ module _ {ℓ} {A : Type ℓ} where
       let r : (i : ℕ) × (i < length l) × (t (getD l i d) ≡ true) = any-at t l d p in
       (suc (r .0), suc-le-suc (r .1), r .2))
       (or-cases (t a) (anyOf t l) e)
+
+  -- a test that is passed at some place is passed by some member
+  pub at-any : (t : A → Bool) (l : List A) (d : A) (i : ℕ) → i < length l → t (getD l i d) ≡ true → anyOf t l ≡ true
+  at-any t [] d i h e = absurd (not-suc-le-zero h)
+  at-any t (a ∷ l) d zero h e = or-left (anyOf t l) e
+  at-any t (a ∷ l) d (suc i) h e = or-right (t a) (at-any t l d i (le-of-suc-le-suc h) e)
 
   pub any-ext : (s t : A → Bool) → ((a : A) → s a ≡ t a) → (l : List A) → anyOf s l ≡ anyOf t l
   any-ext s t h [] = refl

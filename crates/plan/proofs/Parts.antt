@@ -7,8 +7,8 @@ use Rattle.base.proofs.Below.{length-list-below, getD-list-below}
 use Rattle.base.specs.Below.{listBelow}
 use Rattle.plan.specs.Decode.{variableAt, constraintAt, planOf}
 use Rattle.plan.specs.Format.{sectionStart, variableCount, constraintCount, codeAt, figureAt, valueCountAt, sizeAt}
-use Rattle.plan.specs.Plan.{Value, Variable, Constraint, sumLimit, variableOf, valueOf}
-use Rattle.plan.specs.WellFormed.{sizeOf, constraintOf}
+use Rattle.plan.specs.Plan.{Value, Variable, variableOf, valueOf}
+use Rattle.plan.specs.WellFormed.{sizeOf, noConstraint, constraintOf}
 
 module _ (b : List ℕ) where
   pub variables-read : length (planOf b .variables) ≡ variableCount b
@@ -32,7 +32,7 @@ module _ (b : List ℕ) where
   unfolding planOf constraintOf
   constraint-read c h =
       getD-list-below (constraintCount b) (λ c. constraintAt b (sectionStart b (suc (variableCount b + c))))
-      (record { first = 0; second = 0; relation = sumLimit 0 }) c h
+      noConstraint c h
 
   pub size-read : (x : ℕ) → x < variableCount b → sizeOf (planOf b) x ≡ sizeAt b (suc x)
   unfolding sizeOf sizeAt variableAt

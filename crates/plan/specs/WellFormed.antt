@@ -9,9 +9,13 @@ use Rattle.plan.specs.Plan.{Plan, Constraint, table, sumLimit, variableO
 unfoldable pub sizeOf : Plan → ℕ → ℕ
 sizeOf plan x = length (variableOf plan x .values)
 
+-- a constraint over no variables
+abbrev pub noConstraint : Constraint
+noConstraint = record { first = 0; second = 0; relation = sumLimit 0 }
+
 -- the constraint at an index; one over no variables past the end
 unfoldable pub constraintOf : Plan → ℕ → Constraint
-constraintOf plan c = getD (plan .constraints) c (record { first = 0; second = 0; relation = sumLimit 0 })
+constraintOf plan c = getD (plan .constraints) c noConstraint
 
 -- the variable at an index: its owner is a worker, its values are few and their codes differ
 pub record VariableFits (plan : Plan) (x : ℕ) : Type 0 where
