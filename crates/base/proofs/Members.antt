@@ -1,6 +1,6 @@
 -- Tests over a list, by the places of its members.
 use Prim.Native.Nat.{ℕ, zero, suc, _<_, zero-le, suc-le-suc}
-use mathlib.Core.Bool.{Bool, true, false, _&&_, _||_, false≢true}
+use mathlib.Core.Bool.{Bool, true, _||_, false≢true}
 use mathlib.Core.List.{List, [], _∷_}
 use mathlib.Core.Logic.{⊎-elim}
 use mathlib.Core.Path.{_≡_, refl, ap₂}
@@ -38,10 +38,7 @@ module _ {ℓ} {A : Type ℓ} where
   at-any t (a ∷ l) d zero h e = or-left (anyOf t l) e
   at-any t (a ∷ l) d (suc i) h e = or-right (t a) (at-any t l d i (le-of-suc-le-suc h) e)
 
+  -- equal tests are passed by the same lists
   pub any-ext : (s t : A → Bool) → ((a : A) → s a ≡ t a) → (l : List A) → anyOf s l ≡ anyOf t l
   any-ext s t h [] = refl
   any-ext s t h (a ∷ l) = ap₂ _||_ (h a) (any-ext s t h l)
-
-  pub all-ext : (s t : A → Bool) → ((a : A) → s a ≡ t a) → (l : List A) → allOf s l ≡ allOf t l
-  all-ext s t h [] = refl
-  all-ext s t h (a ∷ l) = ap₂ _&&_ (h a) (all-ext s t h l)

@@ -1,5 +1,5 @@
 -- What the plan check's answer says of the plan.
-use Prim.Native.Nat.{ℕ, suc, _<_}
+use Prim.Native.Nat.{ℕ, suc}
 use mathlib.Core.List.{List}
 use mathlib.Core.Option.{Option, none, some}
 use mathlib.Core.Path.{_≡_, refl, sym, _∙_, ap}
@@ -15,7 +15,6 @@ use Rattle.plan.specs.Format.{workerCount, variableCount, constraintCoun
 use Rattle.plan.specs.Network.{networkOf}
 use Rattle.plan.specs.Plan.{Plan}
 use Rattle.plan.specs.WellFormed.{sizeOf}
-use Rattle.plan.specs.declared.Checked.{Checked}
 use Rattle.plan.specs.declared.Checked.the-variants.{Accepted, Declined}
 use Rattle.plan.specs.declared.Decline.{Decline}
 use Rattle.plan.specs.declared.Figures.{Figures}

@@ -2,7 +2,7 @@
 use Prim.Native.Nat.{ℕ, suc, _+_, _^_, _<_, _≤_}
 use mathlib.Core.Bool.{Bool, true, false, cond, _&&_}
 use mathlib.Core.List.{List}
-use mathlib.Core.Option.{Option, none}
+use mathlib.Core.Option.{none}
 use mathlib.Core.Path.{_≡_, refl, sym, _∙_, ap}
 use borrow.Author.Tests.{leb-true, ltb-true}
 use native.Mathlib.Omega.{arith}
@@ -30,6 +30,7 @@ table-read b at rows e = go (eqb (kindAt b at) 0) refl
   where
     read : Bool → Relation
     read t = cond t (table (listBelow (sizeAt b (firstAt b at)) (tableRowAt b at))) (sumLimit (limitAt b at))
+
     go : (t : Bool) → eqb (kindAt b at) 0 ≡ t
         → (eqb (kindAt b at) 0 ≡ true) × (rows ≡ listBelow (sizeAt b (firstAt b at)) (tableRowAt b at))
     go true p =
@@ -58,11 +59,12 @@ module _ (b : List ℕ) (none-found : planFault b ≡ none) (c : ℕ) (h : c < c
   unfolding constraintChecks variablesInOrder
   in-order =
       let both : leb 1 first && ltb first second ≡ true =
-      and-left (leb 1 first && ltb first second) (leb second (variableCount b)) (constraint-holds 3) in
-      (leb-true 1 first (and-left (leb 1 first) (ltb first second) both),
-      ltb-true first second (and-right (leb 1 first) (ltb first second) both),
-      leb-true second (variableCount b)
-      (and-right (leb 1 first && ltb first second) (leb second (variableCount b)) (constraint-holds 3)))
+      and-left (leb 1 first && ltb first second) (leb second (variableCount b)) (constraint-holds 3) in (
+        leb-true 1 first (and-left (leb 1 first) (ltb first second) both),
+        ltb-true first second (and-right (leb 1 first) (ltb first second) both),
+        leb-true second (variableCount b)
+            (and-right (leb 1 first && ltb first second) (leb second (variableCount b)) (constraint-holds 3)),
+      )
 
   row-each : (rows : List ℕ) → relationAt b constraint-start ≡ table rows → (x : ℕ) → first ≡ suc x
       → length rows ≡ sizeOf (planOf b) x
@@ -90,6 +92,7 @@ module _ (b : List ℕ) (none-found : planFault b ≡ none) (c : ℕ) (h : c < c
       (ltb-true (tableRowAt b constraint-start v) (2 ^ sizeAt b second)
       (all-below (sizeAt b first) (λ v. ltb (tableRowAt b constraint-start v) (2 ^ sizeAt b second)) fits v k))
 
+  -- its variables, its rows and their bits are as the plan asks
   pub constraint-fits : ConstraintFits (planOf b) (constraintOf (planOf b) c)
   unfolding constraintAt
   constraint-fits =

@@ -1,7 +1,7 @@
 -- How the plan check ends: which fault it gives, where, and what a plan without fault has passed.
 use Prim.Native.Nat.{ℕ, zero, suc, _+_, _<_, _≤_}
 use mathlib.Core.Bool.{Bool, true, false, cond}
-use mathlib.Core.List.{List, [], _∷_}
+use mathlib.Core.List.{List}
 use mathlib.Core.Option.{Option, none, some}
 use mathlib.Core.Path.{_≡_, refl, sym, _∙_, ap}
 use borrow.Author.Tests.{ltb-true, ltb-false, eqb-true, eqb-false}
@@ -16,7 +16,7 @@ use Rattle.base.specs.Bytes.{byteAt}
 use Rattle.base.specs.Choice.{between, firstOf}
 use Rattle.plan.proofs.Sections.{section-complete, section-number, section-passes, section-declines}
 use Rattle.plan.specs.Check.{firstFault, sectionChecks, sectionFault}
-use Rattle.plan.specs.Decode.{sectionCount, planEnd, planOf, planFault, Decoded, accepted, declined, decodedAs, decode}
+use Rattle.plan.specs.Decode.{sectionCount, planEnd, planOf, planFault, accepted, declined, decodedAs, decode}
 use Rattle.plan.specs.Fault.{numberOf, decline}
 use Rattle.plan.specs.Format.{sectionStart, variableCount, constraintCount}
 use Rattle.plan.specs.Plan.{Plan}
@@ -32,6 +32,7 @@ pub data Ending (b : List ℕ) (o : Option Decline) : Type 0 where
   trailing : planEnd b < length b → o ≡ some (decline TrailingBytes (planEnd b)) → Ending b o
   sound : byteAt b 0 ≡ 1 → firstBelow (sectionCount b) (sectionFault b) ≡ none → length b ≤ planEnd b → o ≡ none → Ending b o
 
+-- every check of a plan ends in one of them
 pub ending : (b : List ℕ) → Ending b (planFault b)
 unfolding planFault
 ending b =
@@ -121,8 +122,10 @@ place-within b d e = go (ending b)
     start h zero r = h
     start h (suc k) r =
         section-complete b k (section-passes b k (none-first (suc k) (sectionFault b) r k (le-refl (suc k))))
+
     place-of : (c : Decline) → planFault b ≡ some c → c .place ≡ d .place
     place-of c p = let q : c ≡ d = cc (decode-fault b d e) in ap (λ (c : Decline). c .place) q
+
     go : Ending b (planFault b) → d .place ≤ length b
     go (empty p q) = omega (arith, place-of (decline Truncated 0) q)
     go (version p q r) = omega (arith, place-of (decline BadVersion 0) r)
@@ -138,6 +141,7 @@ number-within b d e = go (ending b)
   where
     number-of : (c : Decline) → planFault b ≡ some c → numberOf (c .fault) ≡ numberOf (d .fault)
     number-of c p = let q : c ≡ d = cc (decode-fault b d e) in ap (λ (c : Decline). numberOf (c .fault)) q
+
     go : Ending b (planFault b) → (1 ≤ numberOf (d .fault)) × (numberOf (d .fault) ≤ 8)
     go (empty p q) = omega (arith, number-of (decline Truncated 0) q)
     go (version p q r) = omega (arith, number-of (decline BadVersion 0) r)

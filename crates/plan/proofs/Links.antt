@@ -1,6 +1,6 @@
 -- Which variables the plan's constraints link.
 use Prim.Native.Nat.{ℕ, suc, _<_}
-use mathlib.Core.Bool.{Bool, true, _&&_, _||_}
+use mathlib.Core.Bool.{true, _||_}
 use mathlib.Core.Logic.{_⊎_, inl, inr, ⊎-elim}
 use mathlib.Core.Path.{_≡_, refl}
 use borrow.Author.Tests.{eqb-true, eq-eqb}
@@ -20,12 +20,15 @@ linked-symmetric plan x y =
     any-ext (λ c. joins c x y || joins c y x) (λ c. joins c y x || joins c x y) (λ c. or-comm (joins c x y) (joins c y x))
     (plan .constraints)
 
+-- the two variables that a constraint joins are those with its two numbers, which count from 1
 pub joins-of : (c : Constraint) (x y : ℕ) → joins c x y ≡ true → (c .first ≡ suc x) × (c .second ≡ suc y)
 unfolding joins
-joins-of c x y e =
-    (eqb-true (c .first) (suc x) (and-left (eqb (c .first) (suc x)) (eqb (c .second) (suc y)) e),
-    eqb-true (c .second) (suc y) (and-right (eqb (c .first) (suc x)) (eqb (c .second) (suc y)) e))
+joins-of c x y e = (
+  eqb-true (c .first) (suc x) (and-left (eqb (c .first) (suc x)) (eqb (c .second) (suc y)) e),
+  eqb-true (c .second) (suc y) (and-right (eqb (c .first) (suc x)) (eqb (c .second) (suc y)) e),
+)
 
+-- a constraint joins the variables with its two numbers
 pub of-joins : (c : Constraint) (x y : ℕ) → c .first ≡ suc x → c .second ≡ suc y → joins c x y ≡ true
 unfolding joins
 of-joins c x y p q = and-intro (eq-eqb (c .first) (suc x) p) (eq-eqb (c .second) (suc y) q)
@@ -36,6 +39,7 @@ pub record Over (plan : Plan) (c x y : ℕ) : Type 0 where
   pub first-is : constraintOf plan c .first ≡ suc x
   pub second-is : constraintOf plan c .second ≡ suc y
 
+-- a listed constraint that joins two variables is over them
 pub over : (plan : Plan) (c x y : ℕ) → c < length (plan .constraints) → joins (constraintOf plan c) x y ≡ true → Over plan c x y
 over plan c x y h p = record {
   listed = h;
@@ -48,10 +52,11 @@ pub linked-by : (plan : Plan) (x y : ℕ) → shareConstraint plan x y ≡ true 
 unfolding shareConstraint constraintOf
 linked-by plan x y e =
     let r : (c : ℕ) × (c < length (plan .constraints)) × (joins (constraintOf plan c) x y || joins (constraintOf plan c) y x ≡ true) =
-    any-at (λ c. joins c x y || joins c y x) (plan .constraints) noConstraint e in
-    (r .0,
-    ⊎-elim (λ p. inl (over plan (r .0) x y (r .1) p)) (λ p. inr (over plan (r .0) y x (r .1) p))
-    (or-cases (joins (constraintOf plan (r .0)) x y) (joins (constraintOf plan (r .0)) y x) (r .2)))
+    any-at (λ c. joins c x y || joins c y x) (plan .constraints) noConstraint e in (
+      r .0,
+      ⊎-elim (λ p. inl (over plan (r .0) x y (r .1) p)) (λ p. inr (over plan (r .0) y x (r .1) p))
+          (or-cases (joins (constraintOf plan (r .0)) x y) (joins (constraintOf plan (r .0)) y x) (r .2)),
+    )
 
 -- a constraint links its two variables
 pub over-links : (plan : Plan) (c x y : ℕ) → Over plan c x y → shareConstraint plan x y ≡ true

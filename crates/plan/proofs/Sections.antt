@@ -1,28 +1,20 @@
--- What the plan check's decline says: which check failed, where, and under which number.
-use Prim.Native.Nat.{ℕ, zero, suc, _+_, _<_, _≤_}
+-- What a section's checks say: that it is complete, which number it gives, and where.
+use Prim.Native.Nat.{ℕ, suc, _≤_}
 use mathlib.Core.Bool.{Bool, true, false, cond}
-use mathlib.Core.List.{List, [], _∷_}
-use mathlib.Core.Logic.{_⊎_, inl, inr}
+use mathlib.Core.List.{List}
 use mathlib.Core.Option.{Option, none, some}
-use mathlib.Core.Path.{_≡_, refl, sym, _∙_, ap, subst}
-use borrow.Author.Tests.{leb-true, ltb-true, ltb-false, eqb-true, eqb-false}
+use mathlib.Core.Path.{_≡_, refl, sym, _∙_, ap}
+use borrow.Author.Tests.{leb-true}
 use native.Mathlib.Omega.{arith}
-use lib.Dec.{leb, ltb, eqb}
+use lib.Dec.{leb, eqb}
 use lib.ListN.{length}
-use Rattle.base.proofs.Below.{first-below, none-first}
-use Rattle.base.proofs.Choice.{between-low, between-high}
-use Rattle.base.specs.Below.{firstBelow}
-use Rattle.base.specs.Bytes.{byteAt}
-use Rattle.base.specs.Choice.{allOf, between, firstOf}
+use Rattle.base.specs.Choice.{allOf, between}
 use Rattle.plan.proofs.Checks.{each-holds, fault-among}
 use Rattle.plan.specs.Check.{Check, firstFault, complete, headChecks, variableChecks, constraintChecks, sectionChecks, faultAt, sectionFault}
-use Rattle.plan.specs.Decode.{sectionCount, planEnd, planOf, planFault, Decoded, accepted, declined, decodedAs, decode}
 use Rattle.plan.specs.Fault.{numberOf, decline}
-use Rattle.plan.specs.Format.{behind, sectionStart, variableCount}
-use Rattle.plan.specs.Plan.{Plan}
+use Rattle.plan.specs.Format.{sectionStart, variableCount}
 use Rattle.plan.specs.declared.Decline.{Decline}
 use Rattle.plan.specs.declared.Fault.{Fault}
-use Rattle.plan.specs.declared.Fault.the-variants.{Truncated, BadVersion, TrailingBytes}
 
 -- what holds of the checks of each kind of section holds of every section's
 pub each-section : (P : List Check → Type 0) (b : List ℕ) (k : ℕ) → P (headChecks b (sectionStart b k))
@@ -53,18 +45,6 @@ section-number b k f =
     fault-among (λ g. between 1 7 (numberOf g)) (sectionChecks b k)
     (each-section (λ cs. allOf (λ c. between 1 7 (numberOf (c .fault))) cs ≡ true) b k refl refl refl) f
 
--- a section with no fault passes its checks
-pub section-passes : (b : List ℕ) (k : ℕ) → sectionFault b k ≡ none → firstFault (sectionChecks b k) ≡ none
-unfolding sectionFault
-section-passes b k e = go (firstFault (sectionChecks b k)) refl
-  where
-    go : (o : Option Fault) → firstFault (sectionChecks b k) ≡ o → firstFault (sectionChecks b k) ≡ none
-    go none p = p
-    go (some f) p =
-        let q : some (decline f (sectionStart b k)) ≡ none = ap (faultAt (sectionStart b k)) (sym p) ∙ e in
-        let z : _≡_ {A = ℕ} 0 1 = cc in
-        absurd (omega arith)
-
 -- a section's fault is the first of its checks', and stands at the section's start
 pub section-declines : (b : List ℕ) (k : ℕ) (d : Decline) → sectionFault b k ≡ some d
     → (firstFault (sectionChecks b k) ≡ some (d .fault)) × (d .place ≡ sectionStart b k)
@@ -81,3 +61,15 @@ section-declines b k d e = go (firstFault (sectionChecks b k)) refl
         let q : some (decline f (sectionStart b k)) ≡ some d = ap (faultAt (sectionStart b k)) (sym p) ∙ e in
         let r : decline f (sectionStart b k) ≡ d = cc in
         (p ∙ ap (λ (c : Decline). some (c .fault)) r, ap (λ (c : Decline). c .place) (sym r))
+
+-- a section with no fault passes its checks
+pub section-passes : (b : List ℕ) (k : ℕ) → sectionFault b k ≡ none → firstFault (sectionChecks b k) ≡ none
+unfolding sectionFault
+section-passes b k e = go (firstFault (sectionChecks b k)) refl
+  where
+    go : (o : Option Fault) → firstFault (sectionChecks b k) ≡ o → firstFault (sectionChecks b k) ≡ none
+    go none p = p
+    go (some f) p =
+        let q : some (decline f (sectionStart b k)) ≡ none = ap (faultAt (sectionStart b k)) (sym p) ∙ e in
+        let z : _≡_ {A = ℕ} 0 1 = cc in
+        absurd (omega arith)

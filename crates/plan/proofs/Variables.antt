@@ -2,7 +2,7 @@
 use Prim.Native.Nat.{ℕ, suc, _<_, _≤_}
 use mathlib.Core.Bool.{Bool, true, false}
 use mathlib.Core.List.{List}
-use mathlib.Core.Option.{Option, none}
+use mathlib.Core.Option.{none}
 use mathlib.Core.Path.{_≡_, sym, _∙_, ap}
 use borrow.Author.Tests.{leb-true, eqb-false, not-true}
 use native.Mathlib.Omega.{arith}
@@ -17,7 +17,7 @@ use Rattle.plan.proofs.Parts.{variable-read, size-read, value-read}
 use Rattle.plan.proofs.Passed.{variable-passed}
 use Rattle.plan.specs.Check.{_orElse_, repeatsCode, variableChecks}
 use Rattle.plan.specs.Decode.{planFault, variableAt, planOf}
-use Rattle.plan.specs.Format.{sectionStart, workerCount, variableCount, ownerAt, valueCountAt, codeAt, sizeAt}
+use Rattle.plan.specs.Format.{sectionStart, workerCount, variableCount, valueCountAt, codeAt, sizeAt}
 use Rattle.plan.specs.Plan.{Value, variableOf, valueOf}
 use Rattle.plan.specs.WellFormed.{sizeOf, VariableFits}
 use Rattle.plan.specs.declared.Fault.the-variants.{Truncated}
@@ -51,6 +51,7 @@ module _ (b : List ℕ) (none-found : planFault b ≡ none) (x : ℕ) (h : x < v
       eqb-false (codeAt b variable-start u) (codeAt b variable-start v) (none-below v (t v) none-repeats u p)
       (sym (code-read u (omega arith)) ∙ e ∙ code-read v k)
 
+  -- its owner, its values and their codes are as the plan asks
   pub variable-fits : VariableFits (planOf b) x
   unfolding planOf
   variable-fits = record {

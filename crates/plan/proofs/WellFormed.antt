@@ -1,8 +1,8 @@
 -- Every accepted plan is well formed, and what follows from that alone.
-use Prim.Native.Nat.{ℕ, _*_, _<_, _≤_}
-use mathlib.Core.Bool.{Bool, true, _&&_}
+use Prim.Native.Nat.{ℕ, _≤_}
+use mathlib.Core.Bool.{true, _&&_}
 use mathlib.Core.List.{List}
-use mathlib.Core.Option.{Option, none}
+use mathlib.Core.Option.{none}
 use mathlib.Core.Path.{_≡_}
 use borrow.Author.Tests.{leb-true}
 use native.Mathlib.Omega.{arith}
@@ -27,27 +27,23 @@ use Rattle.plan.specs.Plan.{Plan}
 use Rattle.plan.specs.WellFormed.{sizeOf, WellFormed}
 
 module _ (b : List ℕ) (none-found : planFault b ≡ none) where
-  head-range : headInRange b ≡ true
-  unfolding headChecks
+  head-range : between 1 8 (workerCount b) && between 1 32 (variableCount b) && leb (constraintCount b) 128 ≡ true
+  unfolding headChecks headInRange
   head-range = each-holds (headChecks b (sectionStart b 0)) (head-passed b none-found) 2
 
-  abbrev counts-in-range : Bool
-  counts-in-range = between 1 8 (workerCount b) && between 1 32 (variableCount b)
-
-  counts-range : counts-in-range ≡ true
-  unfolding headInRange
-  counts-range = and-left counts-in-range (leb (constraintCount b) 128) head-range
+  both-range : between 1 8 (workerCount b) && between 1 32 (variableCount b) ≡ true
+  both-range =
+      and-left (between 1 8 (workerCount b) && between 1 32 (variableCount b)) (leb (constraintCount b) 128) head-range
 
   workers-range : between 1 8 (workerCount b) ≡ true
-  workers-range = and-left (between 1 8 (workerCount b)) (between 1 32 (variableCount b)) counts-range
+  workers-range = and-left (between 1 8 (workerCount b)) (between 1 32 (variableCount b)) both-range
 
   variables-range : between 1 32 (variableCount b) ≡ true
-  variables-range = and-right (between 1 8 (workerCount b)) (between 1 32 (variableCount b)) counts-range
+  variables-range = and-right (between 1 8 (workerCount b)) (between 1 32 (variableCount b)) both-range
 
-  constraints-range : constraintCount b ≤ 128
-  unfolding headInRange
+  constraints-range : leb (constraintCount b) 128 ≡ true
   constraints-range =
-      leb-true (constraintCount b) 128 (and-right counts-in-range (leb (constraintCount b) 128) head-range)
+      and-right (between 1 8 (workerCount b) && between 1 32 (variableCount b)) (leb (constraintCount b) 128) head-range
 
   -- what the bytes hold is well formed where no check fails
   pub read-well-formed : WellFormed (planOf b)
@@ -57,7 +53,7 @@ module _ (b : List ℕ) (none-found : planFault b ≡ none) where
     workers-high = between-high 1 8 (workerCount b) workers-range;
     variables-low = omega (arith, variables-read b, between-low 1 32 (variableCount b) variables-range);
     variables-high = omega (arith, variables-read b, between-high 1 32 (variableCount b) variables-range);
-    constraints-high = omega (arith, constraints-read b, constraints-range);
+    constraints-high = omega (arith, constraints-read b, leb-true (constraintCount b) 128 constraints-range);
     each-variable = λ x h. variable-fits b none-found x (omega (arith, variables-read b));
     each-constraint = λ c h. constraint-fits b none-found c (omega (arith, constraints-read b));
   }
@@ -70,6 +66,9 @@ well-formed b plan e = rw (decode-plan b plan e .1) (read-well-formed b (decode-
 pub few-labels : (plan : Plan) → WellFormed plan → labelCount (networkOf plan) ≤ 512
 unfolding labelCount networkOf sizeOf
 few-labels plan fits =
-    omega
-    (arith, fits .variables-high, sum-const (length (plan .variables)) 16,
-    sum-le (length (plan .variables)) (networkOf plan .size) (λ x. 16) (λ x h. fits .each-variable x h .few-values))
+    omega (
+      arith,
+      fits .variables-high,
+      sum-const (length (plan .variables)) 16,
+      sum-le (length (plan .variables)) (networkOf plan .size) (λ x. 16) (λ x h. fits .each-variable x h .few-values),
+    )
