@@ -72,8 +72,8 @@ module _ (work lists : List ℕ) (sys : System) (turns : List Turn) where
         ∙ getD-replicate workNeed i 0 0 h;
     work-kept = λ i h. overwrite-back (replicate workNeed 0) work i (omega (arith, length-replicate {A = ℕ} workNeed 0));
     cells = overwrite-front (listCells sys (final sys turns)) lists;
-    lists-kept = overwrite-back (listCells sys (final sys turns)) lists
-    }
+    lists-kept = overwrite-back (listCells sys (final sys turns)) lists;
+  }
 
   reported-written : (o : Option Decline) (r : Report) → Ends o .answer ≡ Reported r
       → (r ≡ reportOf sys turns) × Written work lists sys turns (Ends o)
