@@ -4,6 +4,8 @@ pub mod DomainSize
 pub mod Final
 pub mod Members
 pub mod Moves
+pub mod Order
+pub mod Outcome
 pub mod Potential
 pub mod RoundRun
 pub mod Rounds

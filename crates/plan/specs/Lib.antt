@@ -6,3 +6,4 @@ pub mod Fault
 pub mod Format
 pub mod Network
 pub mod Plan
+pub mod WellFormed

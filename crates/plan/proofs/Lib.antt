@@ -1,0 +1,12 @@
+pub mod Answer
+pub mod Checks
+pub mod Constraints
+pub mod Faults
+pub mod Limits
+pub mod Links
+pub mod Pairs
+pub mod Parts
+pub mod Passed
+pub mod Sections
+pub mod Variables
+pub mod WellFormed
