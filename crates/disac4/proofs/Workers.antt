@@ -37,14 +37,14 @@ module _ (p : ℕ) where
       → overWorkers (λ j. length (update f k (f k ++ l) j)) ≡ overWorkers (λ j. length (f j)) + length l
   over-append f k l a b = omega (arith, over-update length f k (f k ++ l) a b, length-append (f k) l)
 
-  module _ (w : Message → ℕ) (c : Channels) where
-    -- the weight of all messages to workers
-    abbrev pub toWorkers : Channels → ℕ
-    toWorkers d = overWorkers (into w p d)
+  -- the weight of all messages to workers
+  abbrev pub toWorkers : (Message → ℕ) → Channels → ℕ
+  toWorkers w c = overWorkers (into w p c)
 
+  module _ (w : Message → ℕ) (c : Channels) where
     -- worker `k` takes the oldest message from `j`
     pub workers-take : (j k : ℕ) (m : Message) (rest : List Message) → 0 < k → k ≤ p → j ≤ p → c j k ≡ m ∷ rest
-        → toWorkers (update₂ c j k rest) + w m ≡ toWorkers c
+        → toWorkers w (update₂ c j k rest) + w m ≡ toWorkers w c
     workers-take j k m rest a b h e =
         omega (
           arith,
@@ -53,12 +53,12 @@ module _ (p : ℕ) where
         )
 
     -- a change of a channel to the controller leaves the messages to workers
-    pub workers-apart : (j : ℕ) (l : List Message) → toWorkers (update₂ c j 0 l) ≡ toWorkers c
+    pub workers-apart : (j : ℕ) (l : List Message) → toWorkers w (update₂ c j 0 l) ≡ toWorkers w c
     workers-apart j l = sum-ext p _ _ (λ i h. into-other w p c j 0 l (suc i) (λ q. omega arith))
 
     -- worker `k` sends a message to all other workers
     pub workers-broadcast : (k : ℕ) (m : Message) → 0 < k → k ≤ p
-        → toWorkers (broadcast p k m c) + w m ≡ toWorkers c + p * w m
+        → toWorkers w (broadcast p k m c) + w m ≡ toWorkers w c + p * w m
     workers-broadcast k m a b =
         omega (
           arith,
@@ -70,7 +70,7 @@ module _ (p : ℕ) where
         )
 
     -- the controller sends a message to all workers
-    pub workers-poll : (m : Message) → toWorkers (broadcast p 0 m c) ≡ toWorkers c + p * w m
+    pub workers-poll : (m : Message) → toWorkers w (broadcast p 0 m c) ≡ toWorkers w c + p * w m
     workers-poll m =
         omega (
           arith,
