@@ -83,3 +83,17 @@ bool-ext false false f g = refl
 pub refuted : (b : Bool) → (b ≡ true → ⊥) → b ≡ false
 refuted true h = absurd (h refl)
 refuted false h = refl
+
+-- ---- not a || b: where the first test holds, so does the second
+
+pub implied : (a b : Bool) → not a || b ≡ true → a ≡ true → b ≡ true
+implied true b e p = e
+implied false b e p = absurd (false≢true p)
+
+pub implies : (a b : Bool) → (a ≡ true → b ≡ true) → not a || b ≡ true
+implies true b f = f refl
+implies false b f = refl
+
+pub not-implied : (a b : Bool) → not a || b ≡ false → (a ≡ true) × (b ≡ false)
+not-implied true b e = (refl, e)
+not-implied false b e = absurd (false≢true (sym e))

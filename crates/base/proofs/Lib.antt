@@ -1,5 +1,6 @@
 pub mod Below
 pub mod Bools
 pub mod Choice
+pub mod Row
 pub mod Sums
 pub mod Weight

@@ -78,3 +78,42 @@ pub sum-swap : (n m : ℕ) (f : ℕ → ℕ → ℕ)
 sum-swap zero m f = sym (sum-zero m (λ j. 0) (λ j p. refl))
 sum-swap (suc n) m f =
     omega (arith, sum-swap n m f, sum-add m (λ j. sumBelow n (λ i. f i j)) (λ j. f n j))
+
+-- the lowest summand apart
+pub sum-first : (n : ℕ) (f : ℕ → ℕ) → sumBelow (suc n) f ≡ f 0 + sumBelow n (λ i. f (suc i))
+sum-first zero f = omega arith
+sum-first (suc n) f = omega (arith, sum-first n f)
+
+-- summands that are at most as large, one of them smaller
+pub sum-less : (n : ℕ) (f g : ℕ → ℕ) → ((i : ℕ) → i < n → f i ≤ g i) → (i : ℕ) → i < n → f i < g i
+    → sumBelow n f < sumBelow n g
+sum-less zero f g h i l s = absurd (not-suc-le-zero l)
+sum-less (suc n) f g h i l s =
+    ⊎-elim
+    (λ p.
+    omega (arith, ap f p, ap g p, sum-le n f g (λ j q. h j (le-step q))))
+    (λ p.
+    omega (arith, sum-less n f g (λ j q. h j (le-step q)) i p s, h n (le-refl (suc n))))
+    (below-cases l)
+
+-- a test counts at most 1
+pub one-le : (b : Bool) → one b ≤ 1
+one-le true = le-refl 1
+one-le false = le-step (le-refl 0)
+
+-- a count is at most its bound
+pub count-le : (n : ℕ) (t : ℕ → Bool) → countBelow n t ≤ n
+count-le n t = omega (arith, sum-le n (λ i. one (t i)) (λ i. 1) (λ i p. one-le (t i)), sum-const n 1)
+
+-- tests that agree below the bound count alike
+pub count-ext : (n : ℕ) (t u : ℕ → Bool) → ((i : ℕ) → i < n → t i ≡ u i) → countBelow n t ≡ countBelow n u
+count-ext n t u h = sum-ext n (λ i. one (t i)) (λ i. one (u i)) (λ i p. ap one (h i p))
+
+-- a test that implies another counts at most as much
+pub one-mono : (a b : Bool) → (a ≡ true → b ≡ true) → one a ≤ one b
+one-mono true b f = omega (arith, ap one (f refl))
+one-mono false b f = omega arith
+
+-- and less where it fails alone
+pub one-less : (a b : Bool) → a ≡ false → b ≡ true → one a < one b
+one-less a b p q = omega (arith, ap one p, ap one q)

@@ -1,0 +1,208 @@
+-- Laws of rows of bits, at any width: which values a row holds, and how many.
+use Prim.Native.Nat.{ℕ, zero, suc, _+_, _-_, _*_, _/_, _%_, _^_, _<_, _≤_}
+use mathlib.Core.Bool.{Bool, true, false, cond}
+use mathlib.Core.Logic.{_⊎_, inl, inr, ⊎-elim}
+use mathlib.Core.Path.{_≡_, refl, sym, _∙_, ap}
+use native.Mathlib.Nat.{not-suc-le-zero, le-of-suc-le-suc, two-pow-succ, pow-succ', div-one, div-div-eq-div-mul, div-eq-of-lt}
+use native.Mathlib.Omega.{arith}
+use borrow.Author.Tests.{eqb-true, eqb-false, eq-eqb, ne-eqb}
+use lib.Dec.{eqb}
+use lib.Pow.{pow-mono}
+use Rattle.base.proofs.Bools.{decided}
+use Rattle.base.proofs.Choice.{cond-true, cond-false}
+use Rattle.base.proofs.Sums.{sum-ext, sum-times, sum-first, count-ext, count-le}
+use Rattle.base.specs.Below.{countBelow, one}
+use Rattle.base.specs.Row.{isOdd, bit, rowOf, withoutLowest, rowCountIn, rowCount}
+
+-- ---- a row by halves: whether it is odd, and the rest
+
+odd-rest : (r : ℕ) → one (isOdd r) ≡ r % 2
+odd-rest r =
+    ⊎-elim (λ p. ap one p ∙ sym (eqb-true (r % 2) 1 p)) (λ p. ap one p ∙ omega (arith, eqb-false (r % 2) 1 p))
+    (decided (isOdd r))
+
+-- a row whose lowest bit and rest are known
+odd-of : (r q : ℕ) (b : Bool) → r ≡ one b + 2 * q → isOdd r ≡ b
+odd-of r q true e = eq-eqb (r % 2) 1 (omega arith)
+odd-of r q false e = ne-eqb (r % 2) 1 (λ p. omega arith)
+
+half-of : (r q : ℕ) (b : Bool) → r ≡ one b + 2 * q → r / 2 ≡ q
+half-of r q true e = omega arith
+half-of r q false e = omega arith
+
+-- value 0 is in the odd rows
+pub bit-zero : (r : ℕ) → bit r 0 ≡ isOdd r
+unfolding bit
+bit-zero r = ap isOdd (div-one r)
+
+-- the other values, moved down by one, are in the row's half
+pub bit-suc : (r w : ℕ) → bit r (suc w) ≡ bit (r / 2) w
+unfolding bit
+bit-suc r w = ap (λ (k : ℕ). isOdd (r / k)) (pow-succ' 2 w) ∙ ap isOdd (sym (div-div-eq-div-mul r 2 (2 ^ w)))
+
+row-halves : (n : ℕ) (t : ℕ → Bool) → rowOf (suc n) t ≡ one (t 0) + 2 * rowOf n (λ w. t (suc w))
+unfolding rowOf
+row-halves n t =
+    sum-first n (λ w. cond (t w) (2 ^ w) 0)
+    ∙ ap (λ (k : ℕ). one (t 0) + k)
+    (sum-ext n (λ w. cond (t (suc w)) (2 ^ suc w) 0) (λ w. 2 * cond (t (suc w)) (2 ^ w) 0) (λ w p. double w (t (suc w)))
+    ∙ sum-times n 2 (λ w. cond (t (suc w)) (2 ^ w) 0))
+  where
+    double : (w : ℕ) (b : Bool) → cond b (2 ^ suc w) 0 ≡ 2 * cond b (2 ^ w) 0
+    double w true = pow-succ' 2 w
+    double w false = refl
+
+row-half : (n : ℕ) (t : ℕ → Bool) → rowOf (suc n) t / 2 ≡ rowOf n (λ w. t (suc w))
+row-half n t = half-of (rowOf (suc n) t) (rowOf n (λ w. t (suc w))) (t 0) (row-halves n t)
+
+half-small : (n r : ℕ) → r < 2 ^ suc n → r / 2 < 2 ^ n
+half-small n r h = omega (arith, two-pow-succ n)
+
+-- ---- which values a row holds
+
+-- a row holds exactly the values below its width that pass the test
+pub row-bit : (n : ℕ) (t : ℕ → Bool) (w : ℕ) → w < n → bit (rowOf n t) w ≡ t w
+row-bit zero t w h = absurd (not-suc-le-zero h)
+row-bit (suc n) t zero h =
+    bit-zero (rowOf (suc n) t) ∙ odd-of (rowOf (suc n) t) (rowOf n (λ w. t (suc w))) (t 0) (row-halves n t)
+row-bit (suc n) t (suc w) h =
+    bit-suc (rowOf (suc n) t) w
+    ∙ ap (λ (r : ℕ). bit r w) (row-half n t)
+    ∙ row-bit n (λ u. t (suc u)) w (le-of-suc-le-suc h)
+
+-- a row of n values is below 2 ^ n
+pub row-small : (n : ℕ) (t : ℕ → Bool) → rowOf n t < 2 ^ n
+unfolding rowOf
+row-small zero t = omega arith
+row-small (suc n) t = omega (arith, row-small n t, two-pow-succ n, part (t n))
+  where
+    part : (b : Bool) → cond b (2 ^ n) 0 ≤ 2 ^ n
+    part true = omega arith
+    part false = omega arith
+
+-- a row below 2 ^ n holds no value from n on
+pub bit-past : (n r w : ℕ) → r < 2 ^ n → n ≤ w → bit r w ≡ false
+unfolding bit
+bit-past n r w h l =
+    let small : r < 2 ^ w = omega (arith, pow-mono l) in
+    ap isOdd (div-eq-of-lt small)
+
+-- a row holds no value from its width on
+pub row-past : (n : ℕ) (t : ℕ → Bool) (w : ℕ) → n ≤ w → bit (rowOf n t) w ≡ false
+row-past n t w l = bit-past n (rowOf n t) w (row-small n t) l
+
+-- tests that agree below the width give the same row
+pub row-ext : (n : ℕ) (t u : ℕ → Bool) → ((w : ℕ) → w < n → t w ≡ u w) → rowOf n t ≡ rowOf n u
+unfolding rowOf
+row-ext n t u h =
+    sum-ext n (λ w. cond (t w) (2 ^ w) 0) (λ w. cond (u w) (2 ^ w) 0) (λ w p. ap (λ (b : Bool). cond b (2 ^ w) 0) (h w p))
+
+-- a row is the row of the values that it holds
+pub row-of-bits : (n r : ℕ) → r < 2 ^ n → rowOf n (bit r) ≡ r
+row-of-bits zero r h = none ∙ omega arith
+  where
+    none : rowOf 0 (bit r) ≡ 0
+    none = omega (arith, row-small 0 (bit r))
+row-of-bits (suc n) r h =
+    omega (
+      arith,
+      row-halves n (bit r),
+      ap one (bit-zero r),
+      odd-rest r,
+      row-ext n (λ w. bit r (suc w)) (bit (r / 2)) (λ w p. bit-suc r w),
+      row-of-bits n (r / 2) (half-small n r h),
+    )
+
+-- ---- how many values a row holds
+
+count-halves : (n r : ℕ) → countBelow (suc n) (bit r) ≡ r % 2 + countBelow n (bit (r / 2))
+count-halves n r =
+    omega (
+      arith,
+      sum-first n (λ w. one (bit r w)),
+      ap one (bit-zero r),
+      odd-rest r,
+      count-ext n (λ w. bit r (suc w)) (bit (r / 2)) (λ w p. bit-suc r w),
+    )
+
+-- the empty row holds no value
+pub count-empty : (n : ℕ) → countBelow n (bit 0) ≡ 0
+count-empty zero = refl
+count-empty (suc n) = omega (arith, count-halves n 0, count-empty n)
+
+-- a row that is not empty holds one value more than it does without its lowest
+pub lowest-count : (n r : ℕ) → 0 < r → r < 2 ^ n
+    → countBelow n (bit r) ≡ suc (countBelow n (bit (withoutLowest n r)))
+unfolding withoutLowest
+lowest-count zero r l h = omega arith
+lowest-count (suc n) r l h = go (lowest-count n (r / 2))
+  where
+    counts : (q a : ℕ) → q / 2 ≡ a → countBelow (suc n) (bit q) ≡ q % 2 + countBelow n (bit a)
+    counts q a e = count-halves n q ∙ ap (λ (k : ℕ). q % 2 + countBelow n (bit k)) e
+
+    go : (0 < r / 2 → r / 2 < 2 ^ n → countBelow n (bit (r / 2)) ≡ suc (countBelow n (bit (withoutLowest n (r / 2)))))
+        → countBelow (suc n) (bit r) ≡ suc (countBelow (suc n) (bit (withoutLowest (suc n) r)))
+    go ih =
+        ⊎-elim
+        (λ p.
+        let e : withoutLowest (suc n) r ≡ r - 1 = cond-true (r - 1) (2 * withoutLowest n (r / 2)) p in
+        let odd : r % 2 ≡ 1 = eqb-true (r % 2) 1 p in
+        omega
+        (arith, counts r (r / 2) refl, counts (withoutLowest (suc n) r) (r / 2) (omega arith)))
+        (λ p.
+        let e : withoutLowest (suc n) r ≡ 2 * withoutLowest n (r / 2) =
+        cond-false (r - 1) (2 * withoutLowest n (r / 2)) p in
+        let even : r % 2 ≡ 0 = omega (arith, eqb-false (r % 2) 1 p) in
+        omega (
+          arith,
+          counts r (r / 2) refl,
+          counts (withoutLowest (suc n) r) (withoutLowest n (r / 2)) (omega arith),
+          ih (omega arith) (half-small n r h),
+        ))
+        (decided (isOdd r))
+
+-- a row without its lowest value stays within its width
+pub lowest-small : (n r : ℕ) → r < 2 ^ n → withoutLowest n r < 2 ^ n
+unfolding withoutLowest
+lowest-small zero r h = omega arith
+lowest-small (suc n) r h =
+    ⊎-elim
+    (λ p.
+    omega (arith, cond-true (r - 1) (2 * withoutLowest n (r / 2)) p))
+    (λ p.
+    omega (
+      arith,
+      cond-false (r - 1) (2 * withoutLowest n (r / 2)) p,
+      two-pow-succ n,
+      lowest-small n (r / 2) (half-small n r h),
+    ))
+    (decided (isOdd r))
+
+counts-in : (n calls r : ℕ) → r < 2 ^ n → countBelow n (bit r) ≤ calls → rowCountIn n calls r ≡ countBelow n (bit r)
+unfolding rowCountIn
+counts-in n zero r h l = omega arith
+counts-in n (suc calls) r h l = go (decided (eqb r 0)) (counts-in n calls (withoutLowest n r) (lowest-small n r h))
+  where
+    low : ℕ
+    low = withoutLowest n r
+
+    go : (eqb r 0 ≡ true) ⊎ (eqb r 0 ≡ false)
+        → (countBelow n (bit low) ≤ calls → rowCountIn n calls low ≡ countBelow n (bit low))
+        → rowCountIn n (suc calls) r ≡ countBelow n (bit r)
+    go (inl p) ih =
+        let e : r ≡ 0 = eqb-true r 0 p in
+        ap (rowCountIn n (suc calls)) e ∙ sym (count-empty n) ∙ ap (λ (k : ℕ). countBelow n (bit k)) (sym e)
+    go (inr p) ih =
+        let pos : 0 < r = omega (arith, eqb-false r 0 p) in
+        let more : countBelow n (bit r) ≡ suc (countBelow n (bit low)) = lowest-count n r pos h in
+        omega (arith, cond-false 0 (suc (rowCountIn n calls low)) p, ih (omega arith))
+
+-- the count of a row is the number of the values that it holds
+pub rowCount-bits : (n r : ℕ) → r < 2 ^ n → rowCount n r ≡ countBelow n (bit r)
+unfolding rowCount
+rowCount-bits n r h = counts-in n n r h (count-le n (bit r))
+
+-- the row of a test counts the values that pass it
+pub rowCount-counts : (n : ℕ) (t : ℕ → Bool) → rowCount n (rowOf n t) ≡ countBelow n t
+rowCount-counts n t =
+    rowCount-bits n (rowOf n t) (row-small n t) ∙ count-ext n (bit (rowOf n t)) t (row-bit n t)

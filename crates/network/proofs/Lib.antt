@@ -1,0 +1,6 @@
+pub mod Labels
+pub mod Largest
+pub mod Loaded
+pub mod Solution
+pub mod Solvable
+pub mod Sweeps
