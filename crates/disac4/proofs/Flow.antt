@@ -281,7 +281,7 @@ module _ (sys : System) (x v : ℕ) where
       (omega (arith, weigh-append (carried x v) (st .channel k 0) (reply (q .number) ∷ [])))
       s refl refl refl refl
 
-  load-flow : Flow (load sys) []
+  pub load-flow : Flow (load sys) []
   unfolding load
   load-flow = record {
     sending = λ j. omega (arith, load-deletes sys x v j);
@@ -290,7 +290,10 @@ module _ (sys : System) (x v : ℕ) where
     treating = λ k h. omega (arith, load-deletes sys x v k);
   }
 
+  pub move-flow : (st : State) (es : List Event) (s : State) (new : List Event) → Flow st es → Moves sys st s new
+      → Flow s (es ++ new)
+  move-flow st es s new f m = step-flow f (step-of st es s new f m)
+
   -- every label flows once, whatever turns are played
   pub flows : Sound sys → (ts : List Turn) → Flow (play sys (load sys) ts) (events sys (load sys) ts)
-  flows sound ts =
-      kept sys (sound .few) Flow (λ st es s new c f m. step-flow f (step-of st es s new f m)) ts (load sys) [] load-flow
+  flows sound ts = kept sys (sound .few) Flow (λ st es s new c f m. move-flow st es s new f m) ts (load sys) [] load-flow

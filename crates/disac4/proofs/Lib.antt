@@ -1,8 +1,13 @@
+pub mod Calm
 pub mod Channels
+pub mod Counters
 pub mod Deleted
 pub mod Flow
+pub mod Largest
 pub mod Moves
 pub mod Occurrences
 pub mod Pointwise
+pub mod Remaining
 pub mod Sound
+pub mod Treated
 pub mod Worked
