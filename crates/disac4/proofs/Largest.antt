@@ -21,7 +21,7 @@ use Rattle.disac4.proofs.Calm.{Calm, by-treat}
 use Rattle.disac4.proofs.Counters.{Accounts, loaded-counts, load-accounts, move-accounts, accounts}
 use Rattle.disac4.proofs.Moves.{Moves, Worker, kept}
 use Rattle.disac4.proofs.Occurrences.{treatedBy}
-use Rattle.disac4.proofs.Remaining.{untreatedSupport, remaining, support-remains, loses-owner, loses-support, now-deleted, head-loaded, lowered-counts}
+use Rattle.disac4.proofs.Remaining.{untreatedSupport, remaining, support-remains, remains-support, loses-owner, loses-support, now-deleted, head-loaded, lowered-counts}
 use Rattle.disac4.proofs.Sound.{Sound, Quiet}
 use Rattle.disac4.proofs.Treated.{treated-exactly}
 use Rattle.disac4.specs.Action.{loses, lowered, deletes, afterTreat}
@@ -127,3 +127,40 @@ module _ (sys : System) (e : Domains) (c : ConsistentWithin (sys .net) e) where
       })
       ts (load sys) [] (record { known = load-accounts sys; inner = load-keeps })
       .inner
+
+-- in a quiet state each worker has treated every deleted label, so a support that it has not treated is in the domain
+pub quiet-consistent : (sys : System) → Sound sys → (st : State) (es : List Event) → Accounts sys st es → Quiet sys st
+    → ArcConsistent (sys .net) (st .domain)
+unfolding Supported ArcConsistent supports deleted
+quiet-consistent sys sound st es b q x v d y h l =
+    let (w, i, s, z) =
+    remains-support sys es x v y (omega (arith, b .counters .counts x v d y, b .counters .positive x v d y h l)) in
+    (w, stands w i (omega (arith, untreated w)), and-right (sys .net .linked x y) (sys .net .allows x v y w) s)
+  where
+    untreated : (w : ℕ) → weigh (treatedBy y w (sys .owner x)) es ≡ one (deleted sys st y w)
+    untreated w =
+        treated-exactly sys y w st es (b .flow y w) (sound .owned y h) q (sys .owner x)
+        (sound .owned x (loaded-variable (sys .net) x v (b .counters .inside x v d)))
+
+    stands : (w : ℕ) → w < sys .net .size y → one (deleted sys st y w) ≡ 0 → st .domain y w ≡ true
+    stands w i = go (loaded (sys .net) y w) (st .domain y w) (loaded-intro (sys .net) y w h i)
+      where
+        go : (a b : Bool) → a ≡ true → one (a && not b) ≡ 0 → b ≡ true
+        go true true p e = refl
+        go true false p e = absurd (omega arith)
+        go false b p e = clash p refl
+
+-- a quiet state holds the largest arc-consistent domains
+pub quiet-largest : (sys : System) → Sound sys → (ts : List Turn) → Quiet sys (play sys (load sys) ts)
+    → Largest (sys .net) (play sys (load sys) ts .domain)
+unfolding Within
+quiet-largest sys sound ts q =
+    largest-of (sys .net) (play sys (load sys) ts .domain)
+    (record {
+      within = known .counters .inside;
+      consistent = quiet-consistent sys sound (play sys (load sys) ts) (events sys (load sys) ts) known q;
+    })
+    (λ e c. never-lost sys e c sound ts)
+  where
+    known : Accounts sys (play sys (load sys) ts) (events sys (load sys) ts)
+    known = accounts sys sound ts

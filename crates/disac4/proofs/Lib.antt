@@ -2,6 +2,7 @@ pub mod Calm
 pub mod Channels
 pub mod Counters
 pub mod Deleted
+pub mod Delivered
 pub mod Flow
 pub mod Largest
 pub mod Moves

@@ -9,7 +9,7 @@ use borrow.Author.Tests.{eqb-true, eqb-false, eq-eqb, ne-eqb, not-true, not-fals
 use lib.Dec.{eqb}
 use Rattle.base.proofs.Bools.{decided, clash, and-left, and-right, and-intro, and-false-left, and-false-right, refuted}
 use Rattle.base.proofs.Choice.{cond-true, cond-false}
-use Rattle.base.proofs.Sums.{sum-ext, sum-change, sum-part, one-le, one-mono}
+use Rattle.base.proofs.Sums.{sum-ext, sum-change, sum-part, sum-some, one-le, one-mono}
 use Rattle.base.proofs.Weight.{weigh, weigh-append}
 use Rattle.base.specs.Below.{sumBelow, one}
 use Rattle.network.proofs.Labels.{isLabel-same, isLabel-other, isLabel-eq}
@@ -55,6 +55,21 @@ support-remains sys es x v y w h s z =
       sum-part (sys .net .size y) (untreatedSupport sys es x v y) w h,
       cond-true (1 - weigh (treatedBy y w (sys .owner x)) es) 0 s,
     )
+
+-- and what remains is such a support
+pub remains-support : (sys : System) (es : List Event) (x v y : ℕ) → 0 < remaining sys es x v y
+    → (w : ℕ) × (w < sys .net .size y) × (supports (sys .net) x v y w ≡ true)
+    × (weigh (treatedBy y w (sys .owner x)) es ≡ 0)
+remains-support sys es x v y h =
+    let (w, i, p) = sum-some (sys .net .size y) (untreatedSupport sys es x v y) h in
+    go w i (supports (sys .net) x v y w) refl p
+  where
+    go : (w : ℕ) → w < sys .net .size y → (b : Bool) → supports (sys .net) x v y w ≡ b
+        → 0 < cond b (1 - weigh (treatedBy y w (sys .owner x)) es) 0
+        → (w : ℕ) × (w < sys .net .size y) × (supports (sys .net) x v y w ≡ true)
+        × (weigh (treatedBy y w (sys .owner x)) es ≡ 0)
+    go w i true s p = (w, i, s, omega arith)
+    go w i false s p = absurd (omega arith)
 
 -- ---- worker `k` treats `a`
 
