@@ -1,9 +1,9 @@
 -- Each counter of a label in the domain is the number of its supports that the label's owner has not treated, and is above 0.
-use Prim.Native.Nat.{ℕ, _+_, _-_, _<_, _≤_}
-use mathlib.Core.Bool.{Bool, true, false, cond, _&&_, not}
+use Prim.Native.Nat.{ℕ, _-_, _<_}
+use mathlib.Core.Bool.{true, false, _&&_, not}
 use mathlib.Core.List.{List, [], _∷_, _++_}
-use mathlib.Core.Logic.{_⊎_, inl, inr, ⊎-elim}
-use mathlib.Core.Path.{_≡_, refl, sym, _∙_, ap}
+use mathlib.Core.Logic.{_⊎_, inl, inr}
+use mathlib.Core.Path.{_≡_, sym, _∙_, ap}
 use native.Mathlib.Omega.{arith}
 use borrow.Author.Tests.{eqb-true, eqb-false, not-true}
 use lib.Dec.{eqb}
@@ -13,10 +13,8 @@ use Rattle.base.proofs.Choice.{cond-true, cond-false}
 use Rattle.base.proofs.Row.{rowCount-counts}
 use Rattle.base.proofs.Sums.{sum-ext}
 use Rattle.base.proofs.Weight.{weigh, weigh-append}
-use Rattle.base.specs.Below.{sumBelow}
-use Rattle.network.specs.Consistency.{Within}
-use Rattle.network.specs.Network.{Network, Label, Domains, loaded, supports, supportCount}
-use Rattle.disac4.proofs.Calm.{Calm, by-treat}
+use Rattle.network.specs.Network.{Label, loaded, supports, supportCount}
+use Rattle.disac4.proofs.ByTreat.{by-treat}
 use Rattle.disac4.proofs.Flow.{Flow, load-flow, move-flow}
 use Rattle.disac4.proofs.Moves.{Moves, Worker, kept}
 use Rattle.disac4.proofs.Occurrences.{treatedBy}
@@ -92,34 +90,30 @@ module _ (sys : System) where
                 omega (
                   arith,
                   ap (lowered sys k a st x v)
-                  (eqb-true y (a .variable) (and-right (loses sys k a st x v) (eqb y (a .variable)) p)),
+                      (eqb-true y (a .variable) (and-right (loses sys k a st x v) (eqb y (a .variable)) p)),
                   eqb-false (lowered sys k a st x v (a .variable)) 0
-                  (refuted (eqb (lowered sys k a st x v (a .variable)) 0)
-                  (λ z. clash (and-intro (and-left (loses sys k a st x v) (eqb y (a .variable)) p) z) stays)),
+                      (refuted (eqb (lowered sys k a st x v (a .variable)) 0)
+                      (λ z. clash (and-intro (and-left (loses sys k a st x v) (eqb y (a .variable)) p) z) stays)),
                 )
             go (inr p) = omega (arith, cond-false (st .counter x v y - 1) (st .counter x v y) p)
 
-    calm-counters : (s : State) (new : List Event) → Calm st s new → Counters s (es ++ new)
-    calm-counters s new m = record {
+    other-counters : (s : State) (new : List Event) → s .domain ≡ st .domain → s .counter ≡ st .counter
+        → ((x v k : ℕ) → weigh (treatedBy x v k) new ≡ 0) → Counters s (es ++ new)
+    other-counters s new p q u = record {
       inside = λ x v d. c .inside x v (was x v d);
-      counts = λ x v d y. rw (m .counter) (c .counts x v (was x v d) y ∙ sym (same x v y));
-      positive = λ x v d y h l. rw (m .counter) (c .positive x v (was x v d) y h l);
+      counts = λ x v d y. rw q (c .counts x v (was x v d) y ∙ sym (same x v y));
+      positive = λ x v d y h l. rw q (c .positive x v (was x v d) y h l);
     }
       where
         was : (x v : ℕ) → s .domain x v ≡ true → st .domain x v ≡ true
-        was x v d = rw (m .domain) at d
+        was x v d = rw p at d
 
         same : (x v y : ℕ) → remaining sys (es ++ new) x v y ≡ remaining sys es x v y
         same x v y =
             sum-ext (sys .net .size y) (untreatedSupport sys (es ++ new) x v y) (untreatedSupport sys es x v y)
             (λ w h.
             support-ext sys es (es ++ new) x v y w
-            (λ p.
-            omega (
-              arith,
-              weigh-append (treatedBy y w (sys .owner x)) es new,
-              m .untreated y w (sys .owner x),
-            )))
+            (λ i. omega (arith, weigh-append (treatedBy y w (sys .owner x)) es new, u y w (sys .owner x))))
 
   -- ---- together
 
@@ -128,16 +122,18 @@ module _ (sys : System) where
     pub flow : (x v : ℕ) → Flow sys x v st es
     pub counters : Counters st es
 
+  -- they hold at loading
   pub load-accounts : Accounts (load sys) []
   load-accounts = record { flow = λ x v. load-flow sys x v; counters = load-counters }
 
+  -- and every move keeps them
   pub move-accounts : (st : State) (es : List Event) (s : State) (new : List Event) → Accounts st es → Moves sys st s new
       → Accounts s (es ++ new)
   move-accounts st es s new b m = record {
     flow = λ x v. move-flow sys x v st es s new (b .flow x v) m;
     counters =
         by-treat sys st (λ t n. Counters t (es ++ n)) (treat-counters st es (b .flow) (b .counters))
-        (calm-counters st es (b .flow) (b .counters)) s new m;
+        (other-counters st es (b .flow) (b .counters)) s new m;
   }
 
   -- flow and counters are right, whatever turns are played

@@ -1,10 +1,9 @@
 -- What loading and treating delete, as a number for one label and each worker.
 use Prim.Native.Nat.{ℕ, _+_}
-use mathlib.Core.Bool.{Bool, true, false, cond, _&&_, not}
+use mathlib.Core.Bool.{Bool, true, false, _&&_, not}
 use mathlib.Core.List.{List}
 use mathlib.Core.Path.{_≡_, refl, sym, _∙_, ap}
 use native.Mathlib.Decide.{ℕ-discrete}
-use native.Mathlib.Omega.{arith}
 use borrow.Author.Tests.{ne-eqb}
 use lib.Dec.{eqb}
 use Rattle.base.specs.Below.{one}
@@ -65,7 +64,7 @@ module _ (sys : System) (x v : ℕ) where
     treat-deletes-own j n =
         elim (ℕ-discrete (sys .owner x) j) [
           | yes e ↦ rw (ne-eqb (sys .owner x) k (λ p. n (sym e ∙ p))) (
-            ap (λ (b : Bool). one (eqb (sys .owner x) j && (loaded (sys .net) x v && not b))) (kept (st .domain x v)))
+              ap (λ (b : Bool). one (eqb (sys .owner x) j && (loaded (sys .net) x v && not b))) (kept (st .domain x v)))
           | no d ↦ rw (ne-eqb (sys .owner x) j d)
         ]
       where

@@ -2,14 +2,14 @@
 use Prim.Native.Nat.{ℕ, zero, suc, _<_}
 use mathlib.Core.Bool.{Bool, true, false, cond, _&&_, _||_, not}
 use mathlib.Core.List.{List, [], _∷_}
-use mathlib.Core.Path.{_≡_, refl, sym, ap}
+use mathlib.Core.Path.{_≡_, refl, ap}
 use native.Mathlib.Decide.{ℕ-discrete}
 use native.Mathlib.Nat.{not-suc-le-zero}
 use native.Mathlib.Omega.{arith}
 use borrow.Author.Tests.{eq-eqb}
 use lib.Dec.{eqb}
 use Rattle.base.proofs.Below.{every-below}
-use Rattle.base.proofs.Bools.{and-left, and-right, and-intro, or-left, or-right, not-of-true}
+use Rattle.base.proofs.Bools.{and-left, or-left, or-right, not-of-true}
 use Rattle.base.proofs.Weight.{weigh, counts-any}
 use Rattle.base.specs.Below.{one}
 use Rattle.base.specs.Choice.{anyOf}
@@ -17,7 +17,7 @@ use Rattle.network.proofs.Loaded.{loaded-variable}
 use Rattle.network.specs.Network.{Label, isLabel, loaded}
 use Rattle.disac4.proofs.Flow.{Flow, flows}
 use Rattle.disac4.proofs.Moves.{Worker}
-use Rattle.disac4.proofs.Occurrences.{occurs, sentBy, readBy, treatedBy}
+use Rattle.disac4.proofs.Occurrences.{occurs, sentBy, readBy}
 use Rattle.disac4.proofs.Sound.{Sound, Quiet}
 use Rattle.disac4.proofs.Treated.{sent-exactly, read-exactly, treated-exactly}
 use Rattle.disac4.specs.Event.{Event, sent, taken, treated, events, holds, isSentWith, isReadWith, isTreatOf, unsent, unread, untreated, deleted}
@@ -37,7 +37,7 @@ weighs-any w t f (e ∷ es) h = go (w e) refl (weighs-any w t f es)
     go (suc n) p ih = or-left (anyOf t es) (f e (omega arith))
 
 module _ (sys : System) (sound : Sound sys) (ts : List Turn) (quiet : Quiet sys (play sys (load sys) ts)) (x v : ℕ)
-  (gone : deleted sys (play sys (load sys) ts) x v ≡ true) where
+    (gone : deleted sys (play sys (load sys) ts) x v ≡ true) where
   abbrev run : List Event
   run = events sys (load sys) ts
 
@@ -86,9 +86,9 @@ module _ (sys : System) (sound : Sound sys) (ts : List Turn) (quiet : Quiet sys 
       elim (ℕ-discrete i (sys .owner x)) [
         | yes e ↦ or-left (anyOf (isReadWith (sys .owner x) i x v) run) (eq-eqb i (sys .owner x) e)
         | no n ↦
-          or-right (eqb i (sys .owner x))
-          (weighs-any (readBy x v i (sys .owner x)) (isReadWith (sys .owner x) i x v) (read-with (sys .owner x) i) run
-          (omega (arith, read-exactly sys x v end run flow own quiet i (omega arith) n, ap one gone)))
+            or-right (eqb i (sys .owner x))
+            (weighs-any (readBy x v i (sys .owner x)) (isReadWith (sys .owner x) i x v) (read-with (sys .owner x) i) run
+            (omega (arith, read-exactly sys x v end run flow own quiet i (omega arith) n, ap one gone)))
       ]))
 
   -- and treated by every worker

@@ -1,7 +1,7 @@
 -- Labels flow once: from the domain to the owner's lists, from there to every other actor, at last to be treated. At each
 -- stage what came in is what went out and what still waits there.
 use Prim.Native.Nat.{ℕ, suc, _+_, _<_, _≤_}
-use mathlib.Core.Bool.{Bool, true, false, cond, _&&_, not}
+use mathlib.Core.Bool.{Bool, cond, _&&_, not}
 use mathlib.Core.List.{List, [], _∷_, _++_}
 use mathlib.Core.Path.{_≡_, refl, sym, _∙_, ap}
 use native.Mathlib.Decide.{ℕ-discrete}
@@ -12,14 +12,14 @@ use Rattle.base.proofs.Bools.{and-intro, and-false-left, and-false-right}
 use Rattle.base.proofs.Choice.{cond-true, cond-false}
 use Rattle.base.proofs.Weight.{weigh, weigh-append}
 use Rattle.base.specs.Below.{one}
-use Rattle.base.specs.Choice.{update, update₂}
+use Rattle.base.specs.Choice.{update₂}
 use Rattle.network.specs.Network.{Label, Domains, isLabel, loaded}
 use Rattle.disac4.proofs.Deleted.{deletedBy, load-deletes, treat-deletes, treat-deletes-own}
 use Rattle.disac4.proofs.Moves.{Moves, Worker, treats, sends, reads, hears, ignores, answers, asks, tallies, marks, drops, discards, kept}
 use Rattle.disac4.proofs.Occurrences.{occurs, carried, sentBy, readBy, treatedBy}
 use Rattle.disac4.proofs.Pointwise.{update-each, update₂-each, broadcast-each}
 use Rattle.disac4.proofs.Sound.{Sound}
-use Rattle.disac4.specs.Action.{deletions, afterTreat, afterSend, afterList, afterPoll, afterDrop, afterAnswer, afterAsk, afterCount, afterMark, pollOf, broadcast}
+use Rattle.disac4.specs.Action.{deletions, afterTreat, afterSend, afterList, afterPoll, afterDrop, afterAnswer, afterAsk, afterCount, afterMark, pollOf}
 use Rattle.disac4.specs.Event.{Event, sent, taken, treated, events, deleted}
 use Rattle.disac4.specs.Loading.{load}
 use Rattle.disac4.specs.State.{State, Message, list, poll, reply, Poll}
@@ -124,23 +124,23 @@ module _ (sys : System) (x v : ℕ) where
     unfolding afterTreat
     at-treat k a rest e = record {
       sending = update-each (λ j l. weigh (sentBy x v j) (treated k a ∷ []) + occurs x v l + gone st j ≡ occurs x v (st .toSend j) + gone s j)
-        (st .toSend) k (st .toSend k ++ new)
-        (omega (arith, own, weigh-append (λ b. one (isLabel x v b)) (st .toSend k) new))
-        (λ j n. omega (arith, other j n));
+          (st .toSend) k (st .toSend k ++ new)
+          (omega (arith, own, weigh-append (λ b. one (isLabel x v b)) (st .toSend k) new))
+          (λ j n. omega (arith, other j n));
       reading = λ j i h n. omega arith;
       unread-own = λ j. refl;
       treating = λ j h. update-each
-        (λ i l. weigh (treatedBy x v i) (treated k a ∷ []) + occurs x v l + gone st i ≡ occurs x v (st .workList i) + gone s i + 0)
-        (st .workList) k (rest ++ new)
-        (omega (
-          arith,
-          own,
-          weigh-append (λ b. one (isLabel x v b)) rest new,
-          ap (occurs x v) e,
-          ap (λ (b : Bool). one (b && isLabel x v a)) (eq-eqb k k refl),
-        ))
-        (λ i n. omega (arith, other i n, ap (λ (b : Bool). one (b && isLabel x v a)) (ne-eqb k i (λ p. n (sym p)))))
-        j;
+          (λ i l. weigh (treatedBy x v i) (treated k a ∷ []) + occurs x v l + gone st i ≡ occurs x v (st .workList i) + gone s i + 0)
+          (st .workList) k (rest ++ new)
+          (omega (
+            arith,
+            own,
+            weigh-append (λ b. one (isLabel x v b)) rest new,
+            ap (occurs x v) e,
+            ap (λ (b : Bool). one (b && isLabel x v a)) (eq-eqb k k refl),
+          ))
+          (λ i n. omega (arith, other i n, ap (λ (b : Bool). one (b && isLabel x v a)) (ne-eqb k i (λ p. n (sym p)))))
+          j;
     }
       where
         s : State
@@ -160,15 +160,15 @@ module _ (sys : System) (x v : ℕ) where
     unfolding afterSend deleted
     at-send k = record {
       sending = update-each
-        (λ j l. weigh (sentBy x v j) new + occurs x v l + gone st j ≡ occurs x v (st .toSend j) + gone st j)
-        (st .toSend) k []
-        (omega (arith, own))
-        (λ j n. omega (arith, other j n));
+          (λ j l. weigh (sentBy x v j) new + occurs x v l + gone st j ≡ occurs x v (st .toSend j) + gone st j)
+          (st .toSend) k []
+          (omega (arith, own))
+          (λ j n. omega (arith, other j n));
       reading = broadcast-each
-        (λ j i l. weigh (readBy x v i j) new + weigh (carried x v) l ≡ waits (st .channel) j i + weigh (sentBy x v j) new)
-        (sys .workers) k (list (st .toSend k)) (st .channel)
-        (λ i n. omega (arith, own, weigh-append (carried x v) (st .channel k i) (list (st .toSend k) ∷ [])))
-        (λ j i n. omega (arith, other j n));
+          (λ j i l. weigh (readBy x v i j) new + weigh (carried x v) l ≡ waits (st .channel) j i + weigh (sentBy x v j) new)
+          (sys .workers) k (list (st .toSend k)) (st .channel)
+          (λ i n. omega (arith, own, weigh-append (carried x v) (st .channel k i) (list (st .toSend k) ∷ [])))
+          (λ j i n. omega (arith, other j n));
       unread-own = λ j. refl;
       treating = λ j h. omega arith;
     }
@@ -195,8 +195,11 @@ module _ (sys : System) (x v : ℕ) where
       taken-other : (l i : ℕ) → (l ≡ j → i ≡ k → ⊥) → weigh (readBy x v i l) new ≡ 0
       taken-other l i n =
           elim (ℕ-discrete k i) [
-            | yes e ↦ omega (arith, cond-false (occurs x v labels) 0
-              (and-false-right (eqb k i) (ne-eqb j l (λ p. n (sym p) (sym e)))))
+            | yes e ↦ omega (
+              arith,
+              cond-false (occurs x v labels) 0
+                  (and-false-right (eqb k i) (ne-eqb j l (λ p. n (sym p) (sym e)))),
+            )
             | no d ↦ omega (arith, cond-false (occurs x v labels) 0 (and-false-left (eqb j l) (ne-eqb k i d)))
           ]
 
@@ -217,12 +220,12 @@ module _ (sys : System) (x v : ℕ) where
         reading = take-reading;
         unread-own = λ i. taken-other i i (λ p q. n (sym p ∙ q));
         treating = λ l h. update-each
-          (λ i w. weigh (treatedBy x v i) new + occurs x v w + gone st i
-          ≡ occurs x v (st .workList i) + gone st i + weigh (readBy x v i (sys .owner x)) new)
-          (st .workList) k (st .workList k ++ labels)
-          (omega (arith, weigh-append (λ b. one (isLabel x v b)) (st .workList k) labels, from-owner))
-          (λ i d. omega (arith, taken-other (sys .owner x) i (λ p q. d q)))
-          l;
+            (λ i w. weigh (treatedBy x v i) new + occurs x v w + gone st i
+            ≡ occurs x v (st .workList i) + gone st i + weigh (readBy x v i (sys .owner x)) new)
+            (st .workList) k (st .workList k ++ labels)
+            (omega (arith, weigh-append (λ b. one (isLabel x v b)) (st .workList k) labels, from-owner))
+            (λ i d. omega (arith, taken-other (sys .owner x) i (λ p q. d q)))
+            l;
       }
         where
           from-owner : weigh (readBy x v k (sys .owner x)) new ≡ occurs x v labels
@@ -281,6 +284,7 @@ module _ (sys : System) (x v : ℕ) where
       (omega (arith, weigh-append (carried x v) (st .channel k 0) (reply (q .number) ∷ [])))
       s refl refl refl refl
 
+  -- the flow at loading: each worker's first deletions stand on its lists
   pub load-flow : Flow (load sys) []
   unfolding load
   load-flow = record {
@@ -290,6 +294,7 @@ module _ (sys : System) (x v : ℕ) where
     treating = λ k h. omega (arith, load-deletes sys x v k);
   }
 
+  -- every move keeps the flow
   pub move-flow : (st : State) (es : List Event) (s : State) (new : List Event) → Flow st es → Moves sys st s new
       → Flow s (es ++ new)
   move-flow st es s new f m = step-flow f (step-of st es s new f m)

@@ -1,27 +1,25 @@
 -- Treating deletes nothing that an arc-consistent family of domains needs; where nothing is left to treat, what remains is
 -- the largest such family.
-use Prim.Native.Nat.{ℕ, _+_, _-_, _<_, _≤_}
-use mathlib.Core.Bool.{Bool, true, false, cond, _&&_, not}
+use Prim.Native.Nat.{ℕ, _<_}
+use mathlib.Core.Bool.{Bool, true, false, _&&_, not}
 use mathlib.Core.List.{List, [], _∷_, _++_}
-use mathlib.Core.Path.{_≡_, refl, sym, _∙_, ap}
+use mathlib.Core.Path.{_≡_, refl, ap}
 use native.Mathlib.Omega.{arith}
-use borrow.Author.Tests.{eqb-true, eqb-false}
+use borrow.Author.Tests.{eqb-true}
 use lib.Dec.{eqb}
 use Rattle.base.proofs.Below.{some-below}
 use Rattle.base.proofs.Bools.{clash, and-left, and-right, and-intro, and-false-right, not-of, not-of-true, refuted}
-use Rattle.base.proofs.Choice.{cond-true}
-use Rattle.base.proofs.Sums.{sum-none, sum-some}
 use Rattle.base.proofs.Weight.{weigh}
 use Rattle.base.specs.Below.{one}
 use Rattle.network.proofs.Largest.{largest-of}
 use Rattle.network.proofs.Loaded.{loaded-variable, loaded-value, loaded-intro}
 use Rattle.network.specs.Consistency.{Within, Supported, ArcConsistent, ConsistentWithin, Largest}
-use Rattle.network.specs.Network.{Network, Label, Domains, loaded, supports}
-use Rattle.disac4.proofs.Calm.{Calm, by-treat}
+use Rattle.network.specs.Network.{Label, Domains, loaded, supports}
+use Rattle.disac4.proofs.ByTreat.{by-treat}
 use Rattle.disac4.proofs.Counters.{Accounts, loaded-counts, load-accounts, move-accounts, accounts}
 use Rattle.disac4.proofs.Moves.{Moves, Worker, kept}
 use Rattle.disac4.proofs.Occurrences.{treatedBy}
-use Rattle.disac4.proofs.Remaining.{untreatedSupport, remaining, support-remains, remains-support, loses-owner, loses-support, now-deleted, head-loaded, lowered-counts}
+use Rattle.disac4.proofs.Remaining.{support-remains, remains-support, loses-owner, loses-support, now-deleted, head-loaded, lowered-counts}
 use Rattle.disac4.proofs.Sound.{Sound, Quiet}
 use Rattle.disac4.proofs.Treated.{treated-exactly}
 use Rattle.disac4.specs.Action.{loses, lowered, deletes, afterTreat}
@@ -62,7 +60,7 @@ module _ (sys : System) (e : Domains) (c : ConsistentWithin (sys .net) e) where
       omega (
         arith,
         eqb-true (loadedCounter (sys .net) x v y) 0
-        (and-right (sys .net .linked x y) (eqb (loadedCounter (sys .net) x v y) 0) t),
+            (and-right (sys .net .linked x y) (eqb (loadedCounter (sys .net) x v y) 0) t),
         loaded-counts sys x v inside y,
         support-remains sys [] x v y w b s refl,
       ))))
@@ -71,7 +69,7 @@ module _ (sys : System) (e : Domains) (c : ConsistentWithin (sys .net) e) where
       inside = c .within x v p
 
   module _ (st : State) (es : List Event) (b : Accounts sys st es) (inner : Within e (st .domain))
-    (k : ℕ) (a : Label) (rest : List Label) (worker : Worker sys k) (oldest : st .workList k ≡ a ∷ rest) where
+      (k : ℕ) (a : Label) (rest : List Label) (worker : Worker sys k) (oldest : st .workList k ≡ a ∷ rest) where
     -- and where a treat lowers a counter, a support that nobody has treated remains
     remains : (x v : ℕ) → e x v ≡ true → loses sys k a st x v ≡ true → 0 < lowered sys k a st x v (a .variable)
     unfolding Within supports
@@ -84,14 +82,14 @@ module _ (sys : System) (e : Domains) (c : ConsistentWithin (sys .net) e) where
         omega (
           arith,
           lowered-counts sys st es (b .flow) k a rest worker oldest x v y (inner x v p)
-          (b .counters .counts x v (inner x v p) y),
+              (b .counters .counts x v (inner x v p) y),
           support-remains sys (es ++ (treated k a ∷ [])) x v y w i s
-          (omega (
-            arith,
-            now-deleted sys st es (b .flow) k a rest worker oldest y w,
-            ap one (in-domain sys st y w (inner y w q)),
-            ap (λ (o : ℕ). weigh (treatedBy y w o) (es ++ (treated k a ∷ []))) (loses-owner sys k a st x v l),
-          )),
+              (omega (
+                arith,
+                now-deleted sys st es (b .flow) k a rest worker oldest y w,
+                ap one (in-domain sys st y w (inner y w q)),
+                ap (λ (o : ℕ). weigh (treatedBy y w o) (es ++ (treated k a ∷ []))) (loses-owner sys k a st x v l),
+              )),
         )
 
     treat-keeps : Within e (afterTreat sys k a rest st .domain)
@@ -105,28 +103,30 @@ module _ (sys : System) (e : Domains) (c : ConsistentWithin (sys .net) e) where
           arith,
           remains x v p (and-left (loses sys k a st x v) (eqb (lowered sys k a st x v (a .variable)) 0) d),
           eqb-true (lowered sys k a st x v (a .variable)) 0
-          (and-right (loses sys k a st x v) (eqb (lowered sys k a st x v (a .variable)) 0) d),
+              (and-right (loses sys k a st x v) (eqb (lowered sys k a st x v (a .variable)) 0) d),
         ))))
 
-  record Kept (st : State) (es : List Event) : Type 0 where
+  -- the family within the domains, with what is known of flow and counters
+  record Contained (st : State) (es : List Event) : Type 0 where
     known : Accounts sys st es
     inner : Within e (st .domain)
 
-  -- every arc-consistent family of domains within the loaded ones lies inside the current domains, always
-  pub never-lost : Sound sys → (ts : List Turn) → Within e (play sys (load sys) ts .domain)
-  never-lost sound ts =
-      kept sys (sound .few) Kept
-      (λ st es s new o h m.
-      record {
-        known = move-accounts sys st es s new (h .known) m;
-        inner =
-            by-treat sys st (λ t n. Within e (t .domain))
-            (λ k a rest w q. treat-keeps st es (h .known) (h .inner) k a rest w q)
-            (λ t n q. rw (q .domain) (h .inner))
-            s new m;
-      })
-      ts (load sys) [] (record { known = load-accounts sys; inner = load-keeps })
-      .inner
+  move-keeps : (st : State) (es : List Event) (s : State) (new : List Event) → Contained st es → Moves sys st s new
+      → Contained s (es ++ new)
+  move-keeps st es s new h m = record {
+    known = move-accounts sys st es s new (h .known) m;
+    inner =
+        by-treat sys st (λ t n. Within e (t .domain)) (treat-keeps st es (h .known) (h .inner))
+        (λ t n p q u. rw p (h .inner)) s new m;
+  }
+
+-- every arc-consistent family of domains within the loaded ones lies inside the current domains, always
+pub never-lost : (sys : System) → Sound sys → (ts : List Turn) (e : Domains) → ConsistentWithin (sys .net) e
+    → Within e (play sys (load sys) ts .domain)
+never-lost sys sound ts e c =
+    kept sys (sound .few) (Contained sys e c) (λ st es s new o h m. move-keeps sys e c st es s new h m) ts (load sys) []
+    (record { known = load-accounts sys; inner = load-keeps sys e c })
+    .inner
 
 -- in a quiet state each worker has treated every deleted label, so a support that it has not treated is in the domain
 pub quiet-consistent : (sys : System) → Sound sys → (st : State) (es : List Event) → Accounts sys st es → Quiet sys st
@@ -160,7 +160,7 @@ quiet-largest sys sound ts q =
       within = known .counters .inside;
       consistent = quiet-consistent sys sound (play sys (load sys) ts) (events sys (load sys) ts) known q;
     })
-    (λ e c. never-lost sys e c sound ts)
+    (never-lost sys sound ts)
   where
     known : Accounts sys (play sys (load sys) ts) (events sys (load sys) ts)
     known = accounts sys sound ts

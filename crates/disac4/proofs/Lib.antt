@@ -1,4 +1,4 @@
-pub mod Calm
+pub mod ByTreat
 pub mod Channels
 pub mod Counters
 pub mod Deleted

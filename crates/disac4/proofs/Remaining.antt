@@ -2,30 +2,27 @@
 use Prim.Native.Nat.{ℕ, _+_, _-_, _<_, _≤_}
 use mathlib.Core.Bool.{Bool, true, false, cond, _&&_, not}
 use mathlib.Core.List.{List, [], _∷_, _++_}
-use mathlib.Core.Logic.{_⊎_, inl, inr, ⊎-elim}
+use mathlib.Core.Logic.{_⊎_, inl, inr}
 use mathlib.Core.Path.{_≡_, refl, sym, _∙_, ap}
 use native.Mathlib.Omega.{arith}
-use borrow.Author.Tests.{eqb-true, eqb-false, eq-eqb, ne-eqb, not-true, not-false}
+use borrow.Author.Tests.{eqb-true, eq-eqb}
 use lib.Dec.{eqb}
-use Rattle.base.proofs.Bools.{decided, clash, and-left, and-right, and-intro, and-false-left, and-false-right, refuted}
+use Rattle.base.proofs.Bools.{decided, clash, and-left, and-right, and-intro, and-false-right, refuted}
 use Rattle.base.proofs.Choice.{cond-true, cond-false}
 use Rattle.base.proofs.Sums.{sum-ext, sum-change, sum-part, sum-some, one-le, one-mono}
 use Rattle.base.proofs.Weight.{weigh, weigh-append}
 use Rattle.base.specs.Below.{sumBelow, one}
 use Rattle.network.proofs.Labels.{isLabel-same, isLabel-other, isLabel-eq}
 use Rattle.network.proofs.Loaded.{loaded-value}
-use Rattle.network.specs.Network.{Network, Label, label, isLabel, loaded, supports}
-use Rattle.disac4.proofs.Flow.{Flow, flows}
-use Rattle.disac4.proofs.Moves.{Moves, Worker, treats, sends, reads, hears, ignores, answers, asks, tallies, marks, drops, discards, kept}
+use Rattle.network.specs.Network.{Label, label, isLabel, loaded, supports}
+use Rattle.disac4.proofs.Flow.{Flow}
+use Rattle.disac4.proofs.Moves.{Worker}
 use Rattle.disac4.proofs.Occurrences.{occurs, treatedBy}
-use Rattle.disac4.proofs.Sound.{Sound}
 use Rattle.disac4.proofs.Treated.{treated-or-waits}
-use Rattle.disac4.specs.Action.{loses, lowered, deletes, afterTreat, afterSend, afterList, afterPoll, afterDrop, afterAnswer, afterAsk, afterCount, afterMark}
-use Rattle.disac4.specs.Event.{Event, treated, events, deleted}
-use Rattle.disac4.specs.Loading.{load}
+use Rattle.disac4.specs.Action.{loses, lowered}
+use Rattle.disac4.specs.Event.{Event, treated, deleted}
 use Rattle.disac4.specs.State.{State}
 use Rattle.disac4.specs.System.{System}
-use Rattle.disac4.specs.Turn.{Turn, play}
 
 -- 1 for a support that the label's owner has not treated
 abbrev pub untreatedSupport : System → List Event → ℕ → ℕ → ℕ → ℕ → ℕ
@@ -73,8 +70,8 @@ remains-support sys es x v y h =
 
 -- ---- worker `k` treats `a`
 
--- the labels that lose a support are `k`'s own, and the label treated is the support
 module _ (sys : System) (k : ℕ) (a : Label) (st : State) (x v : ℕ) (l : loses sys k a st x v ≡ true) where
+  -- a label that loses a support is `k`'s own
   pub loses-owner : sys .owner x ≡ k
   unfolding loses
   loses-owner =
@@ -82,13 +79,14 @@ module _ (sys : System) (k : ℕ) (a : Label) (st : State) (x v : ℕ) (l : lose
       (and-left (eqb (sys .owner x) k) (st .domain x v)
       (and-left (eqb (sys .owner x) k && st .domain x v) (supports (sys .net) x v (a .variable) (a .value)) l))
 
+  -- and the label treated is its support
   pub loses-support : supports (sys .net) x v (a .variable) (a .value) ≡ true
   unfolding loses
   loses-support =
       and-right (eqb (sys .owner x) k && st .domain x v) (supports (sys .net) x v (a .variable) (a .value)) l
 
 module _ (sys : System) (st : State) (es : List Event) (flow : (x v : ℕ) → Flow sys x v st es)
-  (k : ℕ) (a : Label) (rest : List Label) (worker : Worker sys k) (oldest : st .workList k ≡ a ∷ rest) where
+    (k : ℕ) (a : Label) (rest : List Label) (worker : Worker sys k) (oldest : st .workList k ≡ a ∷ rest) where
   abbrev now : List Event
   now = es ++ (treated k a ∷ [])
 
@@ -136,16 +134,16 @@ module _ (sys : System) (st : State) (es : List Event) (flow : (x v : ℕ) → F
       omega (
         arith,
         sum-change (sys .net .size y) (untreatedSupport sys es x v y) (untreatedSupport sys now x v y) w
-        (loaded-value (sys .net) y w head-loaded)
-        (λ j h n.
-        sym
-        (support-ext sys es now x v y j
-        (λ p.
-        omega (
-          arith,
-          now-treated (sys .owner x) y j,
-          ap one (and-false-right (eqb k (sys .owner x)) (isLabel-other y j y w (λ q r. n (sym r)))),
-        )))),
+            (loaded-value (sys .net) y w head-loaded)
+            (λ j h n.
+            sym
+            (support-ext sys es now x v y j
+            (λ p.
+            omega (
+              arith,
+              now-treated (sys .owner x) y j,
+              ap one (and-false-right (eqb k (sys .owner x)) (isLabel-other y j y w (λ q r. n (sym r)))),
+            )))),
         cond-true (1 - weigh (treatedBy y w (sys .owner x)) es) 0 supported,
         cond-true (1 - weigh (treatedBy y w (sys .owner x)) now) 0 supported,
         now-treated (sys .owner x) y w,

@@ -1,6 +1,6 @@
 -- What the flow of a label says of its treats, sends and reads: never more than its one deletion, and in a quiet state
 -- exactly that.
-use Prim.Native.Nat.{ℕ, _+_, _<_, _≤_}
+use Prim.Native.Nat.{ℕ, _+_, _≤_}
 use mathlib.Core.Bool.{Bool, true, false, cond, _&&_}
 use mathlib.Core.List.{List, [], _∷_}
 use mathlib.Core.Path.{_≡_, refl, sym, ap}
@@ -60,25 +60,25 @@ module _ (sys : System) (x v : ℕ) (st : State) (es : List Event) (f : Flow sys
   treated-or-waits k w =
       elim (ℕ-discrete k (sys .owner x)) [
         | yes e ↦
-          omega (
-            arith,
-            own sys x v st,
-            ap (deletedBy sys x v st) e,
-            f .treating k (w .above),
-            f .unread-own k,
-            ap (λ (j : ℕ). weigh (readBy x v k j) es) e,
-            cond-true 0 (sentLater sys x v st k) (eq-eqb k (sys .owner x) e),
-          )
+            omega (
+              arith,
+              own sys x v st,
+              ap (deletedBy sys x v st) e,
+              f .treating k (w .above),
+              f .unread-own k,
+              ap (λ (j : ℕ). weigh (readBy x v k j) es) e,
+              cond-true 0 (sentLater sys x v st k) (eq-eqb k (sys .owner x) e),
+            )
         | no n ↦
-          omega (
-            arith,
-            own sys x v st,
-            other sys x v st k n,
-            f .treating k (w .above),
-            f .reading (sys .owner x) k (w .within) n,
-            f .sending (sys .owner x),
-            cond-false 0 (sentLater sys x v st k) (ne-eqb k (sys .owner x) n),
-          )
+            omega (
+              arith,
+              own sys x v st,
+              other sys x v st k n,
+              f .treating k (w .above),
+              f .reading (sys .owner x) k (w .within) n,
+              f .sending (sys .owner x),
+              cond-false 0 (sentLater sys x v st k) (ne-eqb k (sys .owner x) n),
+            )
       ]
 
   module _ (o : Worker sys (sys .owner x)) (q : Quiet sys st) where
