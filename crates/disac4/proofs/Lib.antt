@@ -10,5 +10,6 @@ pub mod Occurrences
 pub mod Pointwise
 pub mod Remaining
 pub mod Sound
+pub mod Steps
 pub mod Treated
 pub mod Worked
