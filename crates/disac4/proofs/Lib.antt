@@ -1,4 +1,5 @@
 pub mod Channels
+pub mod Conservation
 pub mod Moves
 pub mod Sound
 pub mod Worked
