@@ -9,7 +9,7 @@ use native.Mathlib.Nat.{not-suc-le-zero}
 use native.Mathlib.Omega.{arith}
 use borrow.Author.Tests.{ne-eqb}
 use lib.Dec.{eqb}
-use Rattle.base.proofs.Bools.{clash, refuted, or-false, or-false-left, or-false-right, and-left, and-right, and-intro, not-of}
+use Rattle.base.proofs.Bools.{clash, refuted, or-false, or-false-left, or-false-right, and-left, and-right, and-intro, and-false-left, not-of, not-of-true}
 use Rattle.base.proofs.Choice.{anyOf-split}
 use Rattle.base.proofs.Weight.{weigh, weigh-append}
 use Rattle.base.specs.Choice.{anyOf}
@@ -71,6 +71,12 @@ module _ (n : ℕ) where
   first-pass (list labels) l i r e = absurd (omega arith)
   first-pass (poll q) l i r e = e
   first-pass (reply k) l i r e = and-right (not (eqb (k .0) n)) _ e
+
+  -- a reply to the poll comes first itself
+  pub reply-first : (m : Message) (l : List Message) → isReply n m ≡ true → listFirst n (m ∷ l) ≡ false
+  reply-first (list labels) l r = absurd (false≢true r)
+  reply-first (poll q) l r = absurd (false≢true r)
+  reply-first (reply k) l r = and-false-left (listFirst n l) (not-of-true r)
 
   -- no reply to a poll that is not yet asked
   pub none-replied : (p N : ℕ) (asked : Bool) (D j k : ℕ) (l : List Message) → N < n → Each (Fits p N asked D j k) l

@@ -98,6 +98,15 @@ module _ (p N : ℕ) (asked : Bool) (D : ℕ) where
     polls-later : (held : ℕ → Option Poll) → HeldPolls N asked D held → HeldPolls N′ asked′ D′ held
     polls-later held h k q e = timely-later q (h k q e)
 
+-- no actor has a channel to itself
+pub no-self : {sys : System} {st : State} → Typed sys st → (k : ℕ) → st .channel k k ≡ []
+no-self {sys} {st} t k = go (st .channel k k) (t .messages k k)
+  where
+    go : (l : List Message)
+        → Each (Fits (sys .workers) (st .controller .timestamp) (st .controller .pollOpen) (st .listCounter 0) k k) l → l ≡ []
+    go [] h = refl
+    go (m ∷ l) h = absurd (h .0 .other refl)
+
 -- ---- every move keeps it
 
 module _ {sys : System} {st : State} (t : Typed sys st) where
