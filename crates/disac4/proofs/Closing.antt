@@ -23,7 +23,7 @@ use Rattle.disac4.proofs.Every.{at-update, at-update₂, at-broadcast}
 use Rattle.disac4.proofs.Moves.{Worker, Moves, treats, sends, reads, hears, ignores, answers, asks, tallies, marks, drops, discards}
 use Rattle.disac4.proofs.Replies.{isReply, replied, listFirst, first-append, first-some, first-sent, first-pass, replied-append, reply-first, none-replied}
 use Rattle.disac4.proofs.Sound.{isList, Quiet}
-use Rattle.disac4.proofs.Typed.{Typed, no-self}
+use Rattle.disac4.proofs.Typed.{Typed, no-self, not-controller, controller-count}
 use Rattle.disac4.specs.Action.{isEmpty, ready, current, allMarked, broadcast, afterTreat, afterSend, afterList, afterPoll, afterDrop, afterAnswer, afterAsk, afterCount, afterMark}
 use Rattle.disac4.specs.Event.{Event}
 use Rattle.disac4.specs.Loading.{load}
@@ -113,9 +113,6 @@ module _ (sys : System) (st : State) where
   abbrev Now : Type 0
   Now = With marked (st .channel) (st .listCounter) (st .workList) (st .toSend)
 
-  not-controller : {k : ℕ} → Worker sys k → 0 ≡ k → ⊥
-  not-controller w e = omega (arith, w .above)
-
   -- a channel to a worker changes
   aside : (j k : ℕ) (l : List Message) → Worker sys k → (i : ℕ) → update₂ (st .channel) j k l i 0 ≡ st .channel i 0
   aside j k l w i = update₂-second (st .channel) j k l i 0 (not-controller w)
@@ -157,7 +154,7 @@ module _ (sys : System) (st : State) where
           no-send = x .no-send;
           counts =
               update-other (st .listCounter) k m i other
-              ∙ (x .counts ∙ sym (update-other (st .listCounter) k m 0 (not-controller w)));
+              ∙ (x .counts ∙ sym (controller-count (st .listCounter) k m w));
         }
       ])
 

@@ -2,6 +2,7 @@ pub mod Channels
 pub mod Closing
 pub mod Conservation
 pub mod Every
+pub mod Expected
 pub mod Moves
 pub mod Replies
 pub mod Sound

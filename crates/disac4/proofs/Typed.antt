@@ -17,6 +17,14 @@ use Rattle.disac4.specs.Loading.{load}
 use Rattle.disac4.specs.State.{State, Message, list, poll, reply, Poll}
 use Rattle.disac4.specs.System.{System}
 
+-- a worker is not the controller
+pub not-controller : {sys : System} {k : ℕ} → Worker sys k → 0 ≡ k → ⊥
+not-controller w e = omega (arith, w .above)
+
+-- nor is its count the controller's
+pub controller-count : {sys : System} (C : ℕ → ℕ) (k n : ℕ) → Worker sys k → update C k n 0 ≡ C 0
+controller-count C k n w = update-other C k n 0 (not-controller w)
+
 -- ---- over the controller's figures: its timestamp `N`, whether a poll is `asked`, and its count of lists `D`
 
 -- a poll that the controller asked; it wants the controller's count, if it is the open one
@@ -124,23 +132,19 @@ module _ {sys : System} {st : State} (t : Typed sys st) where
       → Messages (sys .workers) N asked D (update₂ (st .channel) j k rest)
   taking j k m rest e = take-typed (sys .workers) N asked D (st .channel) j k m rest e (t .messages)
 
-  -- a worker's count is not the controller's
-  controller-count : (k n : ℕ) → Worker sys k → update (st .listCounter) k n 0 ≡ D
-  controller-count k n w = update-other (st .listCounter) k n 0 (λ e. omega (arith, w .above))
-
   -- every move keeps the channels typed
   pub typed-move : {s : State} {new : List Event} → Moves sys st s new → Typed sys s
   unfolding pollOf afterTreat afterSend afterList afterPoll afterDrop afterAnswer afterAsk afterCount afterMark
   typed-move (treats k a rest w e) = record { messages = t .messages; polls = t .polls }
   typed-move (sends k w e) = record {
     messages =
-        rw (controller-count k (suc (st .listCounter k)) w)
+        rw (controller-count (st .listCounter) k (suc (st .listCounter k)) w)
         (broadcast-typed (sys .workers) N asked D (st .channel) k (list (st .toSend k)) (w .within) (λ i. w .above) (t .messages));
-    polls = rw (controller-count k (suc (st .listCounter k)) w) (t .polls);
+    polls = rw (controller-count (st .listCounter) k (suc (st .listCounter k)) w) (t .polls);
   }
   typed-move (reads j k labels rest w h n e) = record {
-    messages = rw (controller-count k (suc (st .listCounter k)) w) (taking j k (list labels) rest e);
-    polls = rw (controller-count k (suc (st .listCounter k)) w) (t .polls);
+    messages = rw (controller-count (st .listCounter) k (suc (st .listCounter k)) w) (taking j k (list labels) rest e);
+    polls = rw (controller-count (st .listCounter) k (suc (st .listCounter k)) w) (t .polls);
   }
   typed-move (hears j k q rest w h n e) = record {
     messages = taking j k (poll q) rest e;
