@@ -5,6 +5,7 @@ pub mod Every
 pub mod Expected
 pub mod Moves
 pub mod Replies
+pub mod Safety
 pub mod Sound
 pub mod Typed
 pub mod Worked
