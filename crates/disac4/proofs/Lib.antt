@@ -4,6 +4,7 @@ pub mod Conservation
 pub mod Every
 pub mod Expected
 pub mod Moves
+pub mod Progress
 pub mod Replies
 pub mod Safety
 pub mod Sound
