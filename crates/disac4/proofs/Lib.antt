@@ -3,6 +3,7 @@ pub mod Closing
 pub mod Conservation
 pub mod Every
 pub mod Expected
+pub mod Figures
 pub mod Moves
 pub mod Progress
 pub mod Replies
