@@ -103,6 +103,19 @@ module _ {ℓ} {A : Type ℓ} where
           ih (p ∙ (ap (λ (o : Option A). firstOf o (f n)) (sym p) ∙ e)) in
           (r .0, le-step (r .1), r .2, r .3)
 
+  -- the first result, where it is known at which index it stands
+  pub first-at : (n : ℕ) (f : ℕ → Option A) (i : ℕ) (a : A) → i < n → firstBelow i f ≡ none → f i ≡ some a
+      → firstBelow n f ≡ some a
+  first-at zero f i a h e p = absurd (not-suc-le-zero h)
+  first-at (suc n) f i a h e p =
+      ⊎-elim (λ q. rw (← q, e) p)
+      (λ q. ap (λ (o : Option A). firstOf o (f n)) (first-at n f i a q e p))
+      (below-cases h)
+
+  -- one more index without a result
+  pub first-more : (n : ℕ) (f : ℕ → Option A) → firstBelow n f ≡ none → f n ≡ none → firstBelow (n + 1) f ≡ none
+  first-more n f e p = rw (add-one, e) p
+
   -- no index has a result
   pub none-first : (n : ℕ) (f : ℕ → Option A) → firstBelow n f ≡ none → (i : ℕ) → i < n → f i ≡ none
   none-first zero f e i h = absurd (not-suc-le-zero h)

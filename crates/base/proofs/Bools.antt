@@ -61,6 +61,16 @@ pub or-false-right : (a b : Bool) → a || b ≡ false → b ≡ false
 or-false-right true b e = absurd (false≢true (sym e))
 or-false-right false b e = e
 
+-- the second of two tests holds where the first fails
+pub or-second : {a : Bool} (b : Bool) → a ≡ false → a || b ≡ true → b ≡ true
+or-second b p e = ap (λ (x : Bool). x || b) (sym p) ∙ e
+
+pub or-comm : (a b : Bool) → a || b ≡ b || a
+or-comm true true = refl
+or-comm true false = refl
+or-comm false true = refl
+or-comm false false = refl
+
 pub or-false : {a b : Bool} → a ≡ false → b ≡ false → a || b ≡ false
 or-false {a} {b} p q = ap (λ (x : Bool). x || b) p ∙ q
 

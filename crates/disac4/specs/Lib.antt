@@ -1,5 +1,6 @@
 pub mod Action
 pub mod Computes
+pub mod Demands
 pub mod Event
 pub mod Loading
 pub mod Outcome

@@ -1,3 +1,4 @@
+pub mod Chain
 pub mod Labels
 pub mod Largest
 pub mod Loaded

@@ -1,3 +1,4 @@
+pub mod Chain
 pub mod Computes
 pub mod Consistency
 pub mod Network

@@ -7,3 +7,5 @@ pub mod Format
 pub mod Known
 pub mod Network
 pub mod Plan
+pub mod Scan
+pub mod WellFormed

@@ -1,6 +1,6 @@
 -- `plan::constraint::check_constraint` gives the first fault of a constraint's section, in the order of its checks. Assumes nothing.
 use borrow.Author.Tests.{le-leb, lt-leb, eq-eqb, ne-eqb}
-use Rattle.plan.proofs.Checks.{holds, fails}
+use Rattle.plan.proofs.Branches.{holds, fails}
 use Rattle.plan.specs.Check.{constraintChecks}
 use borrow.Author.Needs.{needs}
 use Rattle.plan.proofs.constraint.check_constraint.Statement.{statement}

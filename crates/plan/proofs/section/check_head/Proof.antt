@@ -1,5 +1,5 @@
 use borrow.Author.Tests.{eq-eqb, ne-eqb}
-use Rattle.plan.proofs.Checks.{holds, fails}
+use Rattle.plan.proofs.Branches.{holds, fails}
 use Rattle.plan.specs.Check.{headChecks}
 use borrow.Author.Needs.{needs}
 use Rattle.plan.proofs.section.check_head.Statement.{statement}

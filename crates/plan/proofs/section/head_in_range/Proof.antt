@@ -1,5 +1,5 @@
 -- `plan::section::head_in_range` says whether the head's three counts are in range. Assumes nothing.
-use Rattle.plan.proofs.Checks.{holds, fails}
+use Rattle.plan.proofs.Branches.{holds, fails}
 use Rattle.plan.specs.Check.{headInRange}
 use borrow.Author.Needs.{needs}
 use Rattle.plan.proofs.section.head_in_range.Statement.{statement}

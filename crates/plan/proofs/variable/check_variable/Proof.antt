@@ -1,6 +1,6 @@
 -- `plan::variable::check_variable` gives the first fault of a variable's section, in the order of its checks. Assumes nothing.
 use borrow.Author.Tests.{le-leb, lt-leb, eq-eqb, ne-eqb}
-use Rattle.plan.proofs.Checks.{holds, fails}
+use Rattle.plan.proofs.Branches.{holds, fails}
 use Rattle.plan.specs.Check.{variableChecks}
 use borrow.Author.Needs.{needs}
 use Rattle.plan.proofs.variable.check_variable.Statement.{statement}

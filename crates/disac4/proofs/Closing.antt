@@ -1,0 +1,413 @@
+-- Closing is safe: an open poll either cannot be answered by all, or no list message is on its way to the controller and
+-- every worker that replied has nothing left to do.
+use Prim.Native.Nat.{ℕ, zero, suc, _+_, _<_, _≤_}
+use mathlib.Core.Bool.{Bool, true, false, cond, _&&_, _||_, not, false≢true}
+use mathlib.Core.List.{List, [], _∷_, _++_}
+use mathlib.Core.Logic.{_⊎_, inl, inr, ⊎-elim}
+use mathlib.Core.Option.{some}
+use mathlib.Core.Path.{_≡_, refl, sym, _∙_, ap, subst}
+use native.Mathlib.Decide.{ℕ-discrete}
+use native.Mathlib.Omega.{arith}
+use borrow.Author.Tests.{eqb-true, eqb-false, eq-eqb, ne-eqb}
+use lib.Dec.{eqb}
+use Rattle.base.proofs.Bools.{decided, clash, refuted, and-left, and-right, and-intro, and-false, or-left, or-right, or-false-right}
+use Rattle.base.proofs.Below.{all-below}
+use Rattle.base.proofs.Choice.{update-same, update-other, update₂-same, update₂-first, update₂-second}
+use Rattle.base.proofs.Sums.{sum-some, sum-none}
+use Rattle.base.proofs.Weight.{weigh}
+use Rattle.base.specs.Choice.{update, update₂}
+use Rattle.network.specs.Network.{Label}
+use Rattle.disac4.proofs.Channels.{Channels, into, into-take, into-put, into-same, into-other, broadcast-to, broadcast-self}
+use Rattle.disac4.proofs.Conservation.{Conserved}
+use Rattle.disac4.proofs.Every.{at-update, at-update₂, at-broadcast}
+use Rattle.disac4.proofs.Moves.{Worker, Moves, treats, sends, reads, hears, ignores, answers, asks, tallies, marks, drops, discards}
+use Rattle.disac4.proofs.Replies.{isReply, replied, listFirst, first-append, first-some, first-sent, first-pass, replied-append, reply-first, none-replied}
+use Rattle.disac4.proofs.Sound.{isList, Quiet}
+use Rattle.disac4.proofs.Typed.{Typed, no-self, not-controller, controller-count}
+use Rattle.disac4.specs.Action.{isEmpty, ready, current, allMarked, broadcast, afterTreat, afterSend, afterList, afterPoll, afterDrop, afterAnswer, afterAsk, afterCount, afterMark}
+use Rattle.disac4.specs.Event.{Event}
+use Rattle.disac4.specs.Loading.{load}
+use Rattle.disac4.specs.State.{State, Message, list, poll, reply, Poll, Controller}
+use Rattle.disac4.specs.System.{System}
+
+-- ---- over the timestamp `n`, the marks, the channels, the counts of lists, the work lists and the to-send lists
+
+-- a worker that is not marked will end poll `n`: the controller reads a list message before its reply
+pub record Doomed (sys : System) (n : ℕ) (marked : ℕ → Bool) (c : Channels) : Type 0 where
+  pub worker : ℕ
+  pub is-worker : Worker sys worker
+  pub unmarked : marked worker ≡ false
+  pub first : listFirst n (c worker 0) ≡ true
+
+-- worker `k` has not replied
+pub record Waiting (n : ℕ) (marked : ℕ → Bool) (c : Channels) (k : ℕ) : Type 0 where
+  pub unmarked : marked k ≡ false
+  pub no-reply : replied n (c k 0) ≡ false
+
+-- worker `k` has nothing to do, and counts as many lists as the controller
+pub record Idle (C : ℕ → ℕ) (W O : ℕ → List Label) (k : ℕ) : Type 0 where
+  pub no-work : W k ≡ []
+  pub no-send : O k ≡ []
+  pub counts : C k ≡ C 0
+
+-- the controller has read every list message, and whoever replied is idle
+pub record Agreed (sys : System) (n : ℕ) (marked : ℕ → Bool) (c : Channels) (C : ℕ → ℕ) (W O : ℕ → List Label) : Type 0 where
+  pub all-read : into isList (sys .workers) c 0 ≡ 0
+  pub each : (k : ℕ) → Worker sys k → Waiting n marked c k ⊎ Idle C W O k
+
+-- what holds of an open poll
+abbrev pub Poised : System → ℕ → (ℕ → Bool) → Channels → (ℕ → ℕ) → (ℕ → List Label) → (ℕ → List Label) → Type 0
+Poised sys n marked c C W O = Doomed sys n marked c ⊎ Agreed sys n marked c C W O
+
+abbrev pub Closing : System → State → Type 0
+Closing sys st =
+    st .controller .pollOpen ≡ true
+    → Poised sys (st .controller .timestamp) (st .controller .marked) (st .channel) (st .listCounter) (st .workList) (st .toSend)
+
+module _ {sys : System} {n : ℕ} {marked marked′ : ℕ → Bool} {c d : Channels} where
+  -- a poll stays doomed while no worker without a mark gets one, nor loses the list message in front
+  doomed-map : ((k : ℕ) → Worker sys k → marked k ≡ false → listFirst n (c k 0) ≡ true
+      → (marked′ k ≡ false) × (listFirst n (d k 0) ≡ true))
+      → Doomed sys n marked c → Doomed sys n marked′ d
+  doomed-map f x =
+      let r = f (x .worker) (x .is-worker) (x .unmarked) (x .first) in
+      record { worker = x .worker; is-worker = x .is-worker; unmarked = r .0; first = r .1 }
+
+  agreed-map : {C C′ : ℕ → ℕ} {W W′ O O′ : ℕ → List Label}
+      → into isList (sys .workers) d 0 ≡ into isList (sys .workers) c 0
+      → ((k : ℕ) → Worker sys k → Waiting n marked c k ⊎ Idle C W O k → Waiting n marked′ d k ⊎ Idle C′ W′ O′ k)
+      → Agreed sys n marked c C W O → Agreed sys n marked′ d C′ W′ O′
+  agreed-map e f x = record { all-read = e ∙ x .all-read; each = λ k w. f k w (x .each k w) }
+
+-- no channel to the controller changes, and no worker that is idle gets something to do
+still : {sys : System} {n : ℕ} {marked : ℕ → Bool} {c d : Channels} {C C′ : ℕ → ℕ} {W W′ O O′ : ℕ → List Label}
+    → ((k : ℕ) → d k 0 ≡ c k 0)
+    → (into isList (sys .workers) c 0 ≡ 0 → (k : ℕ) → Worker sys k → Idle C W O k → Idle C′ W′ O′ k)
+    → Poised sys n marked c C W O → Poised sys n marked d C′ W′ O′
+still {sys} {n} {marked} {c} {d} same f (inl x) = inl (doomed-map (λ k w u e. (u, rw (same k) e)) x)
+still {sys} {n} {marked} {c} {d} same f (inr x) =
+    inr
+    (agreed-map (into-same isList (sys .workers) c d 0 same)
+    (λ k w. ⊎-elim (λ y. inl (record { unmarked = y .unmarked; no-reply = rw (same k) (y .no-reply) }))
+    (λ y. inr (f (x .all-read) k w y)))
+    x)
+
+-- ---- every move keeps it
+
+pub empty {ℓ} : {A : Type ℓ} (l : List A) → isEmpty l ≡ true → l ≡ []
+empty [] e = refl
+empty (a ∷ l) e = absurd (false≢true e)
+
+module _ (sys : System) (st : State) where
+  abbrev n : ℕ
+  n = st .controller .timestamp
+
+  abbrev marked : ℕ → Bool
+  marked = st .controller .marked
+
+  -- what holds of an open poll with other marks, channels, counts and lists
+  abbrev With : (ℕ → Bool) → Channels → (ℕ → ℕ) → (ℕ → List Label) → (ℕ → List Label) → Type 0
+  With marked′ d C W O = Poised sys n marked′ d C W O
+
+  -- as it stands
+  abbrev Now : Type 0
+  Now = With marked (st .channel) (st .listCounter) (st .workList) (st .toSend)
+
+  -- a channel to a worker changes
+  aside : (j k : ℕ) (l : List Message) → Worker sys k → (i : ℕ) → update₂ (st .channel) j k l i 0 ≡ st .channel i 0
+  aside j k l w i = update₂-second (st .channel) j k l i 0 (not-controller w)
+
+  treating : (k : ℕ) (a : Label) (rest W O : List Label) → st .workList k ≡ a ∷ rest → Now
+      → With marked (st .channel) (st .listCounter) (update (st .workList) k W) (update (st .toSend) k O)
+  treating k a rest W O e =
+      still (λ i. refl)
+      (λ r i v x.
+      elim (ℕ-discrete i k) [
+        | yes same ↦ absurd (let z : _≡_ {A = ℕ} 0 1 = cc (ap (st .workList) same, x .no-work) in omega arith)
+        | no other ↦ record {
+          no-work = update-other (st .workList) k W i other ∙ x .no-work;
+          no-send = update-other (st .toSend) k O i other ∙ x .no-send;
+          counts = x .counts;
+        }
+      ])
+
+  reading : (es : List Event) → Conserved sys st es → (j k m : ℕ) (labels : List Label) (rest : List Message) (W : List Label) → Worker sys k → j ≤ sys .workers
+      → st .channel j k ≡ list labels ∷ rest → Now
+      → With marked (update₂ (st .channel) j k rest) (update (st .listCounter) k m) (update (st .workList) k W) (st .toSend)
+  reading es conserved j k m labels rest W w h e =
+      still (aside j k rest w)
+      (λ r i v x.
+      elim (ℕ-discrete i k) [
+        | yes same ↦
+          absurd
+          (omega (
+            arith,
+            conserved k (w .within),
+            conserved 0 (omega arith),
+            r,
+            ap (st .listCounter) same,
+            x .counts,
+            into-take isList (sys .workers) (st .channel) j k (list labels) rest h e,
+          ))
+        | no other ↦ record {
+          no-work = update-other (st .workList) k W i other ∙ x .no-work;
+          no-send = x .no-send;
+          counts =
+              update-other (st .listCounter) k m i other
+              ∙ (x .counts ∙ sym (controller-count (st .listCounter) k m w));
+        }
+      ])
+
+  sending : (k : ℕ) (C : ℕ → ℕ) (O : ℕ → List Label) → Worker sys k → isEmpty (st .toSend k) ≡ false → Now
+      → With marked (broadcast (sys .workers) k (list (st .toSend k)) (st .channel)) C (st .workList) O
+  sending k C O w e (inl x) =
+      inl
+      (doomed-map
+      (λ i v u f.
+      (u, at-broadcast (λ j i l. listFirst n (st .channel j i) ≡ true → listFirst n l ≡ true) (sys .workers) k
+      (list (st .toSend k)) (st .channel) (λ i b d. first-append n (st .channel k i) (list (st .toSend k) ∷ []))
+      (λ j i y. y) i 0 f))
+      x)
+  sending k C O w e (inr x) =
+      ⊎-elim
+      (λ y.
+      inl
+      (record {
+        worker = k;
+        is-worker = w;
+        unmarked = y .unmarked;
+        first =
+            rw (broadcast-to (sys .workers) k (list (st .toSend k)) (st .channel) 0 (omega arith) (not-controller w))
+            (first-sent n (st .channel k 0) (st .toSend k) (y .no-reply));
+      }))
+      (λ y. clash (ap isEmpty (y .no-send)) e)
+      (x .each k w)
+
+  -- the controller takes a message of no account to the poll
+  passing : (k : ℕ) (m : Message) (rest : List Message) → Worker sys k → st .channel k 0 ≡ m ∷ rest → isList m ≡ 0
+      → isReply n m ≡ false → Now
+      → With marked (update₂ (st .channel) k 0 rest) (st .listCounter) (st .workList) (st .toSend)
+  passing k m rest w e no-list no-reply (inl x) =
+      inl
+      (doomed-map
+      (λ i v u f.
+      (u, at-update₂ (λ j i l. listFirst n (st .channel j i) ≡ true → listFirst n l ≡ true) (st .channel) k 0 rest
+      (λ y. first-pass n m rest no-list no-reply (rw e at y)) (λ j i y. y) i 0 f))
+      x)
+  passing k m rest w e no-list no-reply (inr x) =
+      inr
+      (agreed-map
+      (omega (arith, into-take isList (sys .workers) (st .channel) k 0 m rest (w .within) e))
+      (λ i v.
+      ⊎-elim
+      (λ y.
+      inl
+      (record {
+        unmarked = y .unmarked;
+        no-reply =
+            at-update₂ (λ j i l. replied n (st .channel j i) ≡ false → replied n l ≡ false) (st .channel) k 0 rest
+            (λ z. or-false-right (isReply n m) (replied n rest) (rw e at z)) (λ j i z. z) i 0 (y .no-reply);
+      }))
+      inr)
+      x)
+
+  -- worker `k`, which is idle if this is the open poll, replies to it
+  answering : (k : ℕ) (m : Message) → Worker sys k → isList m ≡ 0
+      → (isReply n m ≡ true → Idle (st .listCounter) (st .workList) (st .toSend) k) → Now
+      → With marked (update₂ (st .channel) k 0 (st .channel k 0 ++ (m ∷ []))) (st .listCounter) (st .workList) (st .toSend)
+  answering k m w no-list idle (inl x) =
+      inl
+      (doomed-map
+      (λ i v u f.
+      (u, at-update₂ (λ j i l. listFirst n (st .channel j i) ≡ true → listFirst n l ≡ true) (st .channel) k 0 _
+      (first-append n (st .channel k 0) (m ∷ [])) (λ j i y. y) i 0 f))
+      x)
+  answering k m w no-list idle (inr x) =
+      inr
+      (agreed-map (omega (arith, into-put isList (sys .workers) (st .channel) k 0 m (w .within)))
+      (λ i v. ⊎-elim (λ y. waiting i y (decided (isReply n m))) inr) x)
+    where
+      after : Channels
+      after = update₂ (st .channel) k 0 (st .channel k 0 ++ (m ∷ []))
+
+      waiting : (i : ℕ) → Waiting n marked (st .channel) i → (isReply n m ≡ true) ⊎ (isReply n m ≡ false)
+          → Waiting n marked after i ⊎ Idle (st .listCounter) (st .workList) (st .toSend) i
+      waiting i y (inr r) =
+          inl
+          (record {
+            unmarked = y .unmarked;
+            no-reply =
+                at-update₂ (λ j i l. replied n (st .channel j i) ≡ false → replied n l ≡ false) (st .channel) k 0 _
+                (λ z. replied-append n (st .channel k 0) m z r) (λ j i z. z) i 0 (y .no-reply);
+          })
+      waiting i y (inl r) =
+          elim (ℕ-discrete i k) [
+            | yes same ↦ inr (rw same (idle r))
+            | no other ↦ inl (record {
+              unmarked = y .unmarked;
+              no-reply = rw (update₂-first (st .channel) k 0 (st .channel k 0 ++ (m ∷ [])) i 0 other) (y .no-reply);
+            })
+          ]
+
+  -- the controller takes a reply to the poll
+  marking : (k : ℕ) (m : Message) (rest : List Message) → Worker sys k → st .channel k 0 ≡ m ∷ rest → isList m ≡ 0
+      → isReply n m ≡ true → Now
+      → With (update marked k true) (update₂ (st .channel) k 0 rest) (st .listCounter) (st .workList) (st .toSend)
+  marking k m rest w e no-list is-reply (inl x) =
+      inl
+      (doomed-map
+      (λ i v u f.
+      elim (ℕ-discrete i k) [
+        | yes same ↦ clash (rw (same, e) at f) (reply-first n m rest is-reply)
+        | no other ↦ (
+          update-other marked k true i other ∙ u,
+          rw (update₂-first (st .channel) k 0 rest i 0 other) f,
+        )
+      ])
+      x)
+  marking k m rest w e no-list is-reply (inr x) =
+      inr
+      (agreed-map
+      (omega (arith, into-take isList (sys .workers) (st .channel) k 0 m rest (w .within) e))
+      (λ i v.
+      ⊎-elim
+      (λ y.
+      elim (ℕ-discrete i k) [
+        | yes same ↦ clash (or-left (replied n rest) is-reply) (rw (same, e) at (y .no-reply))
+        | no other ↦ inl (record {
+          unmarked = update-other marked k true i other ∙ y .unmarked;
+          no-reply = rw (update₂-first (st .channel) k 0 rest i 0 other) (y .no-reply);
+        })
+      ])
+      inr)
+      x)
+
+  -- the controller asks a poll: it is doomed exactly if a list message is on its way to the controller
+  asking : Typed sys st → (d : Channels) → ((i : ℕ) → d i 0 ≡ st .channel i 0)
+      → Poised sys (suc n) (λ k. false) d (st .listCounter) (st .workList) (st .toSend)
+  asking t d same = go (into isList (sys .workers) (st .channel) 0) refl
+    where
+      none-yet : (i : ℕ) → replied (suc n) (st .channel i 0) ≡ false
+      none-yet i =
+          none-replied (suc n) (sys .workers) n (st .controller .pollOpen) (st .listCounter 0) i 0 (st .channel i 0)
+          (omega arith) (t .messages i 0)
+
+      from-worker : (j : ℕ) → 0 < weigh isList (st .channel j 0) → 0 < j
+      from-worker j h =
+          elim (ℕ-discrete j 0) [
+            | yes same ↦ absurd (omega (arith, rw same at h, ap (weigh isList) (no-self t 0)))
+            | no other ↦ omega arith
+          ]
+
+      go : (l : ℕ) → into isList (sys .workers) (st .channel) 0 ≡ l
+          → Poised sys (suc n) (λ k. false) d (st .listCounter) (st .workList) (st .toSend)
+      go zero e =
+          inr
+          (record {
+            all-read = into-same isList (sys .workers) (st .channel) d 0 same ∙ e;
+            each = λ k w. inl (record { unmarked = refl; no-reply = rw (same k) (none-yet k) });
+          })
+      go (suc l) e =
+          let r = sum-some (suc (sys .workers)) (λ j. weigh isList (st .channel j 0)) (omega arith) in
+          inl
+          (record {
+            worker = r .0;
+            is-worker = record {
+              above = from-worker (r .0) (r .2);
+              within = omega (arith, r .1);
+            };
+            unmarked = refl;
+            first = rw (same (r .0)) (first-some (suc n) (st .channel (r .0) 0) (none-yet (r .0)) (r .2));
+          })
+
+  -- a worker that can answer the open poll is idle
+  ready-idle : Typed sys st → st .controller .pollOpen ≡ true → (k : ℕ) (q : Poll) → st .held k ≡ some q
+      → ready k q st ≡ true → eqb (q .number .0) n ≡ true → Idle (st .listCounter) (st .workList) (st .toSend) k
+  unfolding ready
+  ready-idle t o k q e r same =
+      let lists = and-left _ (eqb (st .listCounter k) (q .wanted .0)) r in
+      record {
+        no-work = empty (st .workList k) (and-left (isEmpty (st .workList k)) _ lists);
+        no-send = empty (st .toSend k) (and-right (isEmpty (st .workList k)) _ lists);
+        counts =
+            eqb-true (st .listCounter k) (q .wanted .0) (and-right (isEmpty (st .workList k) && isEmpty (st .toSend k)) _ r)
+            ∙ t .polls k q e .wants o (eqb-true (q .number .0) n same);
+      }
+
+  -- every move keeps what holds of an open poll
+  pub closing-move : {s : State} {new : List Event} (es : List Event) → Typed sys st → Conserved sys st es → Closing sys st
+      → Moves sys st s new → Closing sys s
+  unfolding ready current afterTreat afterSend afterList afterPoll afterDrop afterAnswer afterAsk afterCount afterMark
+  closing-move es t conserved g (treats k a rest w e) o = treating k a rest _ _ e (g o)
+  closing-move es t conserved g (sends k w e) o = sending k _ _ w e (g o)
+  closing-move es t conserved g (reads j k labels rest w h d e) o = reading es conserved j k _ labels rest _ w h e (g o)
+  closing-move es t conserved g (hears j k q rest w h d e) o = still (aside j k rest w) (λ r i v x. x) (g o)
+  closing-move es t conserved g (ignores j k i rest w h d e) o = still (aside j k rest w) (λ r i v x. x) (g o)
+  closing-move es t conserved g (answers k q w e r) o = 
+      answering k (reply (q .number)) w refl (ready-idle t o k q e r) (g o)
+  closing-move es t conserved g (asks e) o = asking t _ (λ i. broadcast-self (sys .workers) 0 _ (st .channel) i)
+  closing-move es t conserved g (tallies k labels rest w e) o = absurd (false≢true o)
+  closing-move es t conserved g (marks k i rest w e r) o = 
+      marking k (reply i) rest w e refl (and-right (st .controller .pollOpen) (eqb (i .0) n) r) (g o)
+  closing-move es t conserved g (drops k i rest w e r) o = 
+      passing k (reply i) rest w e refl
+      (⊎-elim (λ x. clash o x) (λ x. x) (and-false (st .controller .pollOpen) (eqb (i .0) n) r)) (g o)
+  closing-move es t conserved g (discards k q rest w e) o = passing k (poll q) rest w e refl refl (g o)
+
+-- the plan is closed exactly if a poll is open and all workers are marked
+pub record Closure (sys : System) (controller : Controller) : Type 0 where
+  pub asked : controller .closed ≡ true → controller .pollOpen ≡ true
+  pub exact : controller .pollOpen ≡ true → controller .closed ≡ allMarked sys (controller .marked)
+
+none-marked : (sys : System) → 0 < sys .workers → allMarked sys (λ k. false) ≡ false
+unfolding allMarked
+none-marked sys some-worker =
+    refuted _ (λ e. false≢true (all-below (sys .workers) (λ i. false) e 0 some-worker))
+
+-- every move in an open plan keeps it
+pub closure-move : {sys : System} {st s : State} {new : List Event} → 0 < sys .workers → st .controller .closed ≡ false
+    → Closure sys (st .controller) → Moves sys st s new → Closure sys (s .controller)
+unfolding current afterTreat afterSend afterList afterPoll afterDrop afterAnswer afterAsk afterCount afterMark
+closure-move p f g (treats k a rest w e) = g
+closure-move p f g (sends k w e) = g
+closure-move p f g (reads j k labels rest w h d e) = g
+closure-move p f g (hears j k q rest w h d e) = g
+closure-move p f g (ignores j k i rest w h d e) = g
+closure-move p f g (answers k q w e r) = g
+closure-move {sys} p f g (asks e) = record { asked = λ x. refl; exact = λ x. f ∙ sym (none-marked sys p) }
+closure-move p f g (tallies k labels rest w e) = record { asked = λ x. clash x f; exact = λ x. absurd (false≢true x) }
+closure-move p f g (marks k i rest w e r) = record { asked = λ x. and-left _ _ r; exact = λ x. refl }
+closure-move p f g (drops k i rest w e r) = g
+closure-move p f g (discards k q rest w e) = g
+
+-- with every worker marked, nothing is left to do
+pub all-marked-quiet : {sys : System} {st : State} (es : List Event) → Conserved sys st es → Closing sys st
+    → st .controller .pollOpen ≡ true → allMarked sys (st .controller .marked) ≡ true → Quiet sys st
+unfolding allMarked
+all-marked-quiet {sys} {st} es conserved g o all = ⊎-elim (λ x. clash (is-marked (x .worker) (x .is-worker)) (x .unmarked)) quiet (g o)
+  where
+    is-marked : (k : ℕ) → Worker sys k → st .controller .marked k ≡ true
+    is-marked zero w = absurd (omega (arith, w .above))
+    is-marked (suc k) w = all-below (sys .workers) (λ i. st .controller .marked (suc i)) all k (w .within)
+
+    quiet : Agreed sys (st .controller .timestamp) (st .controller .marked) (st .channel) (st .listCounter) (st .workList)
+        (st .toSend) → Quiet sys st
+    quiet x = record {
+      no-work = λ k w. idle k w .no-work;
+      no-send = λ k w. idle k w .no-send;
+      no-list = λ j k h b. sum-none (suc (sys .workers)) (λ j. weigh isList (st .channel j k)) (none-to k b) j (omega arith);
+    }
+      where
+        idle : (k : ℕ) → Worker sys k → Idle (st .listCounter) (st .workList) (st .toSend) k
+        idle k w = ⊎-elim (λ y. clash (is-marked k w) (y .unmarked)) (λ y. y) (x .each k w)
+
+        none-to : (k : ℕ) → k ≤ sys .workers → into isList (sys .workers) (st .channel) k ≡ 0
+        none-to zero b = x .all-read
+        none-to (suc k) b =
+            omega (
+              arith,
+              idle (suc k) (record { above = omega arith; within = b }) .counts,
+              conserved (suc k) b,
+              conserved 0 (omega arith),
+              x .all-read,
+            )

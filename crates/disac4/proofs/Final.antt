@@ -1,0 +1,49 @@
+-- What stays: a closed plan, and every deletion.
+use Prim.Native.Nat.{_≤_}
+use mathlib.Core.Bool.{true, not}
+use mathlib.Core.List.{List, [], _∷_}
+use mathlib.Core.Option.{none}
+use mathlib.Core.Path.{_≡_, refl, _∙_, ap}
+use Rattle.base.proofs.Bools.{and-left}
+use Rattle.network.specs.Consistency.{Within}
+use Rattle.disac4.proofs.Moves.{Moves, treats, sends, reads, hears, ignores, answers, asks, tallies, marks, drops, discards, after-idle, kept}
+use Rattle.disac4.specs.Action.{deletes, afterTreat, afterSend, afterList, afterPoll, afterDrop, afterAnswer, afterAsk, afterCount, afterMark}
+use Rattle.disac4.specs.Event.{Event}
+use Rattle.disac4.specs.State.{State}
+use Rattle.disac4.specs.System.{System}
+use Rattle.disac4.specs.Turn.{Turn, step, play}
+
+-- in a closed plan every turn is idle
+pub closed-idle : (sys : System) (st : State) → st .controller .closed ≡ true → (t : Turn) → step sys st t ≡ none
+unfolding step
+closed-idle sys st e t = rw e
+
+-- a closed plan never changes
+pub closed-stays : (sys : System) (st : State) → st .controller .closed ≡ true → (ts : List Turn) → play sys st ts ≡ st
+unfolding play
+closed-stays sys st e [] = refl
+closed-stays sys st e (t ∷ ts) =
+    ap (λ s. play sys s ts) (after-idle sys st t (closed-idle sys st e t)) ∙ closed-stays sys st e ts
+
+-- a turn puts no label back
+pub move-shrinks : {sys : System} {st s : State} {es : List Event} → Moves sys st s es → Within (s .domain) (st .domain)
+unfolding Within afterTreat afterSend afterList afterPoll afterDrop afterAnswer afterAsk afterCount afterMark
+move-shrinks {sys} {st} (treats k a rest w e) = λ x v h. and-left (st .domain x v) (not (deletes sys k a st x v)) h
+move-shrinks (sends k w e) = λ x v h. h
+move-shrinks (reads j k labels rest w b n e) = λ x v h. h
+move-shrinks (hears j k q rest w b n e) = λ x v h. h
+move-shrinks (ignores j k i rest w b n e) = λ x v h. h
+move-shrinks (answers k q w e r) = λ x v h. h
+move-shrinks (asks e) = λ x v h. h
+move-shrinks (tallies k labels rest w e) = λ x v h. h
+move-shrinks (marks k n rest w e c) = λ x v h. h
+move-shrinks (drops k n rest w e c) = λ x v h. h
+move-shrinks (discards k q rest w e) = λ x v h. h
+
+-- a deleted label stays deleted
+pub domain-shrinks : (sys : System) → sys .workers ≤ 8 → (st : State) (ts : List Turn)
+    → Within (play sys st ts .domain) (st .domain)
+unfolding Within
+domain-shrinks sys few st ts =
+    kept sys few (λ s es. Within (s .domain) (st .domain)) (λ s es s′ new c i m x v h. i x v (move-shrinks m x v h)) ts st []
+    (λ x v h. h)

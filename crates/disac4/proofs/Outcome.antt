@@ -1,0 +1,113 @@
+-- What a call leaves in the lent buffers, and which declines it can give.
+use Prim.Native.Nat.{ℕ, zero, suc, _+_, _-_, _<_, _≤_}
+use mathlib.Core.Bool.{Bool, true, false, cond}
+use mathlib.Core.List.{List, [], _∷_, _++_}
+use mathlib.Core.Logic.{_⊎_, inl, inr}
+use mathlib.Core.Option.{Option, none, some}
+use mathlib.Core.Path.{_≡_, refl, sym, _∙_, ap, subst}
+use native.Mathlib.Nat.{le-dest}
+use native.Mathlib.Omega.{arith}
+use lib.Dec.{leb}
+use lib.ListN.{length, getD, drop, replicate, length-append, length-drop, length-replicate, getD-replicate, List·getD-append}
+use lib.Seq.{getD-append-add, getD-drop}
+use Rattle.base.specs.Choice.{firstOf}
+use Rattle.disac4.specs.Outcome.{Outcome, overwrite, refused, played, unlessFault, turnRun, roundRun, bufferFault, inputFault, systemAt, workNeed}
+use Rattle.disac4.specs.Report.{listCells, final, reportOf}
+use Rattle.disac4.specs.Round.{roundRunTurns}
+use Rattle.disac4.specs.System.{System}
+use Rattle.disac4.specs.Turn.{Turn, turnsOf}
+use Rattle.disac4.specs.declared.Answer.{Answer}
+use Rattle.disac4.specs.declared.Answer.the-variants.{Reported, Declined}
+use Rattle.disac4.specs.declared.Report.{Report}
+use Rattle.plan.specs.Decode.{planFault}
+use Rattle.plan.specs.declared.Decline.{Decline}
+
+-- ---- writing over the first cells
+
+pub overwrite-front : (new cells : List ℕ) (i : ℕ) → i < length new → getD (overwrite new cells) i 0 ≡ getD new i 0
+unfolding overwrite
+overwrite-front new cells i h = List·getD-append new (drop (length new) cells) 0 i h
+
+pub overwrite-back : (new cells : List ℕ) (i : ℕ) → length new ≤ i → getD (overwrite new cells) i 0 ≡ getD cells i 0
+unfolding overwrite
+overwrite-back new cells i h =
+    let d = le-dest h in
+    subst (λ (j : ℕ). getD (new ++ drop (length new) cells) j 0 ≡ getD cells j 0) (d .1)
+    (getD-append-add new (drop (length new) cells) (d .0) 0 ∙ getD-drop (length new) cells (d .0) 0)
+
+pub overwrite-length : (new cells : List ℕ) → length new ≤ length cells → length (overwrite new cells) ≡ length cells
+unfolding overwrite
+overwrite-length new cells h =
+    omega (arith, length-append new (drop (length new) cells), length-drop (length new) cells)
+
+-- ---- the two ways in which a call ends
+
+-- a declined call changes no lent cell
+pub record Untouched (work lists : List ℕ) (o : Outcome) : Type 0 where
+  pub same-work : o .work ≡ work
+  pub same-lists : o .lists ≡ lists
+
+-- a run clears the first work cells, writes a cell for each variable, and keeps all later cells
+pub record Written (work lists : List ℕ) (sys : System) (turns : List Turn) (o : Outcome) : Type 0 where
+  pub cleared : (i : ℕ) → i < workNeed → getD (o .work) i 0 ≡ 0
+  pub work-kept : (i : ℕ) → workNeed ≤ i → getD (o .work) i 0 ≡ getD work i 0
+  pub cells : (i : ℕ) → i < length (listCells sys (final sys turns))
+      → getD (o .lists) i 0 ≡ getD (listCells sys (final sys turns)) i 0
+  pub lists-kept : (i : ℕ) → length (listCells sys (final sys turns)) ≤ i → getD (o .lists) i 0 ≡ getD lists i 0
+
+module _ (work lists : List ℕ) (sys : System) (turns : List Turn) where
+  abbrev Ends : Option Decline → Outcome
+  Ends o = unlessFault (played work lists sys turns) (refused work lists) o
+
+  declined-untouched : (o : Option Decline) (d : Decline) → Ends o .answer ≡ Declined d → Untouched work lists (Ends o)
+  unfolding refused played
+  declined-untouched none d e = absurd (let z : _≡_ {A = ℕ} 0 1 = cc in omega arith)
+  declined-untouched (some f) d e = record { same-work = refl; same-lists = refl }
+
+  run-written : Written work lists sys turns (played work lists sys turns)
+  unfolding played
+  run-written = record {
+    cleared = λ i h.
+        overwrite-front (replicate workNeed 0) work i (omega (arith, length-replicate {A = ℕ} workNeed 0))
+        ∙ getD-replicate workNeed i 0 0 h;
+    work-kept = λ i h. overwrite-back (replicate workNeed 0) work i (omega (arith, length-replicate {A = ℕ} workNeed 0));
+    cells = overwrite-front (listCells sys (final sys turns)) lists;
+    lists-kept = overwrite-back (listCells sys (final sys turns)) lists;
+  }
+
+  reported-written : (o : Option Decline) (r : Report) → Ends o .answer ≡ Reported r
+      → (r ≡ reportOf sys turns) × Written work lists sys turns (Ends o)
+  unfolding played refused
+  reported-written none r e = (let z : r ≡ reportOf sys turns = cc in z, run-written)
+  reported-written (some d) r e = absurd (let z : _≡_ {A = ℕ} 0 1 = cc in omega arith)
+
+-- ---- the delivered runs
+
+-- a declined turn run changes no lent cell
+pub turnRun-declined : (b ts work lists : List ℕ) (d : Decline) → turnRun b ts work lists .answer ≡ Declined d
+    → Untouched work lists (turnRun b ts work lists)
+unfolding turnRun
+turnRun-declined b ts work lists d e =
+    declined-untouched work lists (systemAt b) (turnsOf ts) (firstOf (bufferFault work lists) (inputFault b ts)) d e
+
+-- a declined round run changes no lent cell
+pub roundRun-declined : (b work lists : List ℕ) (d : Decline) → roundRun b work lists .answer ≡ Declined d
+    → Untouched work lists (roundRun b work lists)
+unfolding roundRun
+roundRun-declined b work lists d e =
+    declined-untouched work lists (systemAt b) (roundRunTurns (systemAt b)) (firstOf (bufferFault work lists) (planFault b)) d e
+
+-- a turn run that reports gives the report of its turns, and its cells
+pub turnRun-reported : (b ts work lists : List ℕ) (r : Report) → turnRun b ts work lists .answer ≡ Reported r
+    → (r ≡ reportOf (systemAt b) (turnsOf ts)) × Written work lists (systemAt b) (turnsOf ts) (turnRun b ts work lists)
+unfolding turnRun
+turnRun-reported b ts work lists r e =
+    reported-written work lists (systemAt b) (turnsOf ts) (firstOf (bufferFault work lists) (inputFault b ts)) r e
+
+-- a round run that reports gives the report of its turns, and its cells
+pub roundRun-reported : (b work lists : List ℕ) (r : Report) → roundRun b work lists .answer ≡ Reported r
+    → (r ≡ reportOf (systemAt b) (roundRunTurns (systemAt b)))
+    × Written work lists (systemAt b) (roundRunTurns (systemAt b)) (roundRun b work lists)
+unfolding roundRun
+roundRun-reported b work lists r e =
+    reported-written work lists (systemAt b) (roundRunTurns (systemAt b)) (firstOf (bufferFault work lists) (planFault b)) r e

@@ -1,0 +1,236 @@
+-- Progress: while the plan is open, some allowed turn changes something.
+use Prim.Native.Nat.{ℕ, zero, suc, _+_, _<_, _≤_}
+use mathlib.Core.Bool.{Bool, true, false, cond, _&&_, _||_, not, false≢true}
+use mathlib.Core.List.{List, [], _∷_, _++_}
+use mathlib.Core.Logic.{_⊎_, inl, inr, ⊎-elim}
+use mathlib.Core.Option.{Option, none, some}
+use mathlib.Core.Path.{_≡_, refl, sym, _∙_, ap, subst}
+use native.Mathlib.Decide.{ℕ-discrete}
+use native.Mathlib.Omega.{arith}
+use borrow.Author.Tests.{leb-true, eqb-true, eqb-false, le-leb, eq-eqb, ne-eqb, not-true, not-false}
+use lib.Dec.{leb, eqb}
+use Rattle.base.proofs.Bools.{decided, clash, refuted, and-left, and-right, and-intro, and-false, or-cases, or-left, or-right, or-false, not-of, not-of-true}
+use Rattle.base.proofs.Below.{some-below, none-below, every-below}
+use Rattle.base.proofs.Choice.{cond-true, cond-false, between-low, between-high}
+use Rattle.base.proofs.Sums.{sum-zero}
+use Rattle.base.proofs.Weight.{weigh}
+use Rattle.base.specs.Below.{anyBelow}
+use Rattle.base.specs.Choice.{between}
+use Rattle.network.specs.Network.{Label}
+use Rattle.disac4.proofs.Channels.{into}
+use Rattle.disac4.proofs.Closing.{empty}
+use Rattle.disac4.proofs.Expected.{Answered, has-mark, has-replied, will-hold, heldAfter}
+use Rattle.disac4.proofs.Moves.{Worker}
+use Rattle.disac4.proofs.Replies.{replied}
+use Rattle.disac4.proofs.Safety.{Safe, safe-run}
+use Rattle.disac4.proofs.Sound.{Sound, isList}
+use Rattle.disac4.proofs.Typed.{no-self, not-controller}
+use Rattle.disac4.specs.Action.{isEmpty, treat, treatFrom, send, readFrom, readWorker, ready, answer, answerTo, ask, pollOf, allMarked, controllerFrom, readController}
+use Rattle.disac4.specs.Event.{Event, events}
+use Rattle.disac4.specs.Loading.{load}
+use Rattle.disac4.specs.State.{State, Message, list, poll, reply, Poll}
+use Rattle.disac4.specs.System.{System}
+use Rattle.disac4.specs.Turn.{Turn, turn, treatNumber, sendNumber, answerNumber, pollNumber, allowed, workerStep, controllerStep, step, play, isSome, changes}
+
+-- a state in which no allowed turn changes anything
+abbrev pub Stuck : System → State → Type 0
+Stuck sys st = (t : Turn) → allowed (sys .workers) t ≡ true → changes sys st t ≡ false
+
+none-chosen : (b : Bool) (s : State) → isSome (cond b none (some s)) ≡ false → b ≡ true
+none-chosen true s e = refl
+none-chosen false s e = absurd (false≢true (sym e))
+
+some-refused : (b : Bool) (s : State) → isSome (cond b (some s) none) ≡ false → b ≡ false
+some-refused true s e = absurd (false≢true (sym e))
+some-refused false s e = refl
+
+module _ (sys : System) (st : State) (few : sys .workers ≤ 8) (running : st .controller .closed ≡ false)
+    (stuck : Stuck sys st) where
+  -- an allowed turn is idle
+  step-idle : (t : Turn) → allowed (sys .workers) t ≡ true
+      → isSome (cond (eqb (t .actor) 0) (controllerStep sys (t .action) st) (workerStep sys (t .actor) (t .action) st)) ≡ false
+  unfolding changes step
+  step-idle t ok = sym (ap isSome (cond-false none _ (or-false running (not-of-true ok)))) ∙ stuck t ok
+
+  worker-idle : (k d : ℕ) → Worker sys k
+      → ((leb d (sys .workers) && not (eqb d k)) || between treatNumber answerNumber d) ≡ true
+      → isSome (workerStep sys k d st) ≡ false
+  unfolding allowed
+  worker-idle k d w ok =
+      let other : eqb k 0 ≡ false = ne-eqb k 0 (λ e. not-controller w (sym e)) in
+      rw other at (step-idle (turn k d) (rw other (and-intro (le-leb k (sys .workers) (w .within)) ok)))
+
+  controller-idle : (d : ℕ) → (between 1 (sys .workers) d || eqb d pollNumber) ≡ true
+      → isSome (controllerStep sys d st) ≡ false
+  unfolding allowed
+  controller-idle d ok = step-idle (turn 0 d) ok
+
+  own-idle : (k d : ℕ) → Worker sys k → between treatNumber answerNumber d ≡ true → isSome (workerStep sys k d st) ≡ false
+  own-idle k d w b = worker-idle k d w (or-right (leb d (sys .workers) && not (eqb d k)) b)
+
+  -- so nothing is left to treat, to send or to read
+  nothing-to-treat : (k : ℕ) → Worker sys k → st .workList k ≡ []
+  unfolding workerStep treat
+  nothing-to-treat k w = go (st .workList k) (own-idle k treatNumber w refl)
+    where
+      go : (l : List Label) → isSome (treatFrom sys k st l) ≡ false → l ≡ []
+      go [] e = refl
+      go (a ∷ l) e = absurd (false≢true (sym e))
+
+  nothing-to-send : (k : ℕ) → Worker sys k → st .toSend k ≡ []
+  unfolding workerStep send
+  nothing-to-send k w = empty (st .toSend k) (none-chosen (isEmpty (st .toSend k)) _ (own-idle k sendNumber w refl))
+
+  nothing-to-read : (j k : ℕ) → Worker sys k → j ≤ sys .workers → (j ≡ k → ⊥) → st .channel j k ≡ []
+  unfolding workerStep readWorker
+  nothing-to-read j k w h d =
+      go (st .channel j k)
+      (rw (
+        ne-eqb j treatNumber (λ e. omega arith),
+        ne-eqb j sendNumber (λ e. omega arith),
+        ne-eqb j answerNumber (λ e. omega arith),
+      )
+      at (worker-idle k j w (or-left _ (and-intro (le-leb j (sys .workers) h) (not-of (ne-eqb j k d))))))
+    where
+      go : (l : List Message) → isSome (readFrom j k st l) ≡ false → l ≡ []
+      go [] e = refl
+      go (list labels ∷ l) e = absurd (false≢true (sym e))
+      go (poll q ∷ l) e = absurd (false≢true (sym e))
+      go (reply n ∷ l) e = absurd (false≢true (sym e))
+
+  nothing-to-count : (k : ℕ) → Worker sys k → st .channel k 0 ≡ []
+  unfolding controllerStep readController
+  nothing-to-count k w =
+      go (st .channel k 0)
+      (rw (ne-eqb k pollNumber (λ e. omega (arith, w .within)))
+      at (controller-idle k (or-left _ (and-intro (le-leb 1 k (w .above)) (le-leb k (sys .workers) (w .within))))))
+    where
+      go : (l : List Message) → isSome (controllerFrom sys k st l) ≡ false → l ≡ []
+      go [] e = refl
+      go (list labels ∷ l) e = absurd (false≢true (sym e))
+      go (poll q ∷ l) e = absurd (false≢true (sym e))
+      go (reply n ∷ l) e = absurd (false≢true (sym e))
+
+  -- a poll is open
+  poll-open : st .controller .pollOpen ≡ true
+  unfolding controllerStep ask
+  poll-open =
+      none-chosen (st .controller .pollOpen) _ (controller-idle pollNumber (or-right (between 1 (sys .workers) pollNumber) refl))
+
+  -- no worker can answer
+  no-answer : (k : ℕ) (q : Poll) → Worker sys k → st .held k ≡ some q → ready k q st ≡ false
+  unfolding workerStep answer
+  no-answer k q w e = some-refused (ready k q st) _ (subst (λ (o : Option Poll). isSome (answerTo k st o) ≡ false) e (own-idle k answerNumber w refl))
+
+  module _ (es : List Event) (g : Safe sys st es) where
+    no-messages : (j k : ℕ) → j ≤ sys .workers → k ≤ sys .workers → st .channel j k ≡ []
+    no-messages j k h b =
+        elim (ℕ-discrete j k) [
+          | yes same ↦ rw same (no-self (g .typed) k)
+          | no other ↦ go k b other
+        ]
+      where
+        go : (k : ℕ) → k ≤ sys .workers → (j ≡ k → ⊥) → st .channel j k ≡ []
+        go zero b d = nothing-to-count j (record { above = omega arith; within = h })
+        go (suc k) b d = nothing-to-read j (suc k) (record { above = omega arith; within = b }) h d
+
+    no-lists : (k : ℕ) → k ≤ sys .workers → into isList (sys .workers) (st .channel) k ≡ 0
+    no-lists k b =
+        sum-zero (suc (sys .workers)) (λ j. weigh isList (st .channel j k))
+        (λ j h. ap (weigh isList) (no-messages j k (omega arith) b))
+
+    is-ready : (k : ℕ) → Worker sys k → ready k (pollOf (st .controller .timestamp) (st .listCounter 0)) st ≡ true
+    unfolding ready pollOf
+    is-ready k w =
+        and-intro
+        (and-intro (ap isEmpty (nothing-to-treat k w)) (ap isEmpty (nothing-to-send k w)))
+        (eq-eqb (st .listCounter k) (st .listCounter 0)
+        (omega (
+          arith,
+          g .conserved k (w .within),
+          g .conserved 0 (omega arith),
+          no-lists k (w .within),
+          no-lists 0 (omega arith),
+        )))
+
+    all-answered : (k : ℕ) → Worker sys k → st .controller .marked k ≡ true
+    all-answered k w = go (g .expected poll-open k w)
+      where
+        go : Answered (pollOf (st .controller .timestamp) (st .listCounter 0)) (st .controller .marked) (st .held) (st .channel) k
+            → st .controller .marked k ≡ true
+        go (has-mark x) = x
+        go (has-replied x) = absurd (false≢true (rw (no-messages k 0 (w .within) (omega arith)) at x))
+        go (will-hold x) =
+            clash (is-ready k w)
+            (no-answer k (pollOf (st .controller .timestamp) (st .listCounter 0)) w
+            (rw (no-messages 0 k (omega arith) (w .within)) at x))
+
+    stuck-closed : ⊥
+    unfolding allMarked
+    stuck-closed =
+        false≢true
+        (sym running
+        ∙ (g .closure .exact poll-open
+        ∙ every-below (sys .workers) (λ i. st .controller .marked (suc i))
+        (λ i h. all-answered (suc i) (record { above = omega arith; within = h }))))
+
+-- a reached state in which no allowed turn changes anything is closed
+pub stuck-run-closed : {sys : System} → Sound sys → (ts : List Turn) → Stuck sys (play sys (load sys) ts)
+    → play sys (load sys) ts .controller .closed ≡ true
+stuck-run-closed {sys} sound ts stuck =
+    ⊎-elim (λ e. e)
+    (λ e.
+    absurd (stuck-closed sys (play sys (load sys) ts) (sound .few) e stuck (events sys (load sys) ts) (safe-run sound ts)))
+    (decided (play sys (load sys) ts .controller .closed))
+
+-- an allowed turn's actor and action are among finitely many
+allowed-bounds : (p : ℕ) (t : Turn) → p ≤ 8 → allowed p t ≡ true → (t .actor < suc p) × (t .action < 13)
+unfolding allowed
+allowed-bounds p t few ok = go (eqb (t .actor) 0) refl ok
+  where
+    go : (b : Bool) → eqb (t .actor) 0 ≡ b
+        → cond b (between 1 p (t .action) || eqb (t .action) pollNumber)
+        (leb (t .actor) p
+        && ((leb (t .action) p && not (eqb (t .action) (t .actor))) || between treatNumber answerNumber (t .action))) ≡ true
+        → (t .actor < suc p) × (t .action < 13)
+    go true e ok = (
+      omega (arith, eqb-true (t .actor) 0 e),
+      ⊎-elim (λ x. omega (arith, between-high 1 p (t .action) x)) (λ x. omega (arith, eqb-true (t .action) pollNumber x))
+      (or-cases (between 1 p (t .action)) _ ok),
+    )
+    go false e ok = (
+      omega (arith, leb-true (t .actor) p (and-left (leb (t .actor) p) _ ok)),
+      ⊎-elim
+      (λ x. omega (arith, leb-true (t .action) p (and-left (leb (t .action) p) _ x)))
+      (λ x. omega (arith, between-high treatNumber answerNumber (t .action) x))
+      (or-cases (leb (t .action) p && not (eqb (t .action) (t .actor))) (between treatNumber answerNumber (t .action))
+      (and-right (leb (t .actor) p) _ ok)),
+    )
+
+-- while the plan is open, some allowed turn changes something
+pub progress : {sys : System} → Sound sys → (ts : List Turn) → play sys (load sys) ts .controller .closed ≡ false
+    → (t : Turn) × (allowed (sys .workers) t ≡ true) × (changes sys (play sys (load sys) ts) t ≡ true)
+progress {sys} sound ts running = ⊎-elim found (λ e. clash (stuck-run-closed sound ts (none-found e)) running) (decided any)
+  where
+    st : State
+    st = play sys (load sys) ts
+
+    moves : ℕ → ℕ → Bool
+    moves k d = allowed (sys .workers) (turn k d) && changes sys st (turn k d)
+
+    any : Bool
+    any = anyBelow (suc (sys .workers)) (λ k. anyBelow 13 (moves k))
+
+    found : any ≡ true → (t : Turn) × (allowed (sys .workers) t ≡ true) × (changes sys st t ≡ true)
+    found e =
+        let k = some-below (suc (sys .workers)) (λ k. anyBelow 13 (moves k)) e in
+        let d = some-below 13 (moves (k .0)) (k .2) in
+        let t = turn (k .0) (d .0) in
+        (t, and-left (allowed (sys .workers) t) _ (d .2), and-right (allowed (sys .workers) t) _ (d .2))
+
+    none-found : any ≡ false → Stuck sys st
+    none-found e t ok =
+        let b = allowed-bounds (sys .workers) t (sound .few) ok in
+        let row = none-below (suc (sys .workers)) (λ k. anyBelow 13 (moves k)) e (t .actor) (b .0) in
+        ⊎-elim (λ x. clash ok x) (λ x. x)
+        (and-false (allowed (sys .workers) t) (changes sys st t) (none-below 13 (moves (t .actor)) row (t .action) (b .1)))

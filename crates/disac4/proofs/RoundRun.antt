@@ -1,0 +1,158 @@
+-- A round that changes nothing shows that no turn would; so where an open plan always has a turn that changes something, the
+-- round run closes it.
+use Prim.Native.Nat.{ℕ, zero, suc, _<_, _≤_}
+use mathlib.Core.Bool.{true, false, _&&_}
+use mathlib.Core.List.{List, [], _∷_, _++_}
+use mathlib.Core.Logic.{_⊎_, inl, inr, ⊎-elim}
+use mathlib.Core.Option.{Option, none, some}
+use mathlib.Core.Path.{_≡_, refl, sym, _∙_, ap, subst}
+use native.Mathlib.Nat.{not-suc-le-zero}
+use native.Mathlib.Omega.{arith}
+use Rattle.base.proofs.Bools.{decided, clash, refuted}
+use Rattle.base.specs.Below.{one}
+use Rattle.disac4.proofs.Bound.{turns-bounded, potential-loaded}
+use Rattle.disac4.proofs.Members.{Each, each-none, each-cons}
+use Rattle.disac4.proofs.Moves.{moves, after-idle}
+use Rattle.disac4.proofs.Potential.{potential}
+use Rattle.disac4.proofs.Rounds.{allowed-round}
+use Rattle.disac4.proofs.Sound.{Sound}
+use Rattle.disac4.specs.Loading.{load}
+use Rattle.disac4.specs.Round.{round, roundTurns, roundRunTurns}
+use Rattle.disac4.specs.State.{State}
+use Rattle.disac4.specs.System.{System, boundOf}
+use Rattle.disac4.specs.Turn.{Turn, allowed, step, after, play, isSome, changes, changesWhere}
+
+-- what the round run asks of a statement about states: every list of turns keeps it, and while the plan is open some turn
+-- changes something
+pub record Advances (sys : System) (I : State → Type 0) : Type 0 where
+  pub carried : (st : State) (ts : List Turn) → I st → I (play sys st ts)
+  pub progress : (st : State) → I st → st .controller .closed ≡ false → (t : Turn) × (changes sys st t ≡ true)
+
+module _ (sys : System) where
+  abbrev oneRound : List Turn
+  oneRound = round (sys .workers)
+
+  -- the state after one round
+  abbrev next : State → State
+  next st = play sys st oneRound
+
+  abbrev Idle : State → Turn → Type 0
+  Idle st t = changes sys st t ≡ false
+
+  -- an idle turn leaves the state as it is
+  pub idle-stays : (st : State) (t : Turn) → Idle st t → after sys st t ≡ st
+  unfolding changes
+  idle-stays st t e = go (step sys st t) refl
+    where
+      go : (o : Option State) → step sys st t ≡ o → after sys st t ≡ st
+      go none p = after-idle sys st t p
+      go (some s) p = clash (ap isSome p) e
+
+  -- where a list of turns changes nothing, each of them is idle in the state before the list
+  pub all-idle : (ts : List Turn) (st : State) → changesWhere sys (λ t. true) st ts ≡ 0 → Each (Idle st) ts
+  unfolding changesWhere
+  all-idle [] st e = each-none (Idle st)
+  all-idle (t ∷ ts) st e =
+      let first : Idle st t = refuted (changes sys st t) (λ c. omega (arith, ap (λ b. one (b && true)) c)) in
+      each-cons (Idle st) t ts first
+      (subst (λ s. Each (Idle s) ts) (idle-stays st t first) (all-idle ts (after sys st t) (omega arith)))
+
+  -- the turns of two lists, one after the other
+  pub play-append : (ts us : List Turn) (st : State) → play sys st (ts ++ us) ≡ play sys (play sys st ts) us
+  unfolding play
+  play-append [] us st = refl
+  play-append (t ∷ ts) us st = play-append ts us (after sys st t)
+
+  turns-closed : (fuel : ℕ) (st : State) → st .controller .closed ≡ true → roundTurns sys (suc fuel) st ≡ []
+  unfolding roundTurns
+  turns-closed fuel st e = rw e
+
+  turns-open : (fuel : ℕ) (st : State) → st .controller .closed ≡ false
+      → roundTurns sys (suc fuel) st ≡ oneRound ++ roundTurns sys fuel (next st)
+  unfolding roundTurns
+  turns-open fuel st e = rw e
+
+  module _ (few : sys .workers ≤ 8) where
+    -- only an allowed turn changes something
+    pub changes-allowed : (st : State) (t : Turn) → changes sys st t ≡ true → allowed (sys .workers) t ≡ true
+    unfolding changes
+    changes-allowed st t c = go (step sys st t) refl
+      where
+        go : (o : Option State) → step sys st t ≡ o → allowed (sys .workers) t ≡ true
+        go none e = clash c (ap isSome e)
+        go (some s) e = moves sys st few t s e .1
+
+    -- where each turn of the round would leave the state as it is, every turn would
+    pub round-decides : (st : State) → Each (λ t. after sys st t ≡ st) (round (sys .workers)) → (t : Turn)
+        → after sys st t ≡ st
+    round-decides st same t =
+        ⊎-elim
+        (λ c. same t (allowed-round (sys .workers) t (changes-allowed st t c)))
+        (λ c. idle-stays st t c)
+        (decided (changes sys st t))
+
+    -- where some turn would change something, a round does
+    pub round-changes : (st : State) (t : Turn) → changes sys st t ≡ true
+        → 0 < changesWhere sys (λ t. true) st (round (sys .workers))
+    round-changes st t c = go (changesWhere sys (λ t. true) st oneRound) refl
+      where
+        go : (n : ℕ) → changesWhere sys (λ t. true) st oneRound ≡ n → 0 < changesWhere sys (λ t. true) st oneRound
+        go zero e = clash c (all-idle oneRound st e t (allowed-round (sys .workers) t (changes-allowed st t c)))
+        go (suc n) e = omega arith
+
+    module _ (I : State → Type 0) (advances : Advances sys I) where
+      -- a round lowers the potential of an open plan
+      round-lowers : (st : State) → I st → st .controller .closed ≡ false → potential sys (next st) < potential sys st
+      round-lowers st i e =
+          let moved : (t : Turn) × (changes sys st t ≡ true) = advances .progress st i e in
+          omega (arith, turns-bounded sys few oneRound st, round-changes st (moved .0) (moved .1))
+
+      -- with more rounds than the potential, the plan is closed
+      pub rounds-close : (fuel : ℕ) (st : State) → I st → potential sys st < fuel
+          → play sys st (roundTurns sys fuel st) .controller .closed ≡ true
+      rounds-close zero st i h = absurd (not-suc-le-zero h)
+      rounds-close (suc fuel) st i h =
+          go (decided (st .controller .closed)) (rounds-close fuel (next st) (advances .carried st oneRound i))
+        where
+          go : (st .controller .closed ≡ true) ⊎ (st .controller .closed ≡ false)
+              → (potential sys (next st) < fuel
+              → play sys (next st) (roundTurns sys fuel (next st)) .controller .closed ≡ true)
+              → play sys st (roundTurns sys (suc fuel) st) .controller .closed ≡ true
+          go (inl e) below = rw (turns-closed fuel st e) (unfold play in e)
+          go (inr e) below =
+              rw (turns-open fuel st e, play-append oneRound (roundTurns sys fuel (next st)) st)
+              (below (omega (arith, round-lowers st i e)))
+
+      -- and still more rounds play no further turn
+      pub rounds-enough : (fuel more : ℕ) (st : State) → I st → potential sys st < fuel → potential sys st < more
+          → roundTurns sys more st ≡ roundTurns sys fuel st
+      rounds-enough zero more st i h g = absurd (not-suc-le-zero h)
+      rounds-enough (suc fuel) zero st i h g = absurd (not-suc-le-zero g)
+      rounds-enough (suc fuel) (suc more) st i h g =
+          go (decided (st .controller .closed)) (rounds-enough fuel more (next st) (advances .carried st oneRound i))
+        where
+          go : (st .controller .closed ≡ true) ⊎ (st .controller .closed ≡ false)
+              → (potential sys (next st) < fuel → potential sys (next st) < more
+              → roundTurns sys more (next st) ≡ roundTurns sys fuel (next st))
+              → roundTurns sys (suc more) st ≡ roundTurns sys (suc fuel) st
+          go (inl e) below = turns-closed more st e ∙ sym (turns-closed fuel st e)
+          go (inr e) below =
+              let lower = round-lowers st i e in
+              turns-open more st e
+              ∙ (ap (λ ts. oneRound ++ ts) (below (omega arith) (omega arith)) ∙ sym (turns-open fuel st e))
+
+module _ (sys : System) (sound : Sound sys) (I : State → Type 0) (advances : Advances sys I) (start : I (load sys)) where
+  -- a run without a turn list closes the plan
+  pub round-run-closes : play sys (load sys) (roundRunTurns sys) .controller .closed ≡ true
+  unfolding roundRunTurns
+  round-run-closes =
+      rounds-close sys (sound .few) I advances (suc (boundOf sys)) (load sys) start
+      (omega (arith, potential-loaded sys sound))
+
+  -- and it is all the rounds until then: more of them play no further turn
+  pub round-run-complete : (fuel : ℕ) → boundOf sys < fuel → roundTurns sys fuel (load sys) ≡ roundRunTurns sys
+  unfolding roundRunTurns
+  round-run-complete fuel h =
+      rounds-enough sys (sound .few) I advances (suc (boundOf sys)) fuel (load sys) start
+      (omega (arith, potential-loaded sys sound))
+      (omega (arith, potential-loaded sys sound))

@@ -1,0 +1,139 @@
+-- The round has exactly the allowed turns, so a round that changes nothing shows that no allowed turn would.
+use Prim.Native.Nat.{ℕ, zero, suc, _<_, _≤_}
+use mathlib.Core.Bool.{Bool, true, false, cond, _&&_, _||_, not}
+use mathlib.Core.List.{List, [], _∷_, _++_, map, List·Memᴰ, List·Memᴰ·head, List·Memᴰ·tail, Memᴰ·append-left, Memᴰ·append-right, Memᴰ·map}
+use mathlib.Core.Logic.{⊎-elim}
+use mathlib.Core.Path.{_≡_, refl, sym, _∙_, ap}
+use native.Mathlib.Decide.{ℕ-discrete}
+use native.Mathlib.Nat.{not-suc-le-zero}
+use native.Mathlib.Omega.{arith}
+use borrow.Author.Tests.{leb-true, eqb-true, eqb-false, le-leb, ne-eqb, not-true}
+use lib.Dec.{leb, eqb}
+use Rattle.base.proofs.Bools.{and-left, and-right, and-intro, or-cases, or-left, or-right, not-of}
+use Rattle.base.proofs.Choice.{between-low, between-high}
+use Rattle.base.specs.Below.{gatherBelow, listBelow}
+use Rattle.base.specs.Choice.{between}
+use Rattle.disac4.proofs.Members.{Each, member-gather, each-none, each-cons, each-single, each-append, each-gather, each-map}
+use Rattle.disac4.specs.Round.{others, workerRound, round}
+use Rattle.disac4.specs.Turn.{Turn, turn, treatNumber, sendNumber, answerNumber, pollNumber, allowed}
+
+-- the round's parts: what the workers do, and what the controller reads before it polls
+abbrev workerTurns : ℕ → List Turn
+workerTurns p = gatherBelow p (λ i. workerRound p (suc i))
+
+abbrev controllerReads : ℕ → List Turn
+controllerReads p = listBelow p (λ i. turn 0 (suc i))
+
+-- ---- an allowed turn is in the round
+
+others-member : (p k j : ℕ) → j ≤ p → (j ≡ k → ⊥) → List·Memᴰ j (others p k)
+unfolding others
+others-member p k j h n =
+    member-gather (suc p) (λ j. cond (eqb j k) [] (j ∷ [])) j (omega arith) (rw (ne-eqb j k n) (List·Memᴰ·head refl))
+
+-- treat, send and answer
+own-member : (k d : ℕ) → between treatNumber answerNumber d ≡ true
+    → List·Memᴰ (turn k d) (turn k treatNumber ∷ turn k sendNumber ∷ turn k answerNumber ∷ [])
+own-member k d e =
+    elim (ℕ-discrete d treatNumber) [
+      | yes t ↦ List·Memᴰ·head (ap (turn k) t)
+      | no t ↦
+          elim (ℕ-discrete d sendNumber) [
+            | yes s ↦ List·Memᴰ·tail (List·Memᴰ·head (ap (turn k) s))
+            | no s ↦
+                let last : d ≡ answerNumber =
+                omega (arith, between-low treatNumber answerNumber d e, between-high treatNumber answerNumber d e) in
+                List·Memᴰ·tail (List·Memᴰ·tail (List·Memᴰ·head (ap (turn k) last)))
+          ]
+    ]
+
+abbrev workerMay : ℕ → ℕ → ℕ → Bool
+workerMay p k d = (leb d p && not (eqb d k)) || between treatNumber answerNumber d
+
+worker-member : (p k d : ℕ) → workerMay p k d ≡ true → List·Memᴰ (turn k d) (workerRound p k)
+unfolding workerRound
+worker-member p k d e =
+    ⊎-elim
+    (λ r. Memᴰ·append-left _ (Memᴰ·map (turn k) (others-member p k d
+    (leb-true d p (and-left (leb d p) (not (eqb d k)) r))
+    (eqb-false d k (not-true (eqb d k) (and-right (leb d p) (not (eqb d k)) r))))))
+    (λ b. Memᴰ·append-right (map (turn k) (others p k)) (own-member k d b))
+    (or-cases (leb d p && not (eqb d k)) (between treatNumber answerNumber d) e)
+
+tally-member : (p k : ℕ) → 0 < k → k ≤ p → List·Memᴰ (turn 0 k) (controllerReads p)
+tally-member p zero a h = absurd (not-suc-le-zero a)
+tally-member p (suc i) a h = member-gather p (λ i. turn 0 (suc i) ∷ []) i h (List·Memᴰ·head refl)
+
+controller-member : (p d : ℕ) → (between 1 p d || eqb d pollNumber) ≡ true → List·Memᴰ (turn 0 d) (round p)
+unfolding round
+controller-member p d e =
+    ⊎-elim
+    (λ b.
+    Memᴰ·append-left _
+    (Memᴰ·append-right (workerTurns p) (tally-member p d (between-low 1 p d b) (between-high 1 p d b))))
+    (λ q.
+    Memᴰ·append-right (workerTurns p ++ controllerReads p) (List·Memᴰ·head (ap (turn 0) (eqb-true d pollNumber q))))
+    (or-cases (between 1 p d) (eqb d pollNumber) e)
+
+worker-allowed : (p k d : ℕ) → 0 < k → allowed p (turn k d) ≡ (leb k p && workerMay p k d)
+unfolding allowed
+worker-allowed p k d h = rw (ne-eqb k 0 (λ q. omega arith))
+
+by-actor : (p k d : ℕ) → allowed p (turn k d) ≡ true → List·Memᴰ (turn k d) (round p)
+unfolding allowed round
+by-actor p zero d e = controller-member p d e
+by-actor p (suc k) d e =
+    let may : (leb (suc k) p && workerMay p (suc k) d) ≡ true = sym (worker-allowed p (suc k) d (omega arith)) ∙ e in
+    Memᴰ·append-left _
+    (Memᴰ·append-left _
+    (member-gather p (λ i. workerRound p (suc i)) k (leb-true (suc k) p (and-left (leb (suc k) p) _ may))
+    (worker-member p (suc k) d (and-right (leb (suc k) p) _ may))))
+
+-- the round has every allowed turn
+pub allowed-round : (p : ℕ) (t : Turn) → allowed p t ≡ true → List·Memᴰ t (round p)
+allowed-round p t e = by-actor p (t .actor) (t .action) e
+
+-- ---- a turn of the round is allowed
+
+abbrev MayRead : ℕ → ℕ → ℕ → Type 0
+MayRead p k j = (leb j p && not (eqb j k)) ≡ true
+
+others-each : (p k : ℕ) → Each (MayRead p k) (others p k)
+unfolding others
+others-each p k =
+    each-gather (MayRead p k) (suc p) (λ j. cond (eqb j k) [] (j ∷ [])) (λ j h. go j h (eqb j k) refl)
+  where
+    go : (j : ℕ) → j < suc p → (b : Bool) → eqb j k ≡ b → Each (MayRead p k) (cond b [] (j ∷ []))
+    go j h true e = each-none (MayRead p k)
+    go j h false e = each-single (MayRead p k) j (and-intro (le-leb j p (omega arith)) (not-of e))
+
+abbrev Allowed : ℕ → Turn → Type 0
+Allowed p t = allowed p t ≡ true
+
+worker-round-allowed : (p k : ℕ) → 0 < k → k ≤ p → Each (Allowed p) (workerRound p k)
+unfolding workerRound
+worker-round-allowed p k h b =
+    each-append (Allowed p) (map (turn k) (others p k)) _
+    (each-map (Allowed p) (turn k) (others p k) (λ j m. may j (or-left _ (others-each p k j m))))
+    (each-cons (Allowed p) (turn k treatNumber) _ (own treatNumber refl)
+    (each-cons (Allowed p) (turn k sendNumber) _ (own sendNumber refl)
+    (each-single (Allowed p) (turn k answerNumber) (own answerNumber refl))))
+  where
+    may : (d : ℕ) → workerMay p k d ≡ true → Allowed p (turn k d)
+    may d e = worker-allowed p k d h ∙ and-intro (le-leb k p b) e
+
+    own : (d : ℕ) → between treatNumber answerNumber d ≡ true → Allowed p (turn k d)
+    own d e = may d (or-right (leb d p && not (eqb d k)) e)
+
+-- every turn of the round is allowed
+pub round-allowed : (p : ℕ) (t : Turn) → List·Memᴰ t (round p) → allowed p t ≡ true
+unfolding round allowed
+round-allowed p =
+    each-append (Allowed p) (workerTurns p ++ controllerReads p) (turn 0 pollNumber ∷ [])
+    (each-append (Allowed p) (workerTurns p) (controllerReads p)
+    (each-gather (Allowed p) p (λ i. workerRound p (suc i)) (λ i h. worker-round-allowed p (suc i) (omega arith) h))
+    (each-gather (Allowed p) p (λ i. turn 0 (suc i) ∷ [])
+    (λ i h.
+    each-single (Allowed p) (turn 0 (suc i))
+    (or-left _ (and-intro (le-leb 1 (suc i) (omega arith)) (le-leb (suc i) p h))))))
+    (each-single (Allowed p) (turn 0 pollNumber) (or-right (between 1 p pollNumber) refl))

@@ -1,0 +1,104 @@
+-- What the plan check's answer says of the plan.
+use Prim.Native.Nat.{ℕ, suc}
+use mathlib.Core.List.{List}
+use mathlib.Core.Option.{Option, none, some}
+use mathlib.Core.Path.{_≡_, refl, sym, _∙_, ap}
+use native.Mathlib.Omega.{arith}
+use lib.ListN.{length}
+use Rattle.base.proofs.Sums.{sum-ext}
+use Rattle.base.specs.Below.{sumBelow}
+use Rattle.network.specs.Network.{labelCount}
+use Rattle.plan.proofs.Parts.{variables-read, constraints-read, size-read}
+use Rattle.plan.specs.Answer.{figuresOf, checkedAs, planCheck}
+use Rattle.plan.specs.Decode.{planFault, planOf, Decoded, accepted, declined, decodedAs, decode}
+use Rattle.plan.specs.Format.{workerCount, variableCount, constraintCount, sizeAt}
+use Rattle.plan.specs.Network.{networkOf}
+use Rattle.plan.specs.Plan.{Plan}
+use Rattle.plan.specs.WellFormed.{sizeOf}
+use Rattle.plan.specs.declared.Checked.the-variants.{Accepted, Declined}
+use Rattle.plan.specs.declared.Decline.{Decline}
+use Rattle.plan.specs.declared.Figures.{Figures}
+
+-- L of the decoded plan is the sum of the counts that its sections give
+pub labels-read : (b : List ℕ) → labelCount (networkOf (planOf b)) ≡ sumBelow (variableCount b) (λ x. sizeAt b (suc x))
+unfolding labelCount networkOf sizeOf
+labels-read b =
+    ap (λ (n : ℕ). sumBelow n (networkOf (planOf b) .size)) (variables-read b)
+    ∙ sum-ext (variableCount b) (networkOf (planOf b) .size) (λ x. sizeAt b (suc x)) (size-read b)
+
+-- an accepted plan's figures are p, n, the number of constraints and L
+pub figures : (b : List ℕ) (plan : Plan) → decode b ≡ accepted plan
+    → planCheck b
+    ≡ Accepted
+    (record {
+      workers = plan .workers;
+      variables = length (plan .variables);
+      constraints = length (plan .constraints);
+      labels = labelCount (networkOf plan);
+    })
+unfolding planCheck figuresOf
+figures b plan e = ap checkedAs e
+
+-- the same, as the bytes give them
+pub figures-read : (b : List ℕ) → planFault b ≡ none
+    → planCheck b
+    ≡ Accepted
+    (record {
+      workers = workerCount b;
+      variables = variableCount b;
+      constraints = constraintCount b;
+      labels = sumBelow (variableCount b) (λ x. sizeAt b (suc x));
+    })
+unfolding planCheck decode figuresOf planOf
+figures-read b e =
+    ap (λ (o : Option Decline). checkedAs (decodedAs (planOf b) o)) e
+    ∙ (λ i.
+    Accepted
+    (record {
+      workers = workerCount b;
+      variables = variables-read b i;
+      constraints = constraints-read b i;
+      labels = labels-read b i;
+    }))
+
+-- figures that are read part by part
+pub figures-built : (b : List ℕ) (f : Figures) → f .workers ≡ workerCount b → f .variables ≡ variableCount b
+    → f .constraints ≡ constraintCount b → f .labels ≡ labelCount (networkOf (planOf b)) → f ≡ figuresOf (planOf b)
+unfolding figuresOf planOf
+figures-built b f p q r s = λ i. record {
+  workers = p i;
+  variables = (q ∙ sym (variables-read b)) i;
+  constraints = (r ∙ sym (constraints-read b)) i;
+  labels = s i;
+}
+
+-- the check declines as decoding does
+pub check-declined : (b : List ℕ) (d : Decline) → planCheck b ≡ Declined d → decode b ≡ declined d
+unfolding planCheck
+check-declined b d e = go (decode b) refl
+  where
+    go : (o : Decoded) → decode b ≡ o → decode b ≡ declined d
+    go (accepted plan) p =
+        let q : Accepted (figuresOf plan) ≡ Declined d = ap checkedAs (sym p) ∙ e in
+        let z : _≡_ {A = ℕ} 0 1 = cc in
+        absurd (omega arith)
+    go (declined c) p =
+        let q : Declined c ≡ Declined d = ap checkedAs (sym p) ∙ e in
+        let r : c ≡ d = cc in
+        p ∙ ap {B = Decoded} declined r
+
+-- the check accepts only what decoding accepts
+pub check-accepted : (b : List ℕ) (f : Figures) → planCheck b ≡ Accepted f → (decode b ≡ accepted (planOf b)) × (f ≡ figuresOf (planOf b))
+unfolding planCheck decode
+check-accepted b f e = go (planFault b) refl
+  where
+    go : (o : Option Decline) → planFault b ≡ o
+        → (decodedAs (planOf b) (planFault b) ≡ accepted (planOf b)) × (f ≡ figuresOf (planOf b))
+    go none p =
+        let q : Accepted (figuresOf (planOf b)) ≡ Accepted f =
+        ap (λ (o : Option Decline). checkedAs (decodedAs (planOf b) o)) (sym p) ∙ e in
+        (ap (decodedAs (planOf b)) p, cc)
+    go (some d) p =
+        let q : Declined d ≡ Accepted f = ap (λ (o : Option Decline). checkedAs (decodedAs (planOf b) o)) (sym p) ∙ e in
+        let z : _≡_ {A = ℕ} 0 1 = cc in
+        absurd (omega arith)

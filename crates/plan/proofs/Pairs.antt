@@ -1,0 +1,59 @@
+-- Which pairs the plan's constraints allow: all constraints over the same two variables act together.
+use Prim.Native.Nat.{ℕ, _<_}
+use mathlib.Core.Bool.{Bool, true, _&&_, _||_, not}
+use mathlib.Core.Logic.{⊎-elim}
+use mathlib.Core.Path.{_≡_}
+use lib.ListN.{length}
+use Rattle.base.proofs.Bools.{decided, and-left, and-right, and-intro, or-left, or-right, or-second, not-of, not-of-true, bool-ext}
+use Rattle.base.proofs.Members.{all-at, at-all}
+use Rattle.plan.proofs.Links.{Over, over, of-joins}
+use Rattle.plan.specs.Network.{permits, joins, accepts, pairAllowed}
+use Rattle.plan.specs.Plan.{Plan}
+use Rattle.plan.specs.WellFormed.{noConstraint, constraintOf}
+
+-- each constraint over `x` and then `y` permits value `v` of the one with value `w` of the other
+abbrev pub EachPermits : Plan → ℕ → ℕ → ℕ → ℕ → Type 0
+EachPermits plan x v y w = (c : ℕ) → Over plan c x y → permits plan (constraintOf plan c .relation) x v y w ≡ true
+
+-- the constraint at an index is not over `x` and then `y`, or permits the pair
+abbrev spares : Plan → ℕ → ℕ → ℕ → ℕ → ℕ → Bool
+spares plan x v y w c = not (joins (constraintOf plan c) x y) || permits plan (constraintOf plan c .relation) x v y w
+
+module _ (plan : Plan) (x v y w : ℕ) where
+  spares-each : ((c : ℕ) → c < length (plan .constraints) → spares plan x v y w c ≡ true) → EachPermits plan x v y w
+  spares-each f c o =
+      or-second (permits plan (constraintOf plan c .relation) x v y w)
+      (not-of-true (of-joins (constraintOf plan c) x y (o .first-is) (o .second-is))) (f c (o .listed))
+
+  each-spares : EachPermits plan x v y w → (c : ℕ) → c < length (plan .constraints) → spares plan x v y w c ≡ true
+  each-spares f c h =
+      ⊎-elim (λ e. or-right (not (joins (constraintOf plan c) x y)) (f c (over plan c x y h e)))
+      (λ e. or-left (permits plan (constraintOf plan c .relation) x v y w) (not-of e))
+      (decided (joins (constraintOf plan c) x y))
+
+module _ (plan : Plan) (x v y w : ℕ) where
+  -- an allowed pair is permitted by each constraint over its two variables, whichever comes first
+  pub allowed-each : pairAllowed plan x v y w ≡ true → EachPermits plan x v y w × EachPermits plan y w x v
+  unfolding pairAllowed accepts constraintOf
+  allowed-each e = (
+    spares-each plan x v y w (λ c h. and-left (spares plan x v y w c) (spares plan y w x v c) (accepted c h)),
+    spares-each plan y w x v (λ c h. and-right (spares plan x v y w c) (spares plan y w x v c) (accepted c h)),
+  )
+    where
+      accepted : (c : ℕ) → c < length (plan .constraints) → spares plan x v y w c && spares plan y w x v c ≡ true
+      accepted = all-at (λ c. accepts plan c x v y w) (plan .constraints) noConstraint e
+
+  -- a pair that each constraint over its two variables permits is allowed
+  pub each-allowed : EachPermits plan x v y w → EachPermits plan y w x v → pairAllowed plan x v y w ≡ true
+  unfolding pairAllowed accepts constraintOf
+  each-allowed p q =
+      at-all (λ c. accepts plan c x v y w) (plan .constraints) noConstraint
+      (λ c h. and-intro (each-spares plan x v y w p c h) (each-spares plan y w x v q c h))
+
+-- a pair reads the same from either variable
+pub allowed-symmetric : (plan : Plan) (x v y w : ℕ) → pairAllowed plan x v y w ≡ pairAllowed plan y w x v
+allowed-symmetric plan x v y w =
+    bool-ext (pairAllowed plan x v y w) (pairAllowed plan y w x v) (turned x v y w) (turned y w x v)
+  where
+    turned : (x v y w : ℕ) → pairAllowed plan x v y w ≡ true → pairAllowed plan y w x v ≡ true
+    turned x v y w e = each-allowed plan y w x v (allowed-each plan x v y w e .1) (allowed-each plan x v y w e .0)

@@ -1,0 +1,90 @@
+-- What a section's checks say: that it is complete, which number it gives, and where.
+use Prim.Native.Nat.{ℕ, zero, suc, _<_, _≤_}
+use mathlib.Core.Bool.{Bool, true, false, cond}
+use mathlib.Core.List.{List}
+use mathlib.Core.Option.{Option, none, some}
+use mathlib.Core.Path.{_≡_, refl, sym, _∙_, ap}
+use borrow.Author.Tests.{leb-true}
+use native.Mathlib.Nat.{le-refl}
+use native.Mathlib.Omega.{arith}
+use lib.Dec.{leb, eqb}
+use lib.ListN.{length}
+use Rattle.base.proofs.Below.{none-first}
+use Rattle.base.specs.Below.{firstBelow}
+use Rattle.base.specs.Choice.{allOf, between}
+use Rattle.plan.proofs.Checks.{each-holds, fault-among}
+use Rattle.plan.specs.Check.{Check, firstFault, complete, headChecks, variableChecks, constraintChecks, sectionChecks, faultAt, sectionFault}
+use Rattle.plan.specs.Fault.{numberOf, decline}
+use Rattle.plan.specs.Format.{sectionStart, variableCount}
+use Rattle.plan.specs.declared.Decline.{Decline}
+use Rattle.plan.specs.declared.Fault.{Fault}
+
+-- what holds of the checks of each kind of section holds of every section's
+pub each-section : (P : List Check → Type 0) (b : List ℕ) (k : ℕ) → P (headChecks b (sectionStart b k))
+    → P (variableChecks b (sectionStart b k)) → P (constraintChecks b (sectionStart b k)) → P (sectionChecks b k)
+unfolding sectionChecks
+each-section P b k head variable constraint = go (eqb k 0) (leb k (variableCount b))
+  where
+    go : (s t : Bool)
+        → P (cond s (headChecks b (sectionStart b k))
+        (cond t (variableChecks b (sectionStart b k)) (constraintChecks b (sectionStart b k))))
+    go true t = head
+    go false true = variable
+    go false false = constraint
+
+-- a section without fault is not cut off
+pub section-complete : (b : List ℕ) (k : ℕ) → firstFault (sectionChecks b k) ≡ none → sectionStart b (suc k) ≤ length b
+unfolding headChecks variableChecks constraintChecks complete sectionStart
+section-complete b k =
+    each-section (λ cs. firstFault cs ≡ none → sectionStart b (suc k) ≤ length b) b k
+    (λ e. leb-true (sectionStart b (suc k)) (length b) (each-holds (headChecks b (sectionStart b k)) e 0))
+    (λ e. leb-true (sectionStart b (suc k)) (length b) (each-holds (variableChecks b (sectionStart b k)) e 0))
+    (λ e. leb-true (sectionStart b (suc k)) (length b) (each-holds (constraintChecks b (sectionStart b k)) e 0))
+
+-- a section's checks give the numbers 1 to 7 alone
+pub section-number : (b : List ℕ) (k : ℕ) (f : Fault) → firstFault (sectionChecks b k) ≡ some f → between 1 7 (numberOf f) ≡ true
+unfolding headChecks variableChecks constraintChecks numberOf
+section-number b k f =
+    fault-among (λ g. between 1 7 (numberOf g)) (sectionChecks b k)
+    (each-section (λ cs. allOf (λ c. between 1 7 (numberOf (c .fault))) cs ≡ true) b k refl refl refl) f
+
+-- a section's fault is the first of its checks', and stands at the section's start
+pub section-declines : (b : List ℕ) (k : ℕ) (d : Decline) → sectionFault b k ≡ some d
+    → (firstFault (sectionChecks b k) ≡ some (d .fault)) × (d .place ≡ sectionStart b k)
+unfolding sectionFault
+section-declines b k d e = go (firstFault (sectionChecks b k)) refl
+  where
+    go : (o : Option Fault) → firstFault (sectionChecks b k) ≡ o
+        → (firstFault (sectionChecks b k) ≡ some (d .fault)) × (d .place ≡ sectionStart b k)
+    go none p =
+        let q : none ≡ some d = ap (faultAt (sectionStart b k)) (sym p) ∙ e in
+        let z : _≡_ {A = ℕ} 0 1 = cc in
+        absurd (omega arith)
+    go (some f) p =
+        let q : some (decline f (sectionStart b k)) ≡ some d = ap (faultAt (sectionStart b k)) (sym p) ∙ e in
+        let r : decline f (sectionStart b k) ≡ d = cc in
+        (p ∙ ap (λ (c : Decline). some (c .fault)) r, ap (λ (c : Decline). c .place) (sym r))
+
+-- a section with no fault passes its checks
+pub section-passes : (b : List ℕ) (k : ℕ) → sectionFault b k ≡ none → firstFault (sectionChecks b k) ≡ none
+unfolding sectionFault
+section-passes b k e = go (firstFault (sectionChecks b k)) refl
+  where
+    go : (o : Option Fault) → firstFault (sectionChecks b k) ≡ o → firstFault (sectionChecks b k) ≡ none
+    go none p = p
+    go (some f) p =
+        let q : some (decline f (sectionStart b k)) ≡ none = ap (faultAt (sectionStart b k)) (sym p) ∙ e in
+        let z : _≡_ {A = ℕ} 0 1 = cc in
+        absurd (omega arith)
+
+-- the sections before the first fault pass their checks
+pub passed-before : (b : List ℕ) (k : ℕ) → firstBelow k (sectionFault b) ≡ none → (i : ℕ) → i < k
+    → firstFault (sectionChecks b i) ≡ none
+passed-before b k e i h = section-passes b i (none-first k (sectionFault b) e i h)
+
+-- a section starts within the plan where those before it pass
+pub start-within : (b : List ℕ) → 0 < length b → (k : ℕ) → ((i : ℕ) → i < k → firstFault (sectionChecks b i) ≡ none)
+    → sectionStart b k ≤ length b
+unfolding sectionStart
+start-within b h zero passed = h
+start-within b h (suc k) passed = section-complete b k (passed k (le-refl (suc k)))
