@@ -139,16 +139,16 @@ module _ (sys : System) (st : State) where
       (λ r i v x.
       elim (ℕ-discrete i k) [
         | yes same ↦
-          absurd
-          (omega (
-            arith,
-            conserved k (w .within),
-            conserved 0 (omega arith),
-            r,
-            ap (st .listCounter) same,
-            x .counts,
-            into-take isList (sys .workers) (st .channel) j k (list labels) rest h e,
-          ))
+            absurd
+            (omega (
+              arith,
+              conserved k (w .within),
+              conserved 0 (omega arith),
+              r,
+              ap (st .listCounter) same,
+              x .counts,
+              into-take isList (sys .workers) (st .channel) j k (list labels) rest h e,
+            ))
         | no other ↦ record {
           no-work = update-other (st .workList) k W i other ∙ x .no-work;
           no-send = x .no-send;
@@ -163,10 +163,12 @@ module _ (sys : System) (st : State) where
   sending k C O w e (inl x) =
       inl
       (doomed-map
-      (λ i v u f.
-      (u, at-broadcast (λ j i l. listFirst n (st .channel j i) ≡ true → listFirst n l ≡ true) (sys .workers) k
-      (list (st .toSend k)) (st .channel) (λ i b d. first-append n (st .channel k i) (list (st .toSend k) ∷ []))
-      (λ j i y. y) i 0 f))
+      (λ i v u f. (
+        u,
+        at-broadcast (λ j i l. listFirst n (st .channel j i) ≡ true → listFirst n l ≡ true) (sys .workers) k
+            (list (st .toSend k)) (st .channel) (λ i b d. first-append n (st .channel k i) (list (st .toSend k) ∷ []))
+            (λ j i y. y) i 0 f,
+      ))
       x)
   sending k C O w e (inr x) =
       ⊎-elim
@@ -190,9 +192,11 @@ module _ (sys : System) (st : State) where
   passing k m rest w e no-list no-reply (inl x) =
       inl
       (doomed-map
-      (λ i v u f.
-      (u, at-update₂ (λ j i l. listFirst n (st .channel j i) ≡ true → listFirst n l ≡ true) (st .channel) k 0 rest
-      (λ y. first-pass n m rest no-list no-reply (rw e at y)) (λ j i y. y) i 0 f))
+      (λ i v u f. (
+        u,
+        at-update₂ (λ j i l. listFirst n (st .channel j i) ≡ true → listFirst n l ≡ true) (st .channel) k 0 rest
+            (λ y. first-pass n m rest no-list no-reply (rw e at y)) (λ j i y. y) i 0 f,
+      ))
       x)
   passing k m rest w e no-list no-reply (inr x) =
       inr
@@ -218,9 +222,11 @@ module _ (sys : System) (st : State) where
   answering k m w no-list idle (inl x) =
       inl
       (doomed-map
-      (λ i v u f.
-      (u, at-update₂ (λ j i l. listFirst n (st .channel j i) ≡ true → listFirst n l ≡ true) (st .channel) k 0 _
-      (first-append n (st .channel k 0) (m ∷ [])) (λ j i y. y) i 0 f))
+      (λ i v u f. (
+        u,
+        at-update₂ (λ j i l. listFirst n (st .channel j i) ≡ true → listFirst n l ≡ true) (st .channel) k 0 _
+            (first-append n (st .channel k 0) (m ∷ [])) (λ j i y. y) i 0 f,
+      ))
       x)
   answering k m w no-list idle (inr x) =
       inr
@@ -343,13 +349,13 @@ module _ (sys : System) (st : State) where
   closing-move es t conserved g (reads j k labels rest w h d e) o = reading es conserved j k _ labels rest _ w h e (g o)
   closing-move es t conserved g (hears j k q rest w h d e) o = still (aside j k rest w) (λ r i v x. x) (g o)
   closing-move es t conserved g (ignores j k i rest w h d e) o = still (aside j k rest w) (λ r i v x. x) (g o)
-  closing-move es t conserved g (answers k q w e r) o = 
+  closing-move es t conserved g (answers k q w e r) o =
       answering k (reply (q .number)) w refl (ready-idle t o k q e r) (g o)
   closing-move es t conserved g (asks e) o = asking t _ (λ i. broadcast-self (sys .workers) 0 _ (st .channel) i)
   closing-move es t conserved g (tallies k labels rest w e) o = absurd (false≢true o)
-  closing-move es t conserved g (marks k i rest w e r) o = 
+  closing-move es t conserved g (marks k i rest w e r) o =
       marking k (reply i) rest w e refl (and-right (st .controller .pollOpen) (eqb (i .0) n) r) (g o)
-  closing-move es t conserved g (drops k i rest w e r) o = 
+  closing-move es t conserved g (drops k i rest w e r) o =
       passing k (reply i) rest w e refl
       (⊎-elim (λ x. clash o x) (λ x. x) (and-false (st .controller .pollOpen) (eqb (i .0) n) r)) (g o)
   closing-move es t conserved g (discards k q rest w e) o = passing k (poll q) rest w e refl refl (g o)

@@ -92,9 +92,9 @@ module _ (sys : System) (st : State) (i : ℕ) (b : i ≤ sys .workers) where
   conserves (answers k q w e r) =
       elim (ℕ-discrete i 0) [
         | yes same ↦
-          rw same (omega (arith, into-put isList (sys .workers) (st .channel) k 0 (reply (q .number)) (w .within)))
+            rw same (omega (arith, into-put isList (sys .workers) (st .channel) k 0 (reply (q .number)) (w .within)))
         | no other ↦
-          omega (arith, into-other isList (sys .workers) (st .channel) k 0 (st .channel k 0 ++ (reply (q .number) ∷ [])) i other)
+            omega (arith, into-other isList (sys .workers) (st .channel) k 0 (st .channel k 0 ++ (reply (q .number) ∷ [])) i other)
       ]
   conserves (asks e) =
       broadcast-conserves (sys .workers) (st .listCounter) (st .listCounter) (st .channel) 0 _

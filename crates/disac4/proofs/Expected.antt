@@ -108,11 +108,11 @@ module _ (sys : System) (st : State) where
       (λ x.
       elim (ℕ-discrete i k) [
         | yes same ↦
-          will-hold
-          (rw (same, update-same (st .held) k (some q), update₂-same (st .channel) 0 k rest) (rw (same, e) at x))
+            will-hold
+            (rw (same, update-same (st .held) k (some q), update₂-same (st .channel) 0 k rest) (rw (same, e) at x))
         | no other ↦
-          will-hold
-          (rw (update-other (st .held) k (some q) i other, update₂-second (st .channel) 0 k rest 0 i other) x)
+            will-hold
+            (rw (update-other (st .held) k (some q) i other, update₂-second (st .channel) 0 k rest 0 i other) x)
       ])
       (g i v)
 
@@ -157,9 +157,9 @@ module _ (sys : System) (st : State) where
       elim (ℕ-discrete i k) [
         | yes same ↦ has-mark (rw same (update-same (st .controller .marked) k true))
         | no other ↦
-          answered-map (λ x. update-other (st .controller .marked) k true i other ∙ x)
-          (λ x. rw (update₂-first (st .channel) k 0 rest i 0 other) x)
-          (λ x. will-hold (rw (update₂-first (st .channel) k 0 rest 0 i (not-controller w)) x)) (g i v)
+            answered-map (λ x. update-other (st .controller .marked) k true i other ∙ x)
+            (λ x. rw (update₂-first (st .channel) k 0 rest i 0 other) x)
+            (λ x. will-hold (rw (update₂-first (st .channel) k 0 rest 0 i (not-controller w)) x)) (g i v)
       ]
 
   sending : (k : ℕ) (m : Message) → Worker sys k → Now

@@ -6,6 +6,7 @@ pub mod Conservation
 pub mod Counters
 pub mod Deleted
 pub mod Delivered
+pub mod Demands
 pub mod DomainSize
 pub mod Every
 pub mod Expected
@@ -13,7 +14,6 @@ pub mod Figures
 pub mod Final
 pub mod Flow
 pub mod Largest
-pub mod Members
 pub mod Moves
 pub mod Occurrences
 pub mod Order

@@ -196,15 +196,15 @@ allowed-bounds p t few ok = go (eqb (t .actor) 0) refl ok
     go true e ok = (
       omega (arith, eqb-true (t .actor) 0 e),
       ⊎-elim (λ x. omega (arith, between-high 1 p (t .action) x)) (λ x. omega (arith, eqb-true (t .action) pollNumber x))
-      (or-cases (between 1 p (t .action)) _ ok),
+          (or-cases (between 1 p (t .action)) _ ok),
     )
     go false e ok = (
       omega (arith, leb-true (t .actor) p (and-left (leb (t .actor) p) _ ok)),
       ⊎-elim
-      (λ x. omega (arith, leb-true (t .action) p (and-left (leb (t .action) p) _ x)))
-      (λ x. omega (arith, between-high treatNumber answerNumber (t .action) x))
-      (or-cases (leb (t .action) p && not (eqb (t .action) (t .actor))) (between treatNumber answerNumber (t .action))
-      (and-right (leb (t .actor) p) _ ok)),
+          (λ x. omega (arith, leb-true (t .action) p (and-left (leb (t .action) p) _ x)))
+          (λ x. omega (arith, between-high treatNumber answerNumber (t .action) x))
+          (or-cases (leb (t .action) p && not (eqb (t .action) (t .actor))) (between treatNumber answerNumber (t .action))
+          (and-right (leb (t .actor) p) _ ok)),
     )
 
 -- while the plan is open, some allowed turn changes something
