@@ -1,4 +1,5 @@
 pub mod Channels
+pub mod Closed
 pub mod Closing
 pub mod Conservation
 pub mod Every
