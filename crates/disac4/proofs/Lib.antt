@@ -1,6 +1,7 @@
 pub mod Bound
 pub mod ByTreat
 pub mod Channels
+pub mod Closed
 pub mod Closing
 pub mod Conservation
 pub mod Counters
