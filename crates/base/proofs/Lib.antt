@@ -2,6 +2,7 @@ pub mod Below
 pub mod Bools
 pub mod Bytes
 pub mod Choice
+pub mod Each
 pub mod Members
 pub mod Row
 pub mod Sums

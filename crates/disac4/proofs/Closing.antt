@@ -1,33 +1,31 @@
--- Closing is safe: an open poll either cannot be answered by all, or no list message is on its way to the controller and
+-- Closing is safe: an open poll either is ended by a list message, or no list message is on its way to the controller and
 -- every worker that replied has nothing left to do.
-use Prim.Native.Nat.{ℕ, zero, suc, _+_, _<_, _≤_}
-use mathlib.Core.Bool.{Bool, true, false, cond, _&&_, _||_, not, false≢true}
+use Prim.Native.Nat.{ℕ, zero, suc, _<_, _≤_}
+use mathlib.Core.Bool.{Bool, true, false, _&&_, false≢true}
 use mathlib.Core.List.{List, [], _∷_, _++_}
 use mathlib.Core.Logic.{_⊎_, inl, inr, ⊎-elim}
 use mathlib.Core.Option.{some}
-use mathlib.Core.Path.{_≡_, refl, sym, _∙_, ap, subst}
+use mathlib.Core.Path.{_≡_, refl, sym, _∙_, ap}
 use native.Mathlib.Decide.{ℕ-discrete}
 use native.Mathlib.Omega.{arith}
-use borrow.Author.Tests.{eqb-true, eqb-false, eq-eqb, ne-eqb}
+use borrow.Author.Tests.{eqb-true}
 use lib.Dec.{eqb}
-use Rattle.base.proofs.Bools.{decided, clash, refuted, and-left, and-right, and-intro, and-false, or-left, or-right, or-false-right}
-use Rattle.base.proofs.Below.{all-below}
-use Rattle.base.proofs.Choice.{update-same, update-other, update₂-same, update₂-first, update₂-second}
-use Rattle.base.proofs.Sums.{sum-some, sum-none}
+use Rattle.base.proofs.Bools.{decided, clash, and-left, and-right, or-left, or-false-right}
+use Rattle.base.proofs.Choice.{update-other, update₂-first, update₂-second}
+use Rattle.base.proofs.Sums.{sum-some}
 use Rattle.base.proofs.Weight.{weigh}
 use Rattle.base.specs.Choice.{update, update₂}
 use Rattle.network.specs.Network.{Label}
-use Rattle.disac4.proofs.Channels.{Channels, into, into-take, into-put, into-same, into-other, broadcast-to, broadcast-self}
+use Rattle.disac4.proofs.Channels.{Channels, into, into-take, into-put, into-same, broadcast-to, broadcast-self}
 use Rattle.disac4.proofs.Conservation.{Conserved}
-use Rattle.disac4.proofs.Every.{at-update, at-update₂, at-broadcast}
+use Rattle.disac4.proofs.Every.{at-update₂, at-broadcast}
 use Rattle.disac4.proofs.Moves.{Worker, Moves, treats, sends, reads, hears, ignores, answers, asks, tallies, marks, drops, discards}
-use Rattle.disac4.proofs.Replies.{isReply, replied, listFirst, first-append, first-some, first-sent, first-pass, replied-append, reply-first, none-replied}
-use Rattle.disac4.proofs.Sound.{isList, Quiet}
+use Rattle.disac4.proofs.Replies.{isReply, replied, listFirst, first-append, first-some, first-sent, first-pass, replied-append, reply-first, none-replied, not-current}
+use Rattle.disac4.proofs.Sound.{isList}
 use Rattle.disac4.proofs.Typed.{Typed, no-self, not-controller, controller-count}
-use Rattle.disac4.specs.Action.{isEmpty, ready, current, allMarked, broadcast, afterTreat, afterSend, afterList, afterPoll, afterDrop, afterAnswer, afterAsk, afterCount, afterMark}
+use Rattle.disac4.specs.Action.{isEmpty, ready, current, broadcast, afterTreat, afterSend, afterList, afterPoll, afterDrop, afterAnswer, afterAsk, afterCount, afterMark}
 use Rattle.disac4.specs.Event.{Event}
-use Rattle.disac4.specs.Loading.{load}
-use Rattle.disac4.specs.State.{State, Message, list, poll, reply, Poll, Controller}
+use Rattle.disac4.specs.State.{State, Message, list, poll, reply, Poll}
 use Rattle.disac4.specs.System.{System}
 
 -- ---- over the timestamp `n`, the marks, the channels, the counts of lists, the work lists and the to-send lists
@@ -59,6 +57,7 @@ pub record Agreed (sys : System) (n : ℕ) (marked : ℕ → Bool) (c : Channels
 abbrev pub Poised : System → ℕ → (ℕ → Bool) → Channels → (ℕ → ℕ) → (ℕ → List Label) → (ℕ → List Label) → Type 0
 Poised sys n marked c C W O = Doomed sys n marked c ⊎ Agreed sys n marked c C W O
 
+-- the invariant
 abbrev pub Closing : System → State → Type 0
 Closing sys st =
     st .controller .pollOpen ≡ true
@@ -94,6 +93,7 @@ still {sys} {n} {marked} {c} {d} same f (inr x) =
 
 -- ---- every move keeps it
 
+-- a list that passes the test for it is empty
 pub empty {ℓ} : {A : Type ℓ} (l : List A) → isEmpty l ≡ true → l ≡ []
 empty [] e = refl
 empty (a ∷ l) e = absurd (false≢true e)
@@ -117,6 +117,7 @@ module _ (sys : System) (st : State) where
   aside : (j k : ℕ) (l : List Message) → Worker sys k → (i : ℕ) → update₂ (st .channel) j k l i 0 ≡ st .channel i 0
   aside j k l w i = update₂-second (st .channel) j k l i 0 (not-controller w)
 
+  -- worker `k` treats a label: it was not idle
   treating : (k : ℕ) (a : Label) (rest W O : List Label) → st .workList k ≡ a ∷ rest → Now
       → With marked (st .channel) (st .listCounter) (update (st .workList) k W) (update (st .toSend) k O)
   treating k a rest W O e =
@@ -131,7 +132,9 @@ module _ (sys : System) (st : State) where
         }
       ])
 
-  reading : (es : List Event) → Conserved sys st es → (j k m : ℕ) (labels : List Label) (rest : List Message) (W : List Label) → Worker sys k → j ≤ sys .workers
+  -- worker `k` reads a list message: with all read by the controller, it was not idle
+  reading : (es : List Event) → Conserved sys st es
+      → (j k m : ℕ) (labels : List Label) (rest : List Message) (W : List Label) → Worker sys k → j ≤ sys .workers
       → st .channel j k ≡ list labels ∷ rest → Now
       → With marked (update₂ (st .channel) j k rest) (update (st .listCounter) k m) (update (st .workList) k W) (st .toSend)
   reading es conserved j k m labels rest W w h e =
@@ -139,16 +142,16 @@ module _ (sys : System) (st : State) where
       (λ r i v x.
       elim (ℕ-discrete i k) [
         | yes same ↦
-          absurd
-          (omega (
-            arith,
-            conserved k (w .within),
-            conserved 0 (omega arith),
-            r,
-            ap (st .listCounter) same,
-            x .counts,
-            into-take isList (sys .workers) (st .channel) j k (list labels) rest h e,
-          ))
+            absurd
+            (omega (
+              arith,
+              conserved k (w .within),
+              conserved 0 (omega arith),
+              r,
+              ap (st .listCounter) same,
+              x .counts,
+              into-take isList (sys .workers) (st .channel) j k (list labels) rest h e,
+            ))
         | no other ↦ record {
           no-work = update-other (st .workList) k W i other ∙ x .no-work;
           no-send = x .no-send;
@@ -158,15 +161,20 @@ module _ (sys : System) (st : State) where
         }
       ])
 
+  -- the list message in front stays in every channel
+  doomed-still : (d : Channels) → ((j i : ℕ) → listFirst n (st .channel j i) ≡ true → listFirst n (d j i) ≡ true)
+      → Doomed sys n marked (st .channel) → Doomed sys n marked d
+  doomed-still d keeps = doomed-map (λ i v u f. (u, keeps i 0 f))
+
+  -- worker `k` sends: it was not idle, so it had not replied, and its list message dooms the poll
   sending : (k : ℕ) (C : ℕ → ℕ) (O : ℕ → List Label) → Worker sys k → isEmpty (st .toSend k) ≡ false → Now
       → With marked (broadcast (sys .workers) k (list (st .toSend k)) (st .channel)) C (st .workList) O
   sending k C O w e (inl x) =
       inl
-      (doomed-map
-      (λ i v u f.
-      (u, at-broadcast (λ j i l. listFirst n (st .channel j i) ≡ true → listFirst n l ≡ true) (sys .workers) k
+      (doomed-still _
+      (at-broadcast (λ j i l. listFirst n (st .channel j i) ≡ true → listFirst n l ≡ true) (sys .workers) k
       (list (st .toSend k)) (st .channel) (λ i b d. first-append n (st .channel k i) (list (st .toSend k) ∷ []))
-      (λ j i y. y) i 0 f))
+      (λ j i y. y))
       x)
   sending k C O w e (inr x) =
       ⊎-elim
@@ -189,10 +197,9 @@ module _ (sys : System) (st : State) where
       → With marked (update₂ (st .channel) k 0 rest) (st .listCounter) (st .workList) (st .toSend)
   passing k m rest w e no-list no-reply (inl x) =
       inl
-      (doomed-map
-      (λ i v u f.
-      (u, at-update₂ (λ j i l. listFirst n (st .channel j i) ≡ true → listFirst n l ≡ true) (st .channel) k 0 rest
-      (λ y. first-pass n m rest no-list no-reply (rw e at y)) (λ j i y. y) i 0 f))
+      (doomed-still _
+      (at-update₂ (λ j i l. listFirst n (st .channel j i) ≡ true → listFirst n l ≡ true) (st .channel) k 0 rest
+      (λ y. first-pass n m rest no-list no-reply (rw e at y)) (λ j i y. y))
       x)
   passing k m rest w e no-list no-reply (inr x) =
       inr
@@ -217,10 +224,9 @@ module _ (sys : System) (st : State) where
       → With marked (update₂ (st .channel) k 0 (st .channel k 0 ++ (m ∷ []))) (st .listCounter) (st .workList) (st .toSend)
   answering k m w no-list idle (inl x) =
       inl
-      (doomed-map
-      (λ i v u f.
-      (u, at-update₂ (λ j i l. listFirst n (st .channel j i) ≡ true → listFirst n l ≡ true) (st .channel) k 0 _
-      (first-append n (st .channel k 0) (m ∷ [])) (λ j i y. y) i 0 f))
+      (doomed-still _
+      (at-update₂ (λ j i l. listFirst n (st .channel j i) ≡ true → listFirst n l ≡ true) (st .channel) k 0 _
+      (first-append n (st .channel k 0) (m ∷ [])) (λ j i y. y))
       x)
   answering k m w no-list idle (inr x) =
       inr
@@ -288,9 +294,7 @@ module _ (sys : System) (st : State) where
   asking t d same = go (into isList (sys .workers) (st .channel) 0) refl
     where
       none-yet : (i : ℕ) → replied (suc n) (st .channel i 0) ≡ false
-      none-yet i =
-          none-replied (suc n) (sys .workers) n (st .controller .pollOpen) (st .listCounter 0) i 0 (st .channel i 0)
-          (omega arith) (t .messages i 0)
+      none-yet i = none-replied t (suc n) (omega arith) i 0
 
       from-worker : (j : ℕ) → 0 < weigh isList (st .channel j 0) → 0 < j
       from-worker j h =
@@ -343,71 +347,12 @@ module _ (sys : System) (st : State) where
   closing-move es t conserved g (reads j k labels rest w h d e) o = reading es conserved j k _ labels rest _ w h e (g o)
   closing-move es t conserved g (hears j k q rest w h d e) o = still (aside j k rest w) (λ r i v x. x) (g o)
   closing-move es t conserved g (ignores j k i rest w h d e) o = still (aside j k rest w) (λ r i v x. x) (g o)
-  closing-move es t conserved g (answers k q w e r) o = 
+  closing-move es t conserved g (answers k q w e r) o =
       answering k (reply (q .number)) w refl (ready-idle t o k q e r) (g o)
   closing-move es t conserved g (asks e) o = asking t _ (λ i. broadcast-self (sys .workers) 0 _ (st .channel) i)
   closing-move es t conserved g (tallies k labels rest w e) o = absurd (false≢true o)
-  closing-move es t conserved g (marks k i rest w e r) o = 
+  closing-move es t conserved g (marks k i rest w e r) o =
       marking k (reply i) rest w e refl (and-right (st .controller .pollOpen) (eqb (i .0) n) r) (g o)
-  closing-move es t conserved g (drops k i rest w e r) o = 
-      passing k (reply i) rest w e refl
-      (⊎-elim (λ x. clash o x) (λ x. x) (and-false (st .controller .pollOpen) (eqb (i .0) n) r)) (g o)
+  closing-move es t conserved g (drops k i rest w e r) o =
+      passing k (reply i) rest w e refl (not-current st i o r) (g o)
   closing-move es t conserved g (discards k q rest w e) o = passing k (poll q) rest w e refl refl (g o)
-
--- the plan is closed exactly if a poll is open and all workers are marked
-pub record Closure (sys : System) (controller : Controller) : Type 0 where
-  pub asked : controller .closed ≡ true → controller .pollOpen ≡ true
-  pub exact : controller .pollOpen ≡ true → controller .closed ≡ allMarked sys (controller .marked)
-
-none-marked : (sys : System) → 0 < sys .workers → allMarked sys (λ k. false) ≡ false
-unfolding allMarked
-none-marked sys some-worker =
-    refuted _ (λ e. false≢true (all-below (sys .workers) (λ i. false) e 0 some-worker))
-
--- every move in an open plan keeps it
-pub closure-move : {sys : System} {st s : State} {new : List Event} → 0 < sys .workers → st .controller .closed ≡ false
-    → Closure sys (st .controller) → Moves sys st s new → Closure sys (s .controller)
-unfolding current afterTreat afterSend afterList afterPoll afterDrop afterAnswer afterAsk afterCount afterMark
-closure-move p f g (treats k a rest w e) = g
-closure-move p f g (sends k w e) = g
-closure-move p f g (reads j k labels rest w h d e) = g
-closure-move p f g (hears j k q rest w h d e) = g
-closure-move p f g (ignores j k i rest w h d e) = g
-closure-move p f g (answers k q w e r) = g
-closure-move {sys} p f g (asks e) = record { asked = λ x. refl; exact = λ x. f ∙ sym (none-marked sys p) }
-closure-move p f g (tallies k labels rest w e) = record { asked = λ x. clash x f; exact = λ x. absurd (false≢true x) }
-closure-move p f g (marks k i rest w e r) = record { asked = λ x. and-left _ _ r; exact = λ x. refl }
-closure-move p f g (drops k i rest w e r) = g
-closure-move p f g (discards k q rest w e) = g
-
--- with every worker marked, nothing is left to do
-pub all-marked-quiet : {sys : System} {st : State} (es : List Event) → Conserved sys st es → Closing sys st
-    → st .controller .pollOpen ≡ true → allMarked sys (st .controller .marked) ≡ true → Quiet sys st
-unfolding allMarked
-all-marked-quiet {sys} {st} es conserved g o all = ⊎-elim (λ x. clash (is-marked (x .worker) (x .is-worker)) (x .unmarked)) quiet (g o)
-  where
-    is-marked : (k : ℕ) → Worker sys k → st .controller .marked k ≡ true
-    is-marked zero w = absurd (omega (arith, w .above))
-    is-marked (suc k) w = all-below (sys .workers) (λ i. st .controller .marked (suc i)) all k (w .within)
-
-    quiet : Agreed sys (st .controller .timestamp) (st .controller .marked) (st .channel) (st .listCounter) (st .workList)
-        (st .toSend) → Quiet sys st
-    quiet x = record {
-      no-work = λ k w. idle k w .no-work;
-      no-send = λ k w. idle k w .no-send;
-      no-list = λ j k h b. sum-none (suc (sys .workers)) (λ j. weigh isList (st .channel j k)) (none-to k b) j (omega arith);
-    }
-      where
-        idle : (k : ℕ) → Worker sys k → Idle (st .listCounter) (st .workList) (st .toSend) k
-        idle k w = ⊎-elim (λ y. clash (is-marked k w) (y .unmarked)) (λ y. y) (x .each k w)
-
-        none-to : (k : ℕ) → k ≤ sys .workers → into isList (sys .workers) (st .channel) k ≡ 0
-        none-to zero b = x .all-read
-        none-to (suc k) b =
-            omega (
-              arith,
-              idle (suc k) (record { above = omega arith; within = b }) .counts,
-              conserved (suc k) b,
-              conserved 0 (omega arith),
-              x .all-read,
-            )

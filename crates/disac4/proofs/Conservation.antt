@@ -1,7 +1,7 @@
 -- Conservation: an actor's count of lists and the list messages on their way to it make up the list messages sent so far.
-use Prim.Native.Nat.{ℕ, zero, suc, _+_, _<_, _≤_}
+use Prim.Native.Nat.{ℕ, suc, _+_, _≤_}
 use mathlib.Core.List.{List, [], _∷_, _++_}
-use mathlib.Core.Path.{_≡_, refl, sym, _∙_, ap}
+use mathlib.Core.Path.{_≡_, refl, _∙_}
 use native.Mathlib.Decide.{ℕ-discrete}
 use native.Mathlib.Omega.{arith}
 use Rattle.base.proofs.Choice.{update-same, update-other}
@@ -10,14 +10,13 @@ use Rattle.base.proofs.Weight.{weigh, weigh-append}
 use Rattle.base.specs.Choice.{update, update₂}
 use Rattle.network.specs.Network.{Label}
 use Rattle.disac4.proofs.Channels.{Channels, into, into-take, into-put, into-other, into-broadcast, into-broadcast-self}
-use Rattle.disac4.proofs.Moves.{Worker, Moves, treats, sends, reads, hears, ignores, answers, asks, tallies, marks, drops, discards}
+use Rattle.disac4.proofs.Moves.{Moves, treats, sends, reads, hears, ignores, answers, asks, tallies, marks, drops, discards}
 use Rattle.disac4.proofs.Sound.{isList}
 use Rattle.disac4.specs.Action.{broadcast, afterTreat, afterSend, afterList, afterPoll, afterDrop, afterAnswer, afterAsk, afterCount, afterMark}
 use Rattle.disac4.specs.Event.{Event, sent, taken, treated}
 use Rattle.disac4.specs.Loading.{load}
 use Rattle.disac4.specs.State.{State, Message, list, poll, reply}
 use Rattle.disac4.specs.System.{System}
-use Rattle.disac4.specs.declared.Timestamp.{Timestamp}
 
 -- 1 for a send
 abbrev pub isSent : Event → ℕ
@@ -92,9 +91,9 @@ module _ (sys : System) (st : State) (i : ℕ) (b : i ≤ sys .workers) where
   conserves (answers k q w e r) =
       elim (ℕ-discrete i 0) [
         | yes same ↦
-          rw same (omega (arith, into-put isList (sys .workers) (st .channel) k 0 (reply (q .number)) (w .within)))
+            rw same (omega (arith, into-put isList (sys .workers) (st .channel) k 0 (reply (q .number)) (w .within)))
         | no other ↦
-          omega (arith, into-other isList (sys .workers) (st .channel) k 0 (st .channel k 0 ++ (reply (q .number) ∷ [])) i other)
+            omega (arith, into-other isList (sys .workers) (st .channel) k 0 (st .channel k 0 ++ (reply (q .number) ∷ [])) i other)
       ]
   conserves (asks e) =
       broadcast-conserves (sys .workers) (st .listCounter) (st .listCounter) (st .channel) 0 _

@@ -4,12 +4,11 @@ use mathlib.Core.Bool.{Bool, true, false, cond, _&&_, not}
 use mathlib.Core.List.{List, [], _∷_, _++_}
 use mathlib.Core.Path.{_≡_, refl, sym, subst}
 use native.Mathlib.Decide.{ℕ-discrete}
-use borrow.Author.Tests.{leb-true, eqb-true, eqb-false, not-true}
+use borrow.Author.Tests.{leb-true, eqb-true, eqb-false}
 use lib.Dec.{leb, eqb}
-use Rattle.base.proofs.Bools.{and-left, and-right}
-use Rattle.base.proofs.Choice.{update-same, update-other, update₂-same, update₂-first, update₂-second}
+use Rattle.base.proofs.Choice.{update-same, update-other}
 use Rattle.base.specs.Choice.{update, update₂}
-use Rattle.disac4.proofs.Channels.{Channels, broadcast-to, broadcast-sender, broadcast-self}
+use Rattle.disac4.proofs.Channels.{Channels}
 use Rattle.disac4.specs.Action.{broadcast}
 use Rattle.disac4.specs.State.{Message}
 
@@ -38,10 +37,12 @@ module _ {ℓ} {A : Type ℓ} where
   Each P [] = Unit
   Each P (a ∷ l) = P a × Each P l
 
+  -- two lists joined
   pub each-append : (P : A → Type 0) (l m : List A) → Each P l → Each P m → Each P (l ++ m)
   each-append P [] m h e = e
   each-append P (a ∷ l) m h e = (h .0, each-append P l m (h .1) e)
 
+  -- what follows for each member
   pub each-map : (P Q : A → Type 0) → ((a : A) → P a → Q a) → (l : List A) → Each P l → Each Q l
   each-map P Q f [] h = tt
   each-map P Q f (a ∷ l) h = (f a (h .0), each-map P Q f l (h .1))

@@ -1,21 +1,19 @@
 -- While a poll is open, every worker is marked, has its reply on the way, or will hold that poll.
-use Prim.Native.Nat.{ℕ, zero, suc, _+_, _<_, _≤_}
-use mathlib.Core.Bool.{Bool, true, false, cond, _&&_, _||_, not, false≢true}
+use Prim.Native.Nat.{ℕ, suc}
+use mathlib.Core.Bool.{Bool, true, false, false≢true}
 use mathlib.Core.List.{List, [], _∷_, _++_}
 use mathlib.Core.Logic.{_⊎_, inl, inr, ⊎-elim}
 use mathlib.Core.Option.{Option, none, some}
-use mathlib.Core.Path.{_≡_, refl, sym, _∙_, ap, subst}
+use mathlib.Core.Path.{_≡_, refl, sym, _∙_, ap}
 use native.Mathlib.Decide.{ℕ-discrete}
-use native.Mathlib.Omega.{arith}
-use borrow.Author.Tests.{eqb-true, eqb-false, eq-eqb, ne-eqb}
-use lib.Dec.{eqb}
-use Rattle.base.proofs.Bools.{decided, clash, and-right, and-false, or-cases, or-left, or-right}
+use borrow.Author.Tests.{eq-eqb}
+use Rattle.base.proofs.Bools.{clash, or-cases, or-left}
 use Rattle.base.proofs.Choice.{update-same, update-other, update₂-same, update₂-first, update₂-second, anyOf-left, anyOf-right}
 use Rattle.base.specs.Choice.{update, update₂}
-use Rattle.disac4.proofs.Channels.{Channels, broadcast-to, broadcast-sender, broadcast-self}
-use Rattle.disac4.proofs.Every.{at-update, at-update₂, at-broadcast}
+use Rattle.disac4.proofs.Channels.{Channels, broadcast-to, broadcast-sender}
+use Rattle.disac4.proofs.Every.{at-update₂, at-broadcast}
 use Rattle.disac4.proofs.Moves.{Worker, Moves, treats, sends, reads, hears, ignores, answers, asks, tallies, marks, drops, discards}
-use Rattle.disac4.proofs.Replies.{isReply, replied}
+use Rattle.disac4.proofs.Replies.{isReply, replied, not-current}
 use Rattle.disac4.proofs.Typed.{Typed, not-controller, controller-count}
 use Rattle.disac4.specs.Action.{current, pollOf, broadcast, afterTreat, afterSend, afterList, afterPoll, afterDrop, afterAnswer, afterAsk, afterCount, afterMark}
 use Rattle.disac4.specs.Event.{Event}
@@ -43,12 +41,13 @@ held-from q r (list labels ∷ l) e = held-from q r l e
 held-from q r (poll s ∷ l) e = inr e
 held-from q r (reply n ∷ l) e = held-from q r l e
 
--- worker `k` and poll `q`
+-- worker `k` is marked, has its reply to poll `q` on the way, or will hold that poll
 pub data Answered (q : Poll) (marked : ℕ → Bool) (held : ℕ → Option Poll) (c : Channels) (k : ℕ) : Type 0 where
   has-mark : marked k ≡ true → Answered q marked held c k
   has-replied : replied (q .number .0) (c k 0) ≡ true → Answered q marked held c k
   will-hold : heldAfter (held k) (c 0 k) ≡ some q → Answered q marked held c k
 
+-- every worker, while a poll is open
 abbrev pub Expected : System → State → Type 0
 Expected sys st =
     st .controller .pollOpen ≡ true → (k : ℕ) → Worker sys k
@@ -108,11 +107,11 @@ module _ (sys : System) (st : State) where
       (λ x.
       elim (ℕ-discrete i k) [
         | yes same ↦
-          will-hold
-          (rw (same, update-same (st .held) k (some q), update₂-same (st .channel) 0 k rest) (rw (same, e) at x))
+            will-hold
+            (rw (same, update-same (st .held) k (some q), update₂-same (st .channel) 0 k rest) (rw (same, e) at x))
         | no other ↦
-          will-hold
-          (rw (update-other (st .held) k (some q) i other, update₂-second (st .channel) 0 k rest 0 i other) x)
+            will-hold
+            (rw (update-other (st .held) k (some q) i other, update₂-second (st .channel) 0 k rest 0 i other) x)
       ])
       (g i v)
 
@@ -157,11 +156,12 @@ module _ (sys : System) (st : State) where
       elim (ℕ-discrete i k) [
         | yes same ↦ has-mark (rw same (update-same (st .controller .marked) k true))
         | no other ↦
-          answered-map (λ x. update-other (st .controller .marked) k true i other ∙ x)
-          (λ x. rw (update₂-first (st .channel) k 0 rest i 0 other) x)
-          (λ x. will-hold (rw (update₂-first (st .channel) k 0 rest 0 i (not-controller w)) x)) (g i v)
+            answered-map (λ x. update-other (st .controller .marked) k true i other ∙ x)
+            (λ x. rw (update₂-first (st .channel) k 0 rest i 0 other) x)
+            (λ x. will-hold (rw (update₂-first (st .channel) k 0 rest 0 i (not-controller w)) x)) (g i v)
       ]
 
+  -- worker `k` broadcasts a message
   sending : (k : ℕ) (m : Message) → Worker sys k → Now
       → With (st .controller .marked) (st .held) (broadcast (sys .workers) k m (st .channel))
   sending k m w g i v =
@@ -199,5 +199,5 @@ module _ (sys : System) (st : State) where
   expected-move t g (marks k i rest w e r) o = marking k rest w (g o)
   expected-move t g (drops k i rest w e r) o =
       controller-takes k (reply i) rest w e
-      (⊎-elim (λ x. clash o x) (λ x. x) (and-false (st .controller .pollOpen) (eqb (i .0) (st .controller .timestamp)) r)) (g o)
+      (not-current st i o r) (g o)
   expected-move t g (discards k q rest w e) o = controller-takes k (poll q) rest w e refl (g o)

@@ -1,22 +1,22 @@
 -- The figures of a run: the timestamp is the number of polls that changed something, and no count of lists is above the
 -- number of such sends.
-use Prim.Native.Nat.{ℕ, zero, suc, _+_, _<_, _≤_}
+use Prim.Native.Nat.{ℕ, _+_, _≤_}
 use mathlib.Core.Bool.{Bool, true, false, cond, _&&_, _||_, not}
-use mathlib.Core.List.{List, [], _∷_, _++_}
+use mathlib.Core.List.{List, [], _∷_}
 use mathlib.Core.Option.{Option, none, some, Option·getD}
-use mathlib.Core.Path.{_≡_, refl, sym, _∙_, ap}
+use mathlib.Core.Path.{_≡_, refl, _∙_}
 use native.Mathlib.Omega.{arith}
-use borrow.Author.Tests.{ne-eqb}
-use lib.Dec.{eqb, leb}
+use lib.Dec.{eqb}
 use Rattle.base.proofs.Weight.{weigh, weigh-append}
 use Rattle.base.specs.Below.{one}
 use Rattle.network.specs.Network.{Label}
 use Rattle.disac4.proofs.Channels.{into}
 use Rattle.disac4.proofs.Conservation.{isSent}
-use Rattle.disac4.proofs.Safety.{Safe, safe-run}
+use Rattle.disac4.proofs.Safety.{safe-run}
 use Rattle.disac4.proofs.Sound.{Sound, isList}
+use Rattle.disac4.proofs.Typed.{Timely}
 use Rattle.disac4.specs.Action.{isEmpty, treat, treatFrom, afterTreat, send, afterSend, readFrom, readWorker, afterList, afterPoll, afterDrop, ready, answer, answerTo, afterAnswer, ask, afterAsk, current, controllerFrom, readController, afterCount, afterMark}
-use Rattle.disac4.specs.Event.{Event, sent, taken, treated, eventsAt, events, treatEvent, readEvent, isTreat, isRead}
+use Rattle.disac4.specs.Event.{sent, eventsAt, events, treatEvent, readEvent, isTreat, isRead}
 use Rattle.disac4.specs.Loading.{load}
 use Rattle.disac4.specs.Report.{isSend, isPoll}
 use Rattle.disac4.specs.State.{State, Message, list, poll, reply, Poll}
@@ -171,3 +171,13 @@ pub timestamp-of-run : (sys : System) (ts : List Turn)
     → play sys (load sys) ts .controller .timestamp ≡ changesWhere sys isPoll (load sys) ts
 unfolding load
 timestamp-of-run sys ts = polls-add sys ts (load sys) ∙ omega arith
+
+-- every poll on its way or held has a number up to the polls, and wants at most the sends
+pub poll-bound : {sys : System} → Sound sys → (ts : List Turn) (q : Poll)
+    → Timely (play sys (load sys) ts .controller .timestamp) (play sys (load sys) ts .controller .pollOpen)
+    (play sys (load sys) ts .listCounter 0) q
+    → (q .number .0 ≤ changesWhere sys isPoll (load sys) ts) × (q .wanted .0 ≤ changesWhere sys isSend (load sys) ts)
+poll-bound {sys} sound ts q t = (
+  omega (arith, t .bound, timestamp-of-run sys ts),
+  omega (arith, t .within, list-counter-bound sound ts 0 (omega arith)),
+)

@@ -1,11 +1,13 @@
 pub mod Bound
 pub mod ByTreat
 pub mod Channels
+pub mod Closed
 pub mod Closing
 pub mod Conservation
 pub mod Counters
 pub mod Deleted
 pub mod Delivered
+pub mod Demands
 pub mod DomainSize
 pub mod Every
 pub mod Expected
@@ -13,7 +15,6 @@ pub mod Figures
 pub mod Final
 pub mod Flow
 pub mod Largest
-pub mod Members
 pub mod Moves
 pub mod Occurrences
 pub mod Order

@@ -1,27 +1,25 @@
 -- Progress: while the plan is open, some allowed turn changes something.
-use Prim.Native.Nat.{ℕ, zero, suc, _+_, _<_, _≤_}
+use Prim.Native.Nat.{ℕ, zero, suc, _<_, _≤_}
 use mathlib.Core.Bool.{Bool, true, false, cond, _&&_, _||_, not, false≢true}
-use mathlib.Core.List.{List, [], _∷_, _++_}
-use mathlib.Core.Logic.{_⊎_, inl, inr, ⊎-elim}
+use mathlib.Core.List.{List, [], _∷_}
+use mathlib.Core.Logic.{⊎-elim}
 use mathlib.Core.Option.{Option, none, some}
 use mathlib.Core.Path.{_≡_, refl, sym, _∙_, ap, subst}
 use native.Mathlib.Decide.{ℕ-discrete}
 use native.Mathlib.Omega.{arith}
-use borrow.Author.Tests.{leb-true, eqb-true, eqb-false, le-leb, eq-eqb, ne-eqb, not-true, not-false}
+use borrow.Author.Tests.{leb-true, eqb-true, le-leb, eq-eqb, ne-eqb}
 use lib.Dec.{leb, eqb}
-use Rattle.base.proofs.Bools.{decided, clash, refuted, and-left, and-right, and-intro, and-false, or-cases, or-left, or-right, or-false, not-of, not-of-true}
 use Rattle.base.proofs.Below.{some-below, none-below, every-below}
-use Rattle.base.proofs.Choice.{cond-true, cond-false, between-low, between-high}
+use Rattle.base.proofs.Bools.{decided, clash, and-left, and-right, and-intro, and-false, or-cases, or-left, or-right, or-false, not-of, not-of-true}
+use Rattle.base.proofs.Choice.{cond-false, between-high}
 use Rattle.base.proofs.Sums.{sum-zero}
 use Rattle.base.proofs.Weight.{weigh}
 use Rattle.base.specs.Below.{anyBelow}
 use Rattle.base.specs.Choice.{between}
-use Rattle.network.specs.Network.{Label}
 use Rattle.disac4.proofs.Channels.{into}
 use Rattle.disac4.proofs.Closing.{empty}
-use Rattle.disac4.proofs.Expected.{Answered, has-mark, has-replied, will-hold, heldAfter}
+use Rattle.disac4.proofs.Expected.{Answered, has-mark, has-replied, will-hold}
 use Rattle.disac4.proofs.Moves.{Worker}
-use Rattle.disac4.proofs.Replies.{replied}
 use Rattle.disac4.proofs.Safety.{Safe, safe-run}
 use Rattle.disac4.proofs.Sound.{Sound, isList}
 use Rattle.disac4.proofs.Typed.{no-self, not-controller}
@@ -36,6 +34,7 @@ use Rattle.disac4.specs.Turn.{Turn, turn, treatNumber, sendNumber, answe
 abbrev pub Stuck : System → State → Type 0
 Stuck sys st = (t : Turn) → allowed (sys .workers) t ≡ true → changes sys st t ≡ false
 
+-- a choice with one idle outcome that is idle
 none-chosen : (b : Bool) (s : State) → isSome (cond b none (some s)) ≡ false → b ≡ true
 none-chosen true s e = refl
 none-chosen false s e = absurd (false≢true (sym e))
@@ -43,6 +42,12 @@ none-chosen false s e = absurd (false≢true (sym e))
 some-refused : (b : Bool) (s : State) → isSome (cond b (some s) none) ≡ false → b ≡ false
 some-refused true s e = absurd (false≢true (sym e))
 some-refused false s e = refl
+
+-- an action that takes the oldest member of a list is idle only where the list is empty
+none-taken {ℓ} : {A : Type ℓ} (act : List A → Option State) → ((a : A) (l : List A) → isSome (act (a ∷ l)) ≡ true)
+    → (l : List A) → isSome (act l) ≡ false → l ≡ []
+none-taken act takes [] e = refl
+none-taken act takes (a ∷ l) e = clash (takes a l) e
 
 module _ (sys : System) (st : State) (few : sys .workers ≤ 8) (running : st .controller .closed ≡ false)
     (stuck : Stuck sys st) where
@@ -71,11 +76,8 @@ module _ (sys : System) (st : State) (few : sys .workers ≤ 8) (running : st .c
   -- so nothing is left to treat, to send or to read
   nothing-to-treat : (k : ℕ) → Worker sys k → st .workList k ≡ []
   unfolding workerStep treat
-  nothing-to-treat k w = go (st .workList k) (own-idle k treatNumber w refl)
-    where
-      go : (l : List Label) → isSome (treatFrom sys k st l) ≡ false → l ≡ []
-      go [] e = refl
-      go (a ∷ l) e = absurd (false≢true (sym e))
+  nothing-to-treat k w =
+      none-taken (treatFrom sys k st) (λ a l. refl) (st .workList k) (own-idle k treatNumber w refl)
 
   nothing-to-send : (k : ℕ) → Worker sys k → st .toSend k ≡ []
   unfolding workerStep send
@@ -84,7 +86,7 @@ module _ (sys : System) (st : State) (few : sys .workers ≤ 8) (running : st .c
   nothing-to-read : (j k : ℕ) → Worker sys k → j ≤ sys .workers → (j ≡ k → ⊥) → st .channel j k ≡ []
   unfolding workerStep readWorker
   nothing-to-read j k w h d =
-      go (st .channel j k)
+      none-taken (readFrom j k st) takes (st .channel j k)
       (rw (
         ne-eqb j treatNumber (λ e. omega arith),
         ne-eqb j sendNumber (λ e. omega arith),
@@ -92,24 +94,22 @@ module _ (sys : System) (st : State) (few : sys .workers ≤ 8) (running : st .c
       )
       at (worker-idle k j w (or-left _ (and-intro (le-leb j (sys .workers) h) (not-of (ne-eqb j k d))))))
     where
-      go : (l : List Message) → isSome (readFrom j k st l) ≡ false → l ≡ []
-      go [] e = refl
-      go (list labels ∷ l) e = absurd (false≢true (sym e))
-      go (poll q ∷ l) e = absurd (false≢true (sym e))
-      go (reply n ∷ l) e = absurd (false≢true (sym e))
+      takes : (m : Message) (l : List Message) → isSome (readFrom j k st (m ∷ l)) ≡ true
+      takes (list labels) l = refl
+      takes (poll q) l = refl
+      takes (reply n) l = refl
 
   nothing-to-count : (k : ℕ) → Worker sys k → st .channel k 0 ≡ []
   unfolding controllerStep readController
   nothing-to-count k w =
-      go (st .channel k 0)
+      none-taken (controllerFrom sys k st) takes (st .channel k 0)
       (rw (ne-eqb k pollNumber (λ e. omega (arith, w .within)))
       at (controller-idle k (or-left _ (and-intro (le-leb 1 k (w .above)) (le-leb k (sys .workers) (w .within))))))
     where
-      go : (l : List Message) → isSome (controllerFrom sys k st l) ≡ false → l ≡ []
-      go [] e = refl
-      go (list labels ∷ l) e = absurd (false≢true (sym e))
-      go (poll q ∷ l) e = absurd (false≢true (sym e))
-      go (reply n ∷ l) e = absurd (false≢true (sym e))
+      takes : (m : Message) (l : List Message) → isSome (controllerFrom sys k st (m ∷ l)) ≡ true
+      takes (list labels) l = refl
+      takes (poll q) l = refl
+      takes (reply n) l = refl
 
   -- a poll is open
   poll-open : st .controller .pollOpen ≡ true
@@ -120,7 +120,9 @@ module _ (sys : System) (st : State) (few : sys .workers ≤ 8) (running : st .c
   -- no worker can answer
   no-answer : (k : ℕ) (q : Poll) → Worker sys k → st .held k ≡ some q → ready k q st ≡ false
   unfolding workerStep answer
-  no-answer k q w e = some-refused (ready k q st) _ (subst (λ (o : Option Poll). isSome (answerTo k st o) ≡ false) e (own-idle k answerNumber w refl))
+  no-answer k q w e =
+      some-refused (ready k q st) _
+      (subst (λ (o : Option Poll). isSome (answerTo k st o) ≡ false) e (own-idle k answerNumber w refl))
 
   module _ (es : List Event) (g : Safe sys st es) where
     no-messages : (j k : ℕ) → j ≤ sys .workers → k ≤ sys .workers → st .channel j k ≡ []
@@ -153,6 +155,7 @@ module _ (sys : System) (st : State) (few : sys .workers ≤ 8) (running : st .c
           no-lists 0 (omega arith),
         )))
 
+    -- a worker without a mark could answer
     all-answered : (k : ℕ) → Worker sys k → st .controller .marked k ≡ true
     all-answered k w = go (g .expected poll-open k w)
       where
@@ -165,9 +168,10 @@ module _ (sys : System) (st : State) (few : sys .workers ≤ 8) (running : st .c
             (no-answer k (pollOf (st .controller .timestamp) (st .listCounter 0)) w
             (rw (no-messages 0 k (omega arith) (w .within)) at x))
 
-    stuck-closed : ⊥
+    -- with all workers marked the plan would be closed
+    never-stuck : ⊥
     unfolding allMarked
-    stuck-closed =
+    never-stuck =
         false≢true
         (sym running
         ∙ (g .closure .exact poll-open
@@ -175,12 +179,12 @@ module _ (sys : System) (st : State) (few : sys .workers ≤ 8) (running : st .c
         (λ i h. all-answered (suc i) (record { above = omega arith; within = h }))))
 
 -- a reached state in which no allowed turn changes anything is closed
-pub stuck-run-closed : {sys : System} → Sound sys → (ts : List Turn) → Stuck sys (play sys (load sys) ts)
+pub stuck-closed : {sys : System} → Sound sys → (ts : List Turn) → Stuck sys (play sys (load sys) ts)
     → play sys (load sys) ts .controller .closed ≡ true
-stuck-run-closed {sys} sound ts stuck =
+stuck-closed {sys} sound ts stuck =
     ⊎-elim (λ e. e)
     (λ e.
-    absurd (stuck-closed sys (play sys (load sys) ts) (sound .few) e stuck (events sys (load sys) ts) (safe-run sound ts)))
+    absurd (never-stuck sys (play sys (load sys) ts) (sound .few) e stuck (events sys (load sys) ts) (safe-run sound ts)))
     (decided (play sys (load sys) ts .controller .closed))
 
 -- an allowed turn's actor and action are among finitely many
@@ -196,21 +200,21 @@ allowed-bounds p t few ok = go (eqb (t .actor) 0) refl ok
     go true e ok = (
       omega (arith, eqb-true (t .actor) 0 e),
       ⊎-elim (λ x. omega (arith, between-high 1 p (t .action) x)) (λ x. omega (arith, eqb-true (t .action) pollNumber x))
-      (or-cases (between 1 p (t .action)) _ ok),
+          (or-cases (between 1 p (t .action)) _ ok),
     )
     go false e ok = (
       omega (arith, leb-true (t .actor) p (and-left (leb (t .actor) p) _ ok)),
       ⊎-elim
-      (λ x. omega (arith, leb-true (t .action) p (and-left (leb (t .action) p) _ x)))
-      (λ x. omega (arith, between-high treatNumber answerNumber (t .action) x))
-      (or-cases (leb (t .action) p && not (eqb (t .action) (t .actor))) (between treatNumber answerNumber (t .action))
-      (and-right (leb (t .actor) p) _ ok)),
+          (λ x. omega (arith, leb-true (t .action) p (and-left (leb (t .action) p) _ x)))
+          (λ x. omega (arith, between-high treatNumber answerNumber (t .action) x))
+          (or-cases (leb (t .action) p && not (eqb (t .action) (t .actor))) (between treatNumber answerNumber (t .action))
+          (and-right (leb (t .actor) p) _ ok)),
     )
 
 -- while the plan is open, some allowed turn changes something
 pub progress : {sys : System} → Sound sys → (ts : List Turn) → play sys (load sys) ts .controller .closed ≡ false
     → (t : Turn) × (allowed (sys .workers) t ≡ true) × (changes sys (play sys (load sys) ts) t ≡ true)
-progress {sys} sound ts running = ⊎-elim found (λ e. clash (stuck-run-closed sound ts (none-found e)) running) (decided any)
+progress {sys} sound ts running = ⊎-elim found (λ e. clash (stuck-closed sound ts (none-found e)) running) (decided any)
   where
     st : State
     st = play sys (load sys) ts

@@ -1,22 +1,25 @@
 -- A worker's channel to the controller, as the controller will read it while a poll is open: does a reply to it stand there,
 -- and does a list message stand before any such reply.
-use Prim.Native.Nat.{ℕ, zero, suc, _+_, _<_, _≤_}
-use mathlib.Core.Bool.{Bool, true, false, cond, _&&_, _||_, not, false≢true}
+use Prim.Native.Nat.{ℕ, _<_}
+use mathlib.Core.Bool.{Bool, true, false, _&&_, not, false≢true}
 use mathlib.Core.List.{List, [], _∷_, _++_}
-use mathlib.Core.Logic.{_⊎_, inl, inr, ⊎-elim}
-use mathlib.Core.Path.{_≡_, refl, sym, _∙_, ap}
+use mathlib.Core.Logic.{⊎-elim}
+use mathlib.Core.Path.{_≡_, refl}
 use native.Mathlib.Nat.{not-suc-le-zero}
 use native.Mathlib.Omega.{arith}
 use borrow.Author.Tests.{ne-eqb}
 use lib.Dec.{eqb}
-use Rattle.base.proofs.Bools.{clash, refuted, or-false, or-false-left, or-false-right, and-left, and-right, and-intro, and-false-left, not-of, not-of-true}
+use Rattle.base.proofs.Bools.{clash, refuted, or-false, or-false-left, or-false-right, and-left, and-right, and-intro, and-false, and-false-left, not-of, not-of-true}
 use Rattle.base.proofs.Choice.{anyOf-split}
 use Rattle.base.proofs.Weight.{weigh, weigh-append}
 use Rattle.base.specs.Choice.{anyOf}
 use Rattle.disac4.proofs.Every.{Each}
 use Rattle.disac4.proofs.Sound.{isList}
-use Rattle.disac4.proofs.Typed.{Fits}
-use Rattle.disac4.specs.State.{Message, list, poll, reply}
+use Rattle.disac4.proofs.Typed.{Typed, Fits}
+use Rattle.disac4.specs.Action.{current}
+use Rattle.disac4.specs.State.{State, Message, list, poll, reply}
+use Rattle.disac4.specs.System.{System}
+use Rattle.disac4.specs.declared.Timestamp.{Timestamp}
 use Rattle.network.specs.Network.{Label}
 
 -- a reply to poll `n`
@@ -25,6 +28,7 @@ isReply n (list labels) = false
 isReply n (poll q) = false
 isReply n (reply m) = eqb (m .0) n
 
+-- one of the messages is a reply to poll `n`
 abbrev pub replied : ℕ → List Message → Bool
 replied n l = anyOf (isReply n) l
 
@@ -78,11 +82,22 @@ module _ (n : ℕ) where
   reply-first (poll q) l r = absurd (false≢true r)
   reply-first (reply k) l r = and-false-left (listFirst n l) (not-of-true r)
 
-  -- no reply to a poll that is not yet asked
-  pub none-replied : (p N : ℕ) (asked : Bool) (D j k : ℕ) (l : List Message) → N < n → Each (Fits p N asked D j k) l
-      → replied n l ≡ false
-  none-replied p N asked D j k [] b h = refl
-  none-replied p N asked D j k (list labels ∷ l) b h = none-replied p N asked D j k l b (h .1)
-  none-replied p N asked D j k (poll q ∷ l) b h = none-replied p N asked D j k l b (h .1)
-  none-replied p N asked D j k (reply m ∷ l) b h =
-      or-false (ne-eqb (m .0) n (λ e. omega (arith, h .0 .kind .1))) (none-replied p N asked D j k l b (h .1))
+-- no reply to a poll that is not yet asked is on its way
+pub none-replied : {sys : System} {st : State} → Typed sys st → (n : ℕ) → st .controller .timestamp < n → (j k : ℕ)
+    → replied n (st .channel j k) ≡ false
+none-replied {sys} {st} t n later j k = go (st .channel j k) (t .messages j k)
+  where
+    go : (l : List Message)
+        → Each (Fits (sys .workers) (st .controller .timestamp) (st .controller .pollOpen) (st .listCounter 0) j k) l
+        → replied n l ≡ false
+    go [] h = refl
+    go (list labels ∷ l) h = go l (h .1)
+    go (poll q ∷ l) h = go l (h .1)
+    go (reply m ∷ l) h = or-false (ne-eqb (m .0) n (λ e. omega (arith, h .0 .kind .1))) (go l (h .1))
+
+-- what the controller drops is no reply to the open poll
+pub not-current : (st : State) (m : Timestamp) → st .controller .pollOpen ≡ true → current m st ≡ false
+    → isReply (st .controller .timestamp) (reply m) ≡ false
+unfolding current
+not-current st m o e =
+    ⊎-elim (λ x. clash o x) (λ x. x) (and-false (st .controller .pollOpen) (eqb (m .0) (st .controller .timestamp)) e)

@@ -11,7 +11,7 @@ use native.Mathlib.Omega.{arith}
 use Rattle.base.proofs.Bools.{decided, clash, refuted}
 use Rattle.base.specs.Below.{one}
 use Rattle.disac4.proofs.Bound.{turns-bounded, potential-loaded}
-use Rattle.disac4.proofs.Members.{Each, each-none, each-cons}
+use Rattle.base.proofs.Each.{Each, each-none, each-cons}
 use Rattle.disac4.proofs.Moves.{moves, after-idle}
 use Rattle.disac4.proofs.Potential.{potential}
 use Rattle.disac4.proofs.Rounds.{allowed-round}
@@ -63,11 +63,11 @@ module _ (sys : System) where
   play-append [] us st = refl
   play-append (t ∷ ts) us st = play-append ts us (after sys st t)
 
-  turns-closed : (fuel : ℕ) (st : State) → st .controller .closed ≡ true → roundTurns sys (suc fuel) st ≡ []
+  pub turns-closed : (fuel : ℕ) (st : State) → st .controller .closed ≡ true → roundTurns sys (suc fuel) st ≡ []
   unfolding roundTurns
   turns-closed fuel st e = rw e
 
-  turns-open : (fuel : ℕ) (st : State) → st .controller .closed ≡ false
+  pub turns-open : (fuel : ℕ) (st : State) → st .controller .closed ≡ false
       → roundTurns sys (suc fuel) st ≡ oneRound ++ roundTurns sys fuel (next st)
   unfolding roundTurns
   turns-open fuel st e = rw e

@@ -13,7 +13,7 @@ use Rattle.base.proofs.Bools.{and-left, and-right, and-intro, or-cases, or-left
 use Rattle.base.proofs.Choice.{between-low, between-high}
 use Rattle.base.specs.Below.{gatherBelow, listBelow}
 use Rattle.base.specs.Choice.{between}
-use Rattle.disac4.proofs.Members.{Each, member-gather, each-none, each-cons, each-single, each-append, each-gather, each-map}
+use Rattle.base.proofs.Each.{Each, member-gather, each-none, each-cons, each-single, each-append, each-gather, each-map}
 use Rattle.disac4.specs.Round.{others, workerRound, round}
 use Rattle.disac4.specs.Turn.{Turn, turn, treatNumber, sendNumber, answerNumber, pollNumber, allowed}
 

@@ -1,12 +1,10 @@
 -- The invariants of the polls together, in every state that a run from loading reaches; a closed plan is quiet.
-use Prim.Native.Nat.{ℕ, zero, suc, _+_, _<_, _≤_}
-use mathlib.Core.Bool.{Bool, true, false, false≢true}
-use mathlib.Core.List.{List, [], _∷_, _++_}
-use mathlib.Core.Path.{_≡_, refl, sym, _∙_, ap}
-use native.Mathlib.Omega.{arith}
-use Rattle.base.proofs.Weight.{weigh}
-use Rattle.disac4.proofs.Closing.{Closing, Closure, closing-move, closure-move, all-marked-quiet}
-use Rattle.disac4.proofs.Conservation.{isSent, Conserved, conserved-move, conserved-load}
+use mathlib.Core.Bool.{true, false≢true}
+use mathlib.Core.List.{List, []}
+use mathlib.Core.Path.{_≡_, sym, _∙_}
+use Rattle.disac4.proofs.Closed.{Closure, closure-move, all-marked-quiet}
+use Rattle.disac4.proofs.Closing.{Closing, closing-move}
+use Rattle.disac4.proofs.Conservation.{Conserved, conserved-move, conserved-load}
 use Rattle.disac4.proofs.Expected.{Expected, expected-move}
 use Rattle.disac4.proofs.Moves.{kept}
 use Rattle.disac4.proofs.Sound.{Sound, Quiet}

@@ -1,9 +1,9 @@
 -- Typed channels: which messages a channel can hold, and that every poll on its way or held is one that the controller asked.
-use Prim.Native.Nat.{ℕ, zero, suc, _+_, _<_, _≤_}
+use Prim.Native.Nat.{ℕ, suc, _<_, _≤_}
 use mathlib.Core.Bool.{Bool, true, false, false≢true}
 use mathlib.Core.List.{List, [], _∷_, _++_}
 use mathlib.Core.Option.{Option, none, some}
-use mathlib.Core.Path.{_≡_, refl, sym, _∙_, ap, subst}
+use mathlib.Core.Path.{_≡_, refl, _∙_, subst}
 use native.Mathlib.Nat.{le-refl}
 use native.Mathlib.Omega.{arith}
 use Rattle.base.proofs.Choice.{update-other}
@@ -27,9 +27,10 @@ controller-count C k n w = update-other C k n 0 (not-controller w)
 
 -- ---- over the controller's figures: its timestamp `N`, whether a poll is `asked`, and its count of lists `D`
 
--- a poll that the controller asked; it wants the controller's count, if it is the open one
+-- a poll that the controller asked: it wants no more lists than the controller has read, and exactly those if it is open
 pub record Timely (N : ℕ) (asked : Bool) (D : ℕ) (q : Poll) : Type 0 where
   pub bound : q .number .0 ≤ N
+  pub within : q .wanted .0 ≤ D
   pub wants : asked ≡ true → q .number .0 ≡ N → q .wanted .0 ≡ D
 
 -- list messages come from workers, polls from the controller, replies go to the controller
@@ -45,12 +46,15 @@ pub record Fits (p N : ℕ) (asked : Bool) (D j k : ℕ) (m : Message) : Type 0 
   pub other : j ≡ k → ⊥
   pub kind : Kind N asked D j k m
 
+-- every message in every channel
 abbrev pub Messages : ℕ → ℕ → Bool → ℕ → Channels → Type 0
 Messages p N asked D c = (j k : ℕ) → Each (Fits p N asked D j k) (c j k)
 
+-- every poll that is held
 abbrev pub HeldPolls : ℕ → Bool → ℕ → (ℕ → Option Poll) → Type 0
 HeldPolls N asked D held = (k : ℕ) (q : Poll) → held k ≡ some q → Timely N asked D q
 
+-- the invariant
 pub record Typed (sys : System) (st : State) : Type 0 where
   pub messages :
       Messages (sys .workers) (st .controller .timestamp) (st .controller .pollOpen) (st .listCounter 0) (st .channel)
@@ -83,11 +87,12 @@ module _ (p N : ℕ) (asked : Bool) (D : ℕ) where
       at-update (λ i o. (q : Poll) → o ≡ some q → Timely N asked D q) held k o new (λ i d. h i)
 
   -- the controller's figures change, and the open poll, if it is the same, wants the same count
-  module _ (N′ : ℕ) (asked′ : Bool) (D′ : ℕ) (rises : N ≤ N′)
+  module _ (N′ : ℕ) (asked′ : Bool) (D′ : ℕ) (rises : N ≤ N′) (reads-on : D ≤ D′)
       (same : asked′ ≡ true → N ≡ N′ → (asked ≡ true) × (D ≡ D′)) where
     timely-later : (q : Poll) → Timely N asked D q → Timely N′ asked′ D′ q
     timely-later q t = record {
       bound = omega arith;
+      within = omega arith;
       wants = λ o e. let s = same o (omega (arith, t .bound)) in t .wants (s .0) (omega (arith, t .bound)) ∙ s .1;
     }
 
@@ -106,14 +111,23 @@ module _ (p N : ℕ) (asked : Bool) (D : ℕ) where
     polls-later : (held : ℕ → Option Poll) → HeldPolls N asked D held → HeldPolls N′ asked′ D′ held
     polls-later held h k q e = timely-later q (h k q e)
 
--- no actor has a channel to itself
-pub no-self : {sys : System} {st : State} → Typed sys st → (k : ℕ) → st .channel k k ≡ []
-no-self {sys} {st} t k = go (st .channel k k) (t .messages k k)
-  where
-    go : (l : List Message)
-        → Each (Fits (sys .workers) (st .controller .timestamp) (st .controller .pollOpen) (st .listCounter 0) k k) l → l ≡ []
-    go [] h = refl
-    go (m ∷ l) h = absurd (h .0 .other refl)
+module _ {sys : System} {st : State} (t : Typed sys st) where
+  -- a channel that no message fits is empty
+  pub no-message : (j k : ℕ) → (j ≤ sys .workers → k ≤ sys .workers → (j ≡ k → ⊥) → ⊥) → st .channel j k ≡ []
+  no-message j k unfit = go (st .channel j k) (t .messages j k)
+    where
+      go : (l : List Message)
+          → Each (Fits (sys .workers) (st .controller .timestamp) (st .controller .pollOpen) (st .listCounter 0) j k) l
+          → l ≡ []
+      go [] h = refl
+      go (m ∷ l) h = absurd (unfit (h .0 .sender) (h .0 .receiver) (h .0 .other))
+
+  -- no actor has a channel to itself
+  pub no-self : (k : ℕ) → st .channel k k ≡ []
+  no-self k = no-message k k (λ h b d. d refl)
+
+nothing-held {ℓ} : {A : Type ℓ} {q : Poll} → none ≡ some q → A
+nothing-held e = absurd (let z : _≡_ {A = ℕ} 0 1 = cc in omega arith)
 
 -- ---- every move keeps it
 
@@ -162,24 +176,27 @@ module _ {sys : System} {st : State} (t : Typed sys st) where
           kind = (refl, t .polls k q e .bound);
         })
         (t .messages);
-    polls = hold-typed (sys .workers) N asked D (st .held) k none
-        (λ q′ x. absurd (let z : _≡_ {A = ℕ} 0 1 = cc in omega arith)) (t .polls);
+    polls = hold-typed (sys .workers) N asked D (st .held) k none (λ q′ x. nothing-held x) (t .polls);
   }
   typed-move (asks e) = record {
     messages =
         broadcast-typed (sys .workers) (suc N) true D (st .channel) 0 (poll (pollOf (suc N) D)) (omega arith)
-        (λ i. (refl, record { bound = le-refl (suc N); wants = λ o x. refl }))
-        (messages-later (sys .workers) N asked D (suc N) true D (omega arith) (λ o x. absurd (omega arith))
+        (λ i. (refl, record { bound = le-refl (suc N); within = le-refl D; wants = λ o x. refl }))
+        (messages-later (sys .workers) N asked D (suc N) true D (omega arith) (omega arith)
+        (λ o x. absurd (omega arith))
         (st .channel) (t .messages));
     polls =
-        polls-later (sys .workers) N asked D (suc N) true D (omega arith) (λ o x. absurd (omega arith)) (st .held) (t .polls);
+        polls-later (sys .workers) N asked D (suc N) true D (omega arith) (omega arith)
+        (λ o x. absurd (omega arith)) (st .held) (t .polls);
   }
   typed-move (tallies k labels rest w e) = record {
     messages =
-        messages-later (sys .workers) N asked D N false (suc D) (omega arith) (λ o x. absurd (false≢true o))
+        messages-later (sys .workers) N asked D N false (suc D) (omega arith) (omega arith)
+        (λ o x. absurd (false≢true o))
         (update₂ (st .channel) k 0 rest) (taking k 0 (list labels) rest e);
     polls =
-        polls-later (sys .workers) N asked D N false (suc D) (omega arith) (λ o x. absurd (false≢true o))
+        polls-later (sys .workers) N asked D N false (suc D) (omega arith) (omega arith)
+        (λ o x. absurd (false≢true o))
         (st .held) (t .polls);
   }
   typed-move (marks k n rest w e r) = record { messages = taking k 0 (reply n) rest e; polls = t .polls }
@@ -191,5 +208,5 @@ pub typed-load : (sys : System) → Typed sys (load sys)
 unfolding load
 typed-load sys = record {
   messages = λ j k. tt;
-  polls = λ k q x. absurd (let z : _≡_ {A = ℕ} 0 1 = cc in omega arith);
+  polls = λ k q x. nothing-held x;
 }

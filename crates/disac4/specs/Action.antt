@@ -68,7 +68,7 @@ afterSend sys k st = record {
   workList = st .workList;
   toSend = update (st .toSend) k [];
   held = st .held;
-  listCounter = update (st .listCounter) k (suc (st .listCounter k));
+  listCounter = update (st .listCounter) k (suc (st .listCounter k));  -- one more list sent
   channel = broadcast (sys .workers) k (list (st .toSend k)) (st .channel);
   controller = st .controller;
 }
@@ -86,7 +86,7 @@ afterList j k labels rest st = record {
   workList = update (st .workList) k (st .workList k ++ labels);
   toSend = st .toSend;
   held = st .held;
-  listCounter = update (st .listCounter) k (suc (st .listCounter k));
+  listCounter = update (st .listCounter) k (suc (st .listCounter k));  -- one more list read
   channel = update₂ (st .channel) j k rest;
   controller = st .controller;
 }

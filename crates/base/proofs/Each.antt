@@ -1,11 +1,14 @@
 -- Members of a list that is gathered or mapped.
 use Prim.Native.Nat.{ℕ, zero, suc, _<_}
+use mathlib.Core.Bool.{Bool, true}
 use mathlib.Core.List.{List, [], _∷_, _++_, map, List·Memᴰ, List·Memᴰ·head, List·Memᴰ·tail, List·Memᴰ·not-nil, List·Memᴰ·cases-cons, List·Memᴰ·append-cases, Memᴰ·append-left, Memᴰ·append-right}
 use mathlib.Core.Logic.{⊎-elim}
-use mathlib.Core.Path.{refl, sym, subst}
+use mathlib.Core.Path.{_≡_, refl, sym, subst}
 use native.Mathlib.Nat.{not-suc-le-zero, le-step, le-refl}
 use Rattle.base.proofs.Below.{below-cases}
+use Rattle.base.proofs.Bools.{and-intro}
 use Rattle.base.specs.Below.{gatherBelow}
+use Rattle.base.specs.Choice.{allOf}
 
 module _ {ℓ} {A : Type ℓ} where
   -- a member of one of the lists is a member of all of them joined
@@ -50,3 +53,8 @@ pub each-map {ℓ κ} : {A : Type ℓ} {B : Type κ} (P : B → Type 0) (g : A �
 each-map P g [] h = each-none P
 each-map P g (a ∷ l) h =
     each-cons P (g a) (map g l) (h a (List·Memᴰ·head refl)) (each-map P g l (λ b i. h b (List·Memᴰ·tail i)))
+
+-- a test that each member passes is passed by all
+pub each-all {ℓ} : {A : Type ℓ} (t : A → Bool) (l : List A) → Each (λ a. t a ≡ true) l → allOf t l ≡ true
+each-all t [] h = refl
+each-all t (a ∷ l) h = and-intro (h a (List·Memᴰ·head refl)) (each-all t l (λ b i. h b (List·Memᴰ·tail i)))

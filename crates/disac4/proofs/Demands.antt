@@ -1,0 +1,144 @@
+-- Demands 2 and 3 and the round, for every accepted plan, from the plan's bytes.
+use Prim.Native.Nat.{ℕ, zero, suc, _<_, _≤_}
+use mathlib.Core.Bool.{Bool, true, false}
+use mathlib.Core.List.{List, [], _∷_, _++_}
+use mathlib.Core.Logic.{⊎-elim}
+use mathlib.Core.Path.{_≡_, refl, sym, _∙_, ap, subst}
+use Rattle.base.proofs.Bools.{decided}
+use Rattle.base.specs.Choice.{allOf}
+use Rattle.disac4.proofs.Bound.{changes-exactly, changes-bounded}
+use Rattle.disac4.proofs.Delivered.{quiet-sent, quiet-read, quiet-treated}
+use Rattle.disac4.proofs.Final.{closed-stays, domain-shrinks}
+use Rattle.disac4.proofs.Largest.{never-lost, quiet-largest}
+use Rattle.base.proofs.Each.{Each, each-none, each-append, each-all}
+use Rattle.disac4.proofs.Moves.{Worker}
+use Rattle.disac4.proofs.Progress.{progress}
+use Rattle.disac4.proofs.RoundRun.{Advances, play-append, turns-closed, turns-open, round-run-closes, round-run-complete}
+use Rattle.disac4.proofs.Rounds.{round-allowed}
+use Rattle.disac4.proofs.Safety.{closed-quiet}
+use Rattle.disac4.proofs.Sound.{Sound}
+use Rattle.disac4.specs.Demands.{closedAfter, Done, Demand2, Demand3, RoundCloses}
+use Rattle.disac4.specs.Loading.{load}
+use Rattle.disac4.specs.Report.{final}
+use Rattle.disac4.specs.Round.{round, roundTurns, roundRunTurns}
+use Rattle.disac4.specs.State.{State}
+use Rattle.disac4.specs.System.{System, systemOf, boundOf}
+use Rattle.disac4.specs.Turn.{Turn, allowed, changes, play}
+use Rattle.network.proofs.Chain.{apart-keeps}
+use Rattle.network.proofs.Largest.{largest-consistent, largest-exists}
+use Rattle.network.proofs.Solution.{solution-within}
+use Rattle.network.specs.Consistency.{Within, Largest}
+use Rattle.network.specs.Network.{Domains}
+use Rattle.plan.proofs.WellFormed.{well-formed}
+use Rattle.plan.specs.Decode.{decode, accepted}
+use Rattle.plan.specs.Network.{networkOf}
+use Rattle.plan.specs.Plan.{Plan}
+use Rattle.plan.specs.WellFormed.{WellFormed}
+
+module _ (sys : System) (sound : Sound sys) (ts : List Turn) where
+  -- demand 3, for a system
+  demand3-of : Demand3 sys ts
+  unfolding final closedAfter
+  demand3-of = record {
+    keeps-largest = λ d largest. never-lost sys sound ts d (largest-consistent (sys .net) d largest);
+    all-done = λ closed x v gone.
+        let quiet = closed-quiet sound ts closed in
+        record {
+          is-sent = quiet-sent sys sound ts quiet x v gone;
+          is-read = quiet-read sys sound ts quiet x v gone;
+          is-treated = quiet-treated sys sound ts quiet x v gone;
+        };
+    bounded = changes-bounded sys sound ts;
+    goes-on = λ running.
+        let p = progress sound ts running in
+        (p .0, p .1, changes-exactly sys (sound .few) (play sys (load sys) ts) (p .0) .0 (p .2));
+  }
+
+  -- demand 2, for a system
+  demand2-of : Demand2 sys ts
+  unfolding final closedAfter Within
+  demand2-of = record {
+    largest = λ closed. quiet-largest sys sound ts (closed-quiet sound ts closed);
+    keeps-solutions = λ s sol x h. in-largest x (s x) (solution-within (sys .net) s sol (big .0) (big .1) x h);
+    stays-deleted = λ us.
+        rw (play-append sys ts us (load sys)) (domain-shrinks sys (sound .few) (play sys (load sys) ts) us);
+    stays-closed = λ closed us. play-append sys ts us (load sys) ∙ closed-stays sys (play sys (load sys) ts) closed us;
+    apart-kept = λ a apart d within on x v h g.
+        in-largest x v (apart-keeps (sys .net) a d apart within on (big .0) (big .1) x v h g);
+  }
+    where
+      big : (d : Domains) × Largest (sys .net) d
+      big = largest-exists (sys .net)
+
+      in-largest : (x v : ℕ) → big .0 x v ≡ true → play sys (load sys) ts .domain x v ≡ true
+      in-largest = never-lost sys sound ts (big .0) (largest-consistent (sys .net) (big .0) (big .1))
+
+-- ---- the round
+
+-- a state that some turns reach
+abbrev Reached : System → State → Type 0
+Reached sys st = (ts : List Turn) × (play sys (load sys) ts ≡ st)
+
+module _ (sys : System) (sound : Sound sys) where
+  reached-advances : Advances sys (Reached sys)
+  reached-advances = record {
+    carried = λ st us r. (r .0 ++ us, play-append sys (r .0) us (load sys) ∙ ap (λ (s : State). play sys s us) (r .1));
+    progress = λ st r running.
+        let p = progress sound (r .0) (subst (λ (s : State). s .controller .closed ≡ false) (sym (r .1)) running) in
+        (p .0, subst (λ (s : State). changes sys s (p .0) ≡ true) (r .1) (p .2));
+  }
+
+  from-load : Reached sys (load sys)
+  unfolding play
+  from-load = ([], refl)
+
+  closes : play sys (load sys) (roundRunTurns sys) .controller .closed ≡ true
+  closes = round-run-closes sys sound (Reached sys) reached-advances from-load
+
+  -- the turns of any number of rounds are allowed
+  rounds-allowed : (fuel : ℕ) (st : State) → Each (λ t. allowed (sys .workers) t ≡ true) (roundTurns sys fuel st)
+  unfolding roundTurns
+  rounds-allowed zero st = each-none (λ t. allowed (sys .workers) t ≡ true)
+  rounds-allowed (suc fuel) st =
+      ⊎-elim (λ e. rw (turns-closed sys fuel st e) (each-none (λ t. allowed (sys .workers) t ≡ true)))
+      (λ e.
+      rw (turns-open sys fuel st e)
+      (each-append (λ t. allowed (sys .workers) t ≡ true) (round (sys .workers))
+      (roundTurns sys fuel (play sys st (round (sys .workers))))
+      (round-allowed (sys .workers))
+      (rounds-allowed fuel (play sys st (round (sys .workers))))))
+      (decided (st .controller .closed))
+
+  round-closes : RoundCloses sys
+  unfolding final closedAfter roundRunTurns
+  round-closes = record {
+    all-allowed = each-all (allowed (sys .workers)) (roundRunTurns sys) (rounds-allowed (suc (boundOf sys)) (load sys));
+    closes = closes;
+    fuel-left = round-run-complete sys sound (Reached sys) reached-advances from-load;
+    then-idle =
+        play-append sys (roundRunTurns sys) (round (sys .workers)) (load sys)
+        ∙ closed-stays sys (play sys (load sys) (roundRunTurns sys)) closes (round (sys .workers));
+  }
+
+-- ---- accepted plans
+
+-- the system of an accepted plan is sound
+pub plan-sound : (plan : Plan) → WellFormed plan → Sound (systemOf plan)
+unfolding systemOf networkOf
+plan-sound plan w = record {
+  few = w .workers-high;
+  some-worker = w .workers-low;
+  owned = λ x h. record { above = w .each-variable x h .owner-low; within = w .each-variable x h .owner-high };
+}
+
+-- demand 3: for every accepted plan and every list of turns
+pub demand3 : (b : List ℕ) (plan : Plan) → decode b ≡ accepted plan → (ts : List Turn) → Demand3 (systemOf plan) ts
+demand3 b plan e ts = demand3-of (systemOf plan) (plan-sound plan (well-formed b plan e)) ts
+
+-- demand 2: for every accepted plan and every list of turns
+pub demand2 : (b : List ℕ) (plan : Plan) → decode b ≡ accepted plan → (ts : List Turn) → Demand2 (systemOf plan) ts
+demand2 b plan e ts = demand2-of (systemOf plan) (plan-sound plan (well-formed b plan e)) ts
+
+-- the round run of every accepted plan closes it
+pub round-closes-plan : (b : List ℕ) (plan : Plan) → decode b ≡ accepted plan → RoundCloses (systemOf plan)
+round-closes-plan b plan e = round-closes (systemOf plan) (plan-sound plan (well-formed b plan e))
