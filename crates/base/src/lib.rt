@@ -1,7 +1,8 @@
-// Big-endian reads in a slice of bytes; and, as definitions, loops below a bound, updates and rows of bits.
+// Big-endian reads in a slice of bytes, and rows of bits; as definitions, loops below a bound and updates too.
 ghost use mathlib.Core.Path.{_≡_};
-ghost use Prim.Native.Nat.{_<_, _^_};
+ghost use Prim.Native.Nat.{ℕ, _<_, _^_};
 ghost use Rattle.base.specs.Bytes.{byteAt, wordAt};
+ghost use Rattle.base.specs.Row.{rowCount};
 
 // A byte as a number.
 fn wide(x: u8) -> usize
@@ -34,4 +35,16 @@ pub fn power(k: usize) -> usize
     ensures { λ r. ⌜ r ≡ 2 ^ k ⌝ }
 {
     1 << k
+}
+
+// How many values a row holds, at any width that it fits. A row without a value counts 0, and any other one more than
+// the row without its lowest value: `row & (row - 1)`, since `row - 1` differs from `row` in its lowest value and below.
+pub fn row_count(row: usize) -> usize
+    ensures { λ r. ⌜ ((width : ℕ) → row < 2 ^ width → r ≡ rowCount width row) ⌝ }
+{
+    if row == 0 {
+        0
+    } else {
+        1 + row_count(row & (row - 1))
+    }
 }

@@ -14,9 +14,9 @@ pub record InOrder (b : List ℕ) (at : ℕ) : Type 0 where
   pub less : firstAt b at < secondAt b at
   pub second : secondAt b at ≤ variableCount b
 
-pub in-order : (b : List ℕ) (at : ℕ) → variablesInOrder b at ≡ true → InOrder b at
+pub ordered : (b : List ℕ) (at : ℕ) → variablesInOrder b at ≡ true → InOrder b at
 unfolding variablesInOrder
-in-order b at e =
+ordered b at e =
     let first : Bool = leb 1 (firstAt b at) in
     let less : Bool = ltb (firstAt b at) (secondAt b at) in
     let second : Bool = leb (secondAt b at) (variableCount b) in

@@ -68,10 +68,10 @@ module _ (b starts : List ℕ) (k : ℕ) (known : PassedBefore b starts k) where
   passed-more at n e p = record {
     passed = first-more k (sectionFault b) (known .passed) (ap (faultAt (sectionStart b k)) p);
     found = λ i l h.
-      ⊎-elim
-      (λ q. ap (λ (j : ℕ). getD (set starts k at) j 0) q ∙ getD-set-same starts k at 0 (omega arith) ∙ e ∙ ap (sectionStart b) (sym q))
-      (λ q. getD-set-other starts k i at 0 (λ r. omega arith) ∙ known .found i q h)
-      (below-cases (omega arith));
+        ⊎-elim
+        (λ q. ap (λ (j : ℕ). getD (set starts k at) j 0) q ∙ getD-set-same starts k at 0 (omega arith) ∙ e ∙ ap (sectionStart b) (sym q))
+        (λ q. getD-set-other starts k i at 0 (λ r. omega arith) ∙ known .found i q h)
+        (below-cases (omega arith));
   }
 
   -- section k has the plan's first fault

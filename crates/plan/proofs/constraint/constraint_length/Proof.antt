@@ -1,7 +1,7 @@
 -- `plan::constraint::constraint_length` gives the length that a constraint's content calls for. Assumes nothing.
 use borrow.Author.Tests.{eq-eqb, ne-eqb}
 use native.Mathlib.Omega.{arith}
-use Rattle.plan.proofs.InOrder.{in-order}
+use Rattle.plan.proofs.InOrder.{ordered}
 use Rattle.plan.specs.Check.{constraintLength}
 use borrow.Author.Needs.{needs}
 use Rattle.plan.proofs.constraint.constraint_length.Statement.{statement}
@@ -16,7 +16,7 @@ first-requires c κs = search needs
 size-at-requires : tie.Need-size-at-requires
 size-at-requires c κs =
     let s = c .before .before .before .before in
-    let o = in-order (s .args .b .now) (s .args .at) (s .pre .2) in
+    let o = ordered (s .args .b .now) (s .args .at) (s .pre .2) in
     (s .pre .0, omega (arith, o, c .first .ensures .0), omega (arith, o, c .first .ensures .0))
 
 mul-result : tie.Need-mul-result

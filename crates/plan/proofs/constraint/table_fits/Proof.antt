@@ -1,7 +1,7 @@
 -- `plan::constraint::table_fits` says whether each row of a table fits the second variable's count. Assumes nothing.
 use borrow.Author.Tests.{eq-eqb, ne-eqb}
 use native.Mathlib.Omega.{arith}
-use Rattle.plan.proofs.InOrder.{in-order}
+use Rattle.plan.proofs.InOrder.{ordered}
 use Rattle.plan.specs.Check.{tableFits}
 use borrow.Author.Needs.{needs}
 use Rattle.plan.proofs.constraint.table_fits.Statement.{statement}
@@ -20,7 +20,7 @@ first-requires c κs = search needs
 size-at-requires : tie.Need-size-at-requires
 size-at-requires c κs =
     let s = c .before .before .before .before in
-    let o = in-order (s .args .b .now) (s .args .at) (s .pre .2) in
+    let o = ordered (s .args .b .now) (s .args .at) (s .pre .2) in
     (s .pre .0, omega (arith, o, c .first .ensures .0), omega (arith, o, c .first .ensures .0))
 
 second-requires : tie.Need-second-requires
@@ -29,7 +29,7 @@ second-requires c κs = search needs
 size-at-requires-2 : tie.Need-size-at-requires-2
 size-at-requires-2 c κs =
     let s = c .before .before .before .before .before .before in
-    let o = in-order (s .args .b .now) (s .args .at) (s .pre .2) in
+    let o = ordered (s .args .b .now) (s .args .at) (s .pre .2) in
     (s .pre .0, omega (arith, o, c .second .ensures .0), omega (arith, o, c .second .ensures .0))
 
 rows-fit-requires : tie.Need-rows-fit-requires

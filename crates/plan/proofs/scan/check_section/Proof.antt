@@ -37,9 +37,10 @@ returns-2 c =
 
 check-constraint-requires : tie.Need-check-constraint-requires
 check-constraint-requires c κs =
-    let s = c .before .before .before .before in
-    (variables-known (s .args .b .now) (s .args .starts .now) (s .args .k) (s .pre .0) (s .pre .3) (omega (arith, c .before .variable-count .ensures .0)),
-    s .pre .2)
+    let s = c .before .before .before .before in (
+      variables-known (s .args .b .now) (s .args .starts .now) (s .args .k) (s .pre .0) (s .pre .3) (omega (arith, c .before .variable-count .ensures .0)),
+      s .pre .2,
+    )
 
 returns-3 : tie.Need-returns-3
 unfolding sectionChecks

@@ -93,20 +93,22 @@ loop-again c =
     let passes = verdict-passes (firstFault (sectionChecks b (l .loop .k))) (e .before .before .check-section .result) (e .before .before .check-section .ensures)
     (e .enum-told .given .1) in
     let more = passed-more b (l .loop .starts) (l .loop .k) (l .loop .inv .0) (l .loop .at) (l .loop .inv .1) (l .loop .inv .2) passes in
-    let next = next-start b (l .loop .starts) (l .loop .k) (l .loop .inv .0) (l .loop .at) (c .behind .result) (l .loop .inv .2) (c .behind .ensures) in
-    (rw (c .before .keep-start .ensures) more,
-    rw (c .before .keep-start .ensures, length-set) (l .loop .inv .1),
-    next,
-    rw next (next-within b _ (l .loop .k + 1) more (l .before .before .before .before .pre)),
-    omega arith)
+    let next = next-start b (l .loop .starts) (l .loop .k) (l .loop .inv .0) (l .loop .at) (c .behind .result) (l .loop .inv .2) (c .behind .ensures) in (
+      rw (c .before .keep-start .ensures) more,
+      rw (c .before .keep-start .ensures, length-set) (l .loop .inv .1),
+      next,
+      rw next (next-within b _ (l .loop .k + 1) more (l .before .before .before .before .pre)),
+      omega arith,
+    )
 
 check-end-requires : tie.Need-check-end-requires Inv-loop μ-loop
 unfolding planEnd
 check-end-requires c κs =
     let l = c .before .before in
-    let b = l .before .before .before .before .args .b .now in
-    (variables-known b (l .loop .starts) (l .loop .k) (l .loop .inv .0) (l .before .before .before .before .pre) (omega (arith, counted l)),
-    l .loop .inv .2 ∙ ap (sectionStart b) (ended l (c .before .loop-test .left)))
+    let b = l .before .before .before .before .args .b .now in (
+      variables-known b (l .loop .starts) (l .loop .k) (l .loop .inv .0) (l .before .before .before .before .pre) (omega (arith, counted l)),
+      l .loop .inv .2 ∙ ap (sectionStart b) (ended l (c .before .loop-test .left)),
+    )
 
 returns-2 : tie.Need-returns-2 Inv-loop μ-loop
 returns-2 c =

@@ -1,5 +1,5 @@
 -- `plan::scan::count_labels` gives L. Invariant: `labels` is the number of values of the first x variables. Assumes nothing.
-use Prim.Native.Nat.{ℕ, suc, _+_, _-_, _*_, _≤_}
+use Prim.Native.Nat.{ℕ, suc, _-_, _*_, _≤_}
 use borrow.Author.Needs.{needs}
 use mathlib.Core.Path.{_≡_, refl, sym, _∙_, ap}
 use native.Mathlib.Numerals.{add-one}
@@ -42,11 +42,12 @@ loop-less c = omega arith
 loop-again : tie.Need-loop-again Inv-loop μ-loop
 loop-again c =
     let l = c .before .before in
-    let b = l .before .before .before .args .b .now in
-    (omega arith,
-    sum-more (l .loop .labels) (c .size-at .result) (l .loop .x) (λ y. sizeAt b (suc y)) (l .loop .inv .1)
-    (c .size-at .ensures .0 ∙ ap (sizeAt b) (add-one (l .loop .x))),
-    omega arith)
+    let b = l .before .before .before .args .b .now in (
+      omega arith,
+      sum-more (l .loop .labels) (c .size-at .result) (l .loop .x) (λ y. sizeAt b (suc y)) (l .loop .inv .1)
+          (c .size-at .ensures .0 ∙ ap (sizeAt b) (add-one (l .loop .x))),
+      omega arith,
+    )
 
 returns : tie.Need-returns Inv-loop μ-loop
 returns c =
