@@ -86,14 +86,15 @@ pub fn check_constraint(b: &[u8], at: usize, starts: &[usize; 33]) -> Verdict
     ensures { λ r. ⌜ r ≡ verdictOf (firstFault (constraintChecks (now (b .entry)) at)) ⌝ }
 {
     let length = word_at(b, at);
+    let kind = read::kind(b, at);
     if !section::complete(b, at) {
         return Verdict::Fails(Fault::Truncated);
     }
     if length < 3 {
-        return Verdict::Fails(Fault::BadLength);
+        return Verdict::Fails(Fault::BadLength); // no room for the kind
     }
-    if 1 < read::kind(b, at) {
-        return Verdict::Fails(Fault::BadConstraint);
+    if 1 < kind {
+        return Verdict::Fails(Fault::BadConstraint); // no such kind
     }
     if !variables_in_order(b, at) {
         return Verdict::Fails(Fault::BadNumber);

@@ -43,7 +43,7 @@ pub fn check_variable(b: &[u8], at: usize) -> Verdict
         return Verdict::Fails(Fault::Truncated);
     }
     if length < 2 {
-        return Verdict::Fails(Fault::BadLength);
+        return Verdict::Fails(Fault::BadLength); // no room for the count
     }
     if 16 < size {
         return Verdict::Fails(Fault::BadCount);

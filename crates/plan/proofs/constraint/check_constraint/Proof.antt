@@ -9,6 +9,9 @@ use Rattle.plan.proofs.constraint.check_constraint.Tie as tie
 word-at-requires : tie.Need-word-at-requires
 word-at-requires c κs = search needs
 
+kind-requires : tie.Need-kind-requires
+kind-requires c κs = search needs
+
 complete-requires : tie.Need-complete-requires
 complete-requires c κs = search needs
 
@@ -21,21 +24,18 @@ unfolding constraintChecks
 returns-2 c =
     rw (
       holds (c .before .before .complete .ensures) (c .before .if1 .left),
-      ← c .before .before .before .word-at .ensures .0,
+      ← c .before .before .before .before .word-at .ensures .0,
       lt-leb 3 _ (c .if2 .taken),
     )
-
-kind-requires : tie.Need-kind-requires
-kind-requires c κs = search needs
 
 returns-3 : tie.Need-returns-3
 unfolding constraintChecks
 returns-3 c =
     rw (
-      holds (c .before .before .before .before .complete .ensures) (c .before .before .before .if1 .left),
+      holds (c .before .before .before .complete .ensures) (c .before .before .if1 .left),
       ← c .before .before .before .before .before .word-at .ensures .0,
-      le-leb 3 _ (c .before .before .if2 .left),
-      ← c .before .kind .ensures .0,
+      le-leb 3 _ (c .before .if2 .left),
+      ← c .before .before .before .before .kind .ensures .0,
       lt-leb _ 1 (c .if3 .taken),
     )
 
@@ -46,10 +46,10 @@ returns-4 : tie.Need-returns-4
 unfolding constraintChecks
 returns-4 c =
     rw (
-      holds (c .before .before .before .before .before .before .complete .ensures) (c .before .before .before .before .before .if1 .left),
+      holds (c .before .before .before .before .before .complete .ensures) (c .before .before .before .before .if1 .left),
       ← c .before .before .before .before .before .before .before .word-at .ensures .0,
-      le-leb 3 _ (c .before .before .before .before .if2 .left),
-      ← c .before .before .before .kind .ensures .0,
+      le-leb 3 _ (c .before .before .before .if2 .left),
+      ← c .before .before .before .before .before .before .kind .ensures .0,
       le-leb _ 1 (c .before .before .if3 .left),
       fails (c .before .variables-in-order .ensures) (c .if4 .taken),
     )
@@ -63,10 +63,10 @@ returns-5 : tie.Need-returns-5
 unfolding constraintChecks
 returns-5 c =
     rw (
-      holds (c .before .before .before .before .before .before .before .before .complete .ensures) (c .before .before .before .before .before .before .before .if1 .left),
+      holds (c .before .before .before .before .before .before .before .complete .ensures) (c .before .before .before .before .before .before .if1 .left),
       ← c .before .before .before .before .before .before .before .before .before .word-at .ensures .0,
-      le-leb 3 _ (c .before .before .before .before .before .before .if2 .left),
-      ← c .before .before .before .before .before .kind .ensures .0,
+      le-leb 3 _ (c .before .before .before .before .before .if2 .left),
+      ← c .before .before .before .before .before .before .before .before .kind .ensures .0,
       le-leb _ 1 (c .before .before .before .before .if3 .left),
       holds (c .before .before .before .variables-in-order .ensures) (c .before .before .if4 .left),
       ← c .before .constraint-length .ensures,
@@ -82,10 +82,10 @@ returns-6 : tie.Need-returns-6
 unfolding constraintChecks
 returns-6 c =
     rw (
-      holds (c .before .before .before .before .before .before .before .before .before .before .complete .ensures) (c .before .before .before .before .before .before .before .before .before .if1 .left),
+      holds (c .before .before .before .before .before .before .before .before .before .complete .ensures) (c .before .before .before .before .before .before .before .before .if1 .left),
       ← c .before .before .before .before .before .before .before .before .before .before .before .word-at .ensures .0,
-      le-leb 3 _ (c .before .before .before .before .before .before .before .before .if2 .left),
-      ← c .before .before .before .before .before .before .before .kind .ensures .0,
+      le-leb 3 _ (c .before .before .before .before .before .before .before .if2 .left),
+      ← c .before .before .before .before .before .before .before .before .before .before .kind .ensures .0,
       le-leb _ 1 (c .before .before .before .before .before .before .if3 .left),
       holds (c .before .before .before .before .before .variables-in-order .ensures) (c .before .before .before .before .if4 .left),
       ← c .before .before .before .constraint-length .ensures,
@@ -97,10 +97,10 @@ returns-7 : tie.Need-returns-7
 unfolding constraintChecks
 returns-7 c =
     rw (
-      holds (c .before .before .before .before .before .before .before .before .before .before .complete .ensures) (c .before .before .before .before .before .before .before .before .before .if1 .left),
+      holds (c .before .before .before .before .before .before .before .before .before .complete .ensures) (c .before .before .before .before .before .before .before .before .if1 .left),
       ← c .before .before .before .before .before .before .before .before .before .before .before .word-at .ensures .0,
-      le-leb 3 _ (c .before .before .before .before .before .before .before .before .if2 .left),
-      ← c .before .before .before .before .before .before .before .kind .ensures .0,
+      le-leb 3 _ (c .before .before .before .before .before .before .before .if2 .left),
+      ← c .before .before .before .before .before .before .before .before .before .before .kind .ensures .0,
       le-leb _ 1 (c .before .before .before .before .before .before .if3 .left),
       holds (c .before .before .before .before .before .variables-in-order .ensures) (c .before .before .before .before .if4 .left),
       ← c .before .before .before .constraint-length .ensures,
@@ -113,10 +113,10 @@ check-constraint-spec =
     tie.close
     (tie.spec
     word-at-requires
+    kind-requires
     complete-requires
     returns
     returns-2
-    kind-requires
     returns-3
     variables-in-order-requires
     returns-4
