@@ -26,6 +26,13 @@ pub fn declined(fault: Fault, place: usize) -> Checked
     Checked::Declined(Decline { fault, place })
 }
 
+// Room for the places of the head and the variables.
+fn no_starts() -> [usize; 33]
+    ensures { λ r. ⌜ length r ≡ 33 ⌝ }
+{
+    [0; 33]
+}
+
 // The place of section k, kept for the head and the variables.
 fn keep_start(starts: &mut [usize; 33], k: usize, at: usize)
     requires { ⌜ length (now starts) ≡ 33 ⌝ }
@@ -87,7 +94,7 @@ pub fn check_sections(b: &[u8]) -> Checked
     ensures { λ r. ⌜ r ≡ answerOf (now (b .entry)) (sectionsFault (now (b .entry))) ⌝ }
 {
     let count = 1 + read::variable_count(b) + read::constraint_count(b);
-    let mut starts = [1usize; 33];
+    let mut starts = no_starts();
     let mut at = 1;
     let mut k = 0;
     while k < count {
