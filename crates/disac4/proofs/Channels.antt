@@ -3,6 +3,7 @@ use Prim.Native.Nat.{ℕ, zero, suc, _+_, _<_, _≤_}
 use mathlib.Core.Bool.{Bool, true, false, cond, _&&_, not}
 use mathlib.Core.List.{List, [], _∷_, _++_}
 use mathlib.Core.Path.{_≡_, refl, sym, _∙_, ap}
+use native.Mathlib.Decide.{ℕ-discrete}
 use native.Mathlib.Omega.{arith}
 use borrow.Author.Tests.{eq-eqb, ne-eqb, le-leb, lt-leb}
 use lib.Dec.{leb, eqb}
@@ -84,6 +85,16 @@ module _ (w : Message → ℕ) (p : ℕ) where
   pub into-other : (c : Channels) (j i : ℕ) (l : List Message) (o : ℕ) → (o ≡ i → ⊥) → into (update₂ c j i l) o ≡ into c o
   into-other c j i l o n = into-same c (update₂ c j i l) o (λ k. update₂-second c j i l k o n)
 
+  -- taking a message adds none to any actor's
+  pub into-falls : (c : Channels) (j i : ℕ) (m : Message) (rest : List Message) → j ≤ p → c j i ≡ m ∷ rest → (o : ℕ)
+      → into (update₂ c j i rest) o ≤ into c o
+  into-falls c j i m rest h e o =
+      elim (ℕ-discrete o i) [
+        | yes same ↦ rw same (omega (arith, into-take c j i m rest h e))
+        | no other ↦ omega (arith, into-other c j i rest o other)
+      ]
+
+  -- a broadcast message is on its way to every other actor
   pub into-broadcast : (c : Channels) (k : ℕ) (m : Message) (i : ℕ) → k ≤ p → i ≤ p → (i ≡ k → ⊥)
       → into (broadcast p k m c) i ≡ into c i + w m
   into-broadcast c k m i h b n =
@@ -94,5 +105,6 @@ module _ (w : Message → ℕ) (p : ℕ) where
         ap (weigh w) (broadcast-to p k m c i b n),
       )
 
+  -- and to its sender no more messages than before
   pub into-broadcast-self : (c : Channels) (k : ℕ) (m : Message) → into (broadcast p k m c) k ≡ into c k
   into-broadcast-self c k m = into-same c (broadcast p k m c) k (λ j. broadcast-self p k m c j)
