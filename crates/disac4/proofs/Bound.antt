@@ -4,7 +4,7 @@ use mathlib.Core.Bool.{Bool, true}
 use mathlib.Core.List.{List, [], _∷_}
 use mathlib.Core.Logic.{_↔_}
 use mathlib.Core.Option.{Option, none, some}
-use mathlib.Core.Path.{_≡_, refl, ap}
+use mathlib.Core.Path.{_≡_, refl, _∙_, ap}
 use native.Mathlib.Nat.{le-refl, mul-add, add-mul}
 use native.Mathlib.Omega.{arith}
 use Rattle.base.proofs.Bools.{and-left, and-intro, and-comm}
@@ -67,27 +67,30 @@ module _ (sys : System) (few : sys .workers ≤ 8) where
   picked-fewer test (t ∷ ts) st =
       omega (arith, picked-fewer test ts (after sys st t), one-mono _ _ (λ e. and-intro (and-left (changes sys st t) (test t) e) refl))
 
+-- `gone` labels to treat and to send, and `listed` labels in the domains, weigh as much as the bound
+loaded-weight : (p listed gone : ℕ)
+    → gone + (5 * p + 1) * gone + (5 * p + 2) * listed + (3 * p + 1) ≡ turnBound p (listed + gone)
+unfolding turnBound
+loaded-weight p listed gone =
+    omega (arith, mul-add (5 * p) listed gone, add-mul (5 * p) 1 gone, add-mul (5 * p) 2 listed)
+
 -- at loading the potential is the bound
 pub potential-loaded : (sys : System) → Sound sys → potential sys (load sys) ≡ boundOf sys
-unfolding potential load boundOf turnBound
+unfolding potential load boundOf
 potential-loaded sys sound =
     let p : ℕ = sys .workers in
-    let labels : ℕ = labelCount (sys .net) in
     let gone : ℕ = domainSize (sys .net) (unsupported (sys .net)) in
     let listed : ℕ = domainSize (sys .net) (load sys .domain) in
+    let summands : potential sys (load sys) ≡ gone + (5 * p + 1) * gone + (5 * p + 2) * listed + (3 * p + 1) =
     omega (
       arith,
       deletions-loaded sys (sound .owned),
       ap (λ x. (5 * p + 1) * x) (deletions-loaded sys (sound .owned)),
-      ap (λ x. (5 * p + 2) * x) (load-size sys),
-      mul-add (5 * p + 2) listed gone,
-      add-mul (5 * p) 1 gone,
-      add-mul (5 * p) 2 gone,
-      add-mul (5 * p) 2 labels,
       sum-zero p (λ i. 0) (λ i h. refl),
       sum-zero (suc p) (λ j. 0) (λ j h. refl),
       sum-zero p (λ i. into workerWeight p (λ j k. []) (suc i)) (λ i h. sum-zero (suc p) (λ j. 0) (λ j h. refl)),
-    )
+    ) in
+    summands ∙ (loaded-weight p listed gone ∙ ap (turnBound p) (load-size sys))
 
 -- of the turns of a run, at most the bound change something
 pub changes-bounded : (sys : System) → Sound sys → (ts : List Turn) → changesWhere sys (λ t. true) (load sys) ts ≤ boundOf sys

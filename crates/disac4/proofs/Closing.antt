@@ -329,12 +329,15 @@ module _ (sys : System) (st : State) where
       → ready k q st ≡ true → eqb (q .number .0) n ≡ true → Idle (st .listCounter) (st .workList) (st .toSend) k
   unfolding ready
   ready-idle t o k q e r same =
-      let lists = and-left _ (eqb (st .listCounter k) (q .wanted .0)) r in
+      let no-work : Bool = isEmpty (st .workList k) in
+      let no-send : Bool = isEmpty (st .toSend k) in
+      let counts : Bool = eqb (st .listCounter k) (q .wanted .0) in
+      let both : (no-work && no-send) ≡ true = and-left (no-work && no-send) counts r in
       record {
-        no-work = empty (st .workList k) (and-left (isEmpty (st .workList k)) _ lists);
-        no-send = empty (st .toSend k) (and-right (isEmpty (st .workList k)) _ lists);
+        no-work = empty (st .workList k) (and-left no-work no-send both);
+        no-send = empty (st .toSend k) (and-right no-work no-send both);
         counts =
-            eqb-true (st .listCounter k) (q .wanted .0) (and-right (isEmpty (st .workList k) && isEmpty (st .toSend k)) _ r)
+            eqb-true (st .listCounter k) (q .wanted .0) (and-right (no-work && no-send) counts r)
             ∙ t .polls k q e .wants o (eqb-true (q .number .0) n same);
       }
 

@@ -15,7 +15,7 @@ use Rattle.network.proofs.Loaded.{loaded-intro}
 use Rattle.network.specs.Network.{Network, Domains, Label, labelCount, supports}
 use Rattle.disac4.proofs.Moves.{Worker}
 use Rattle.disac4.proofs.Workers.{overWorkers}
-use Rattle.disac4.specs.Action.{loses, deletes, deletions}
+use Rattle.disac4.specs.Action.{loses, lowered, deletes, deletions}
 use Rattle.disac4.specs.Loading.{unsupported, loadedDeletions, load}
 use Rattle.disac4.specs.State.{State}
 use Rattle.disac4.specs.System.{System}
@@ -47,7 +47,8 @@ pub deletes-listed : (sys : System) (k : ℕ) (a : Label) (st : State) (x v : �
 unfolding deletes loses
 deletes-listed sys k a st x v e =
     and-right (eqb (sys .owner x) k) (st .domain x v)
-    (and-left _ (supports (sys .net) x v (a .variable) (a .value)) (and-left (loses sys k a st x v) _ e))
+    (and-left (eqb (sys .owner x) k && st .domain x v) (supports (sys .net) x v (a .variable) (a .value))
+    (and-left (loses sys k a st x v) (eqb (lowered sys k a st x v (a .variable)) 0) e))
 
 -- the deletions of a treated label leave the domains
 pub treat-size : (sys : System) (k : ℕ) (a : Label) (st : State)
