@@ -10,7 +10,8 @@ use native.Mathlib.Numerals.{add-one}
 use native.Mathlib.Omega.{arith}
 use lib.ListN.{length, getD, length-append, List·getD-append}
 use lib.Seq.{getD-append-seam, getD-at}
-use Rattle.base.proofs.Bools.{and-left, and-right, and-intro, or-cases, or-left, or-right}
+use Rattle.base.proofs.Bools.{clash, refuted, and-left, and-right, and-intro, or-cases, or-left, or-right}
+use Rattle.base.proofs.Choice.{none≢some}
 use Rattle.base.specs.Below.{anyBelow, allBelow, gatherBelow, listBelow, firstBelow}
 use Rattle.base.specs.Choice.{firstOf}
 
@@ -35,11 +36,7 @@ some-below (suc n) t e = go (or-cases (anyBelow n t) (t n) e) (some-below n t)
 
 -- no index passes
 pub none-below : (n : ℕ) (t : ℕ → Bool) → anyBelow n t ≡ false → (i : ℕ) → i < n → t i ≡ false
-none-below n t e i h = go (t i) refl
-  where
-    go : (b : Bool) → t i ≡ b → t i ≡ false
-    go true p = absurd (false≢true (sym e ∙ any-below n t i h p))
-    go false p = p
+none-below n t e i h = refuted (t i) (λ p. clash (any-below n t i h p) e)
 
 pub all-below : (n : ℕ) (t : ℕ → Bool) → allBelow n t ≡ true → (i : ℕ) → i < n → t i ≡ true
 all-below zero t e i h = absurd (not-suc-le-zero h)
@@ -81,10 +78,7 @@ module _ {ℓ} {A : Type ℓ} where
   -- the lowest index with a result, and what it gives
   pub first-below : (n : ℕ) (f : ℕ → Option A) (a : A) → firstBelow n f ≡ some a
       → (i : ℕ) × (i < n) × (f i ≡ some a) × (firstBelow i f ≡ none)
-  first-below zero f a e = absurd (none≢some e)
-    where
-      none≢some : none ≡ some a → ⊥
-      none≢some p = let z : _≡_ {A = ℕ} 0 1 = cc in omega arith
+  first-below zero f a e = none≢some e
   first-below (suc n) f a e = go (firstBelow n f) refl (first-below n f a)
     where
       go : (o : Option A) → firstBelow n f ≡ o
@@ -104,7 +98,4 @@ module _ {ℓ} {A : Type ℓ} where
       go : (o : Option A) → firstBelow n f ≡ o → (firstBelow n f ≡ none → (i : ℕ) → i < n → f i ≡ none) → f i ≡ none
       go none p ih =
           ⊎-elim (λ q. ap f q ∙ (ap (λ (o : Option A). firstOf o (f n)) (sym p) ∙ e)) (λ q. ih p i q) (below-cases h)
-      go (some b) p ih = absurd (clash-some (ap (λ (o : Option A). firstOf o (f n)) (sym p) ∙ e))
-        where
-          clash-some : some b ≡ none → ⊥
-          clash-some q = let z : _≡_ {A = ℕ} 0 1 = cc in omega arith
+      go (some b) p ih = none≢some (sym (ap (λ (o : Option A). firstOf o (f n)) (sym p) ∙ e))

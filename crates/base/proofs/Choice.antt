@@ -3,7 +3,10 @@ use Prim.Native.Nat.{ℕ, _≤_}
 use mathlib.Core.Bool.{Bool, true, false, cond, _&&_, _||_, false≢true}
 use mathlib.Core.List.{List, [], _∷_, _++_}
 use mathlib.Core.Logic.{_⊎_, inl, inr, ⊎-elim}
+use mathlib.Core.Option.{none, some}
 use mathlib.Core.Path.{_≡_, refl, sym, _∙_, ap}
+use native.Mathlib.Decide.{ℕ-discrete}
+use native.Mathlib.Omega.{arith}
 use borrow.Author.Tests.{leb-true, eq-eqb, ne-eqb}
 use lib.Dec.{leb, eqb}
 use Rattle.base.proofs.Bools.{and-left, and-right, and-intro, and-false-left, and-false-right, or-cases, or-left, or-right}
@@ -31,6 +34,27 @@ module _ {ℓ} {A : Type ℓ} where
   pub update₂-second : (f : ℕ → ℕ → A) (i k : ℕ) (v : A) (j l : ℕ) → (l ≡ k → ⊥) → update₂ f i k v j l ≡ f j l
   update₂-second f i k v j l h = cond-false v (f j l) (and-false-right (eqb j i) (ne-eqb l k h))
 
+  -- what holds at the place that was changed and at every other, holds everywhere
+  pub update-each : (P : ℕ → A → Type 0) (f : ℕ → A) (i : ℕ) (v : A) → P i v
+      → ((j : ℕ) → (j ≡ i → ⊥) → P j (f j)) → (j : ℕ) → P j (update f i v j)
+  update-each P f i v here there j =
+      elim (ℕ-discrete j i) [
+        | yes e ↦ rw (e, update-same f i v) here
+        | no n ↦ rw (update-other f i v j n) (there j n)
+      ]
+
+  -- the same for a function of two numbers
+  pub update₂-each : (P : ℕ → ℕ → A → Type 0) (f : ℕ → ℕ → A) (i k : ℕ) (v : A) → P i k v
+      → ((j l : ℕ) → (j ≡ i → l ≡ k → ⊥) → P j l (f j l)) → (j l : ℕ) → P j l (update₂ f i k v j l)
+  update₂-each P f i k v here there j l =
+      elim (ℕ-discrete j i) [
+        | yes e ↦ elim (ℕ-discrete l k) [
+          | yes d ↦ rw (e, d, update₂-same f i k v) here
+          | no n ↦ rw (update₂-second f i k v j l n) (there j l (λ p q. n q))
+        ]
+        | no n ↦ rw (update₂-first f i k v j l n) (there j l (λ p q. n p))
+      ]
+
   -- some member passes the test
   pub anyOf-split : (t : A → Bool) (l m : List A) → anyOf t (l ++ m) ≡ true → (anyOf t l ≡ true) ⊎ (anyOf t m ≡ true)
   anyOf-split t [] m e = inr e
@@ -48,6 +72,11 @@ module _ {ℓ} {A : Type ℓ} where
   anyOf-right t [] m e = e
   anyOf-right t (a ∷ l) m e = or-right (t a) (anyOf-right t l m e)
 
+-- nothing is not a result
+pub none≢some {ℓ κ} : {A : Type ℓ} {B : Type κ} {a : A} → none ≡ some a → B
+none≢some e = absurd (let z : _≡_ {A = ℕ} 0 1 = cc in omega arith)
+
+-- what a number between two bounds satisfies
 pub between-low : (low high x : ℕ) → between low high x ≡ true → low ≤ x
 between-low low high x e = leb-true low x (and-left (leb low x) (leb x high) e)
 

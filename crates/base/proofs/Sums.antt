@@ -1,6 +1,6 @@
 -- Laws of sums below a bound.
 use Prim.Native.Nat.{ℕ, zero, suc, _+_, _*_, _<_, _≤_}
-use mathlib.Core.Bool.{Bool, true, false}
+use mathlib.Core.Bool.{Bool, true, false, _&&_, not}
 use mathlib.Core.Logic.{_⊎_, inl, inr, ⊎-elim}
 use mathlib.Core.Path.{_≡_, refl, sym, _∙_, ap, ap₂, subst}
 use native.Mathlib.Nat.{not-suc-le-zero, le-step, le-refl}
@@ -117,3 +117,15 @@ one-mono false b f = omega arith
 -- and less where it fails alone
 pub one-less : (a b : Bool) → a ≡ false → b ≡ true → one a < one b
 one-less a b p q = omega (arith, ap one p, ap one q)
+
+-- what is kept and what is taken out of a whole
+pub one-split : (d t : Bool) → (t ≡ true → d ≡ true) → one (d && not t) + one t ≡ one d
+one-split true true f = refl
+one-split true false f = refl
+one-split false true f = omega (arith, ap one (f refl))
+one-split false false f = refl
+
+-- a test that counts is passed
+pub one-passes : (b : Bool) → 0 < one b → b ≡ true
+one-passes true h = refl
+one-passes false h = absurd (not-suc-le-zero h)

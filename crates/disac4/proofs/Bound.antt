@@ -10,10 +10,11 @@ use native.Mathlib.Omega.{arith}
 use Rattle.base.proofs.Bools.{and-left, and-intro, and-comm}
 use Rattle.base.proofs.Sums.{sum-zero, one-mono}
 use Rattle.base.specs.Below.{one}
+use Rattle.network.proofs.DomainSize.{domainSize}
 use Rattle.network.specs.Network.{labelCount}
 use Rattle.disac4.proofs.Channels.{into}
-use Rattle.disac4.proofs.DomainSize.{domainSize, load-size, deletions-loaded}
-use Rattle.disac4.proofs.Moves.{moves, after-idle, after-move}
+use Rattle.disac4.proofs.DomainSize.{load-size, deletions-loaded}
+use Rattle.disac4.proofs.Moves.{Effect, idle, acts, effect}
 use Rattle.disac4.proofs.Potential.{workerWeight, potential, potential-falls}
 use Rattle.disac4.proofs.Sound.{Sound}
 use Rattle.disac4.specs.Loading.{unsupported, load}
@@ -25,31 +26,22 @@ module _ (sys : System) (few : sys .workers ≤ 8) where
   -- a turn that is not idle lowers the potential by 1 or more
   turn-bounded : (st : State) (t : Turn)
       → one (changes sys st t) + potential sys (after sys st t) ≤ potential sys st
-  unfolding changes
-  turn-bounded st t = go (step sys st t) refl
+  turn-bounded st t = go (effect sys st few t)
     where
-      go : (o : Option State) → step sys st t ≡ o
-          → one (isSome (step sys st t)) + potential sys (after sys st t) ≤ potential sys st
-      go none e = omega (arith, ap (λ x. one (isSome x)) e, ap (potential sys) (after-idle sys st t e))
-      go (some s) e =
-          omega (
-            arith,
-            ap (λ x. one (isSome x)) e,
-            ap (potential sys) (after-move sys st t s e),
-            potential-falls sys st (moves sys st few t s e .2),
-          )
+      go : Effect sys st t → one (changes sys st t) + potential sys (after sys st t) ≤ potential sys st
+      go (idle c a e) = omega (arith, ap one c, ap (potential sys) a)
+      go (acts c o l m) = omega (arith, ap one c, potential-falls sys st m)
 
   -- the report counts a turn exactly if the state after it differs from the state before
   pub changes-exactly : (st : State) (t : Turn) → (changes sys st t ≡ true) ↔ (after sys st t ≡ st → ⊥)
-  unfolding changes
   changes-exactly st t = (
     λ c e. omega (arith, turn-bounded st t, ap one c, ap (potential sys) e),
-    λ h. go (step sys st t) refl h,
+    λ h. go (effect sys st few t) h,
   )
     where
-      go : (o : Option State) → step sys st t ≡ o → (after sys st t ≡ st → ⊥) → isSome (step sys st t) ≡ true
-      go none e h = absurd (h (after-idle sys st t e))
-      go (some s) e h = ap isSome e
+      go : Effect sys st t → (after sys st t ≡ st → ⊥) → changes sys st t ≡ true
+      go (idle c a e) h = absurd (h a)
+      go (acts c o l m) h = c
 
   -- the turns that change something and what is left of the potential are at most the potential before
   pub turns-bounded : (ts : List Turn) (st : State)

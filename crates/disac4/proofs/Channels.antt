@@ -5,9 +5,9 @@ use mathlib.Core.List.{List, [], _∷_, _++_}
 use mathlib.Core.Path.{_≡_, refl, sym, _∙_, ap}
 use native.Mathlib.Decide.{ℕ-discrete}
 use native.Mathlib.Omega.{arith}
-use borrow.Author.Tests.{eq-eqb, ne-eqb, le-leb, lt-leb}
+use borrow.Author.Tests.{leb-true, eqb-true, eqb-false, le-leb, eq-eqb, ne-eqb}
 use lib.Dec.{leb, eqb}
-use Rattle.base.proofs.Bools.{and-intro, and-false-left, and-false-right, not-of, not-of-true}
+use Rattle.base.proofs.Bools.{clash, and-intro, and-false-left, and-false-right, not-of, not-of-true}
 use Rattle.base.proofs.Choice.{cond-true, cond-false, update₂-same, update₂-first, update₂-second}
 use Rattle.base.proofs.Sums.{sum-ext, sum-change}
 use Rattle.base.proofs.Weight.{weigh, weigh-append}
@@ -42,6 +42,20 @@ unfolding broadcast
 broadcast-self p k m c j =
     cond-false (c j k ++ (m ∷ [])) (c j k)
     (and-false-right (eqb j k && leb k p) (not-of-true (eq-eqb k k refl)))
+
+-- what holds of the sender's channels to other actors with the message, and of all others as they were, holds of all
+pub broadcast-each : (P : ℕ → ℕ → List Message → Type 0) (p k : ℕ) (m : Message) (c : Channels)
+    → ((i : ℕ) → i ≤ p → (i ≡ k → ⊥) → P k i (c k i ++ (m ∷ [])))
+    → ((j i : ℕ) → (j ≡ k → i ≤ p → i ≡ k) → P j i (c j i)) → (j i : ℕ) → P j i (broadcast p k m c j i)
+unfolding broadcast
+broadcast-each P p k m c own other j i = go (eqb j k) refl (leb i p) refl (eqb i k) refl
+  where
+    go : (a : Bool) → eqb j k ≡ a → (b : Bool) → leb i p ≡ b → (d : Bool) → eqb i k ≡ d
+        → P j i (cond (a && b && not d) (c j i ++ (m ∷ [])) (c j i))
+    go false x b y d z = other j i (λ e h. clash (eq-eqb j k e) x)
+    go true x false y d z = other j i (λ e h. clash (le-leb i p h) y)
+    go true x true y true z = other j i (λ e h. eqb-true i k z)
+    go true x true y false z = rw (eqb-true j k x) (own i (leb-true i p y) (eqb-false i k z))
 
 -- ---- all messages to an actor
 

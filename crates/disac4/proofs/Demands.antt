@@ -5,12 +5,12 @@ use mathlib.Core.List.{List, [], _∷_, _++_}
 use mathlib.Core.Logic.{⊎-elim}
 use mathlib.Core.Path.{_≡_, refl, sym, _∙_, ap, subst}
 use Rattle.base.proofs.Bools.{decided}
+use Rattle.base.proofs.Each.{Each, each-append, each-all}
 use Rattle.base.specs.Choice.{allOf}
 use Rattle.disac4.proofs.Bound.{changes-exactly, changes-bounded}
 use Rattle.disac4.proofs.Delivered.{quiet-sent, quiet-read, quiet-treated}
 use Rattle.disac4.proofs.Final.{closed-stays, domain-shrinks}
 use Rattle.disac4.proofs.Largest.{never-lost, quiet-largest}
-use Rattle.base.proofs.Each.{Each, each-none, each-append, each-all}
 use Rattle.disac4.proofs.Moves.{Worker}
 use Rattle.disac4.proofs.Progress.{progress}
 use Rattle.disac4.proofs.RoundRun.{Advances, play-append, turns-closed, turns-open, round-run-closes, round-run-complete}
@@ -98,9 +98,9 @@ module _ (sys : System) (sound : Sound sys) where
   -- the turns of any number of rounds are allowed
   rounds-allowed : (fuel : ℕ) (st : State) → Each (λ t. allowed (sys .workers) t ≡ true) (roundTurns sys fuel st)
   unfolding roundTurns
-  rounds-allowed zero st = each-none (λ t. allowed (sys .workers) t ≡ true)
+  rounds-allowed zero st = tt
   rounds-allowed (suc fuel) st =
-      ⊎-elim (λ e. rw (turns-closed sys fuel st e) (each-none (λ t. allowed (sys .workers) t ≡ true)))
+      ⊎-elim (λ e. rw (turns-closed sys fuel st e) tt)
       (λ e.
       rw (turns-open sys fuel st e)
       (each-append (λ t. allowed (sys .workers) t ≡ true) (round (sys .workers))

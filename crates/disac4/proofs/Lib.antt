@@ -9,7 +9,7 @@ pub mod Deleted
 pub mod Delivered
 pub mod Demands
 pub mod DomainSize
-pub mod Every
+pub mod Empty
 pub mod Expected
 pub mod Figures
 pub mod FiguresFit
@@ -20,7 +20,6 @@ pub mod Moves
 pub mod Occurrences
 pub mod Order
 pub mod Outcome
-pub mod Pointwise
 pub mod PollBound
 pub mod Potential
 pub mod Progress

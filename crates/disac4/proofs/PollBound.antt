@@ -7,14 +7,13 @@ use mathlib.Core.Option.{Option, none, some}
 use mathlib.Core.Path.{_≡_, refl, sym, ap}
 use native.Mathlib.Decide.{ℕ-discrete}
 use native.Mathlib.Omega.{arith}
-use Rattle.base.proofs.Choice.{update-same, update-other, update₂-same, update₂-first, update₂-second}
+use Rattle.base.proofs.Choice.{update-same, update-other, update₂-same, update₂-first, update₂-second, update₂-each}
 use Rattle.base.proofs.Sums.{one-le}
 use Rattle.base.proofs.Weight.{weigh, weigh-append}
 use Rattle.base.specs.Below.{one}
 use Rattle.base.specs.Choice.{update₂}
 use Rattle.network.specs.Network.{labelCount}
-use Rattle.disac4.proofs.Channels.{Channels, broadcast-to, broadcast-self}
-use Rattle.disac4.proofs.Every.{at-update₂, at-broadcast}
+use Rattle.disac4.proofs.Channels.{Channels, broadcast-to, broadcast-self, broadcast-each}
 use Rattle.disac4.proofs.Figures.{list-counter-bound, timestamp-of-run}
 use Rattle.disac4.proofs.Moves.{Worker, Moves, treats, sends, reads, hears, ignores, answers, asks, tallies, marks, drops, discards, kept}
 use Rattle.disac4.proofs.SendBound.{sends-bound}
@@ -95,14 +94,14 @@ answerable st i = weigh pollMessage (st .channel 0 i) + one (isSome (st .held i)
 take-falls : (w : Message → ℕ) (c : Channels) (j k : ℕ) (m : Message) (rest : List Message) → c j k ≡ m ∷ rest → (h i : ℕ)
     → weigh w (update₂ c j k rest h i) ≤ weigh w (c h i)
 take-falls w c j k m rest e =
-    at-update₂ (λ h i l. weigh w l ≤ weigh w (c h i)) c j k rest (omega (arith, ap (weigh w) e)) (λ h i. omega arith)
+    update₂-each (λ h i l. weigh w l ≤ weigh w (c h i)) c j k rest (omega (arith, ap (weigh w) e)) (λ h i n. omega arith)
 
 -- a message without weight adds to no channel
 broadcast-same : (w : Message → ℕ) (p k : ℕ) (m : Message) (c : Channels) → w m ≡ 0 → (h i : ℕ)
     → weigh w (broadcast p k m c h i) ≡ weigh w (c h i)
 broadcast-same w p k m c z =
-    at-broadcast (λ h i l. weigh w l ≡ weigh w (c h i)) p k m c
-    (λ i b n. omega (arith, weigh-append w (c k i) (m ∷ []))) (λ h i. refl)
+    broadcast-each (λ h i l. weigh w l ≡ weigh w (c h i)) p k m c
+    (λ i b n. omega (arith, weigh-append w (c k i) (m ∷ []))) (λ h i n. refl)
 
 module _ (sys : System) (st : State) (i : ℕ) (v : Worker sys i) where
   abbrev Bounded : State → Type 0

@@ -4,17 +4,17 @@ use mathlib.Core.List.{List, [], _∷_}
 use mathlib.Core.Path.{_≡_, refl}
 use native.Mathlib.Omega.{arith}
 use lib.ListN.{length}
+use Rattle.base.proofs.Each.{each-mono}
 use Rattle.base.proofs.Sums.{sum-part}
-use Rattle.base.proofs.Weight.{weigh}
+use Rattle.base.proofs.Weight.{weigh, weigh-zero}
 use Rattle.network.specs.Network.{labelCount}
-use Rattle.disac4.proofs.Every.{Each}
 use Rattle.disac4.proofs.Figures.{lists-of-run}
 use Rattle.disac4.proofs.Moves.{Worker}
 use Rattle.disac4.proofs.PollBound.{pollMessage, replyMessage, polls-bound, answerable-bound}
 use Rattle.disac4.proofs.Safety.{safe-run}
 use Rattle.disac4.proofs.SendBound.{sends-bound}
 use Rattle.disac4.proofs.Sound.{Sound, isList}
-use Rattle.disac4.proofs.Typed.{Fits, Typed}
+use Rattle.disac4.proofs.Typed.{Kind, Fits, Typed}
 use Rattle.disac4.proofs.WorkBound.{work-bound, to-send-bound}
 use Rattle.disac4.specs.Loading.{load}
 use Rattle.disac4.specs.State.{State, Message, list, poll, reply}
@@ -41,38 +41,42 @@ by-kind (poll q ∷ l) = omega (arith, by-kind l)
 by-kind (reply n ∷ l) = omega (arith, by-kind l)
 
 module _ {sys : System} {st : State} (t : Typed sys st) (j k : ℕ) where
-  abbrev AllFit : List Message → Type 0
-  AllFit l = Each (Fits (sys .workers) (st .controller .timestamp) (st .controller .pollOpen) (st .listCounter 0) j k) l
+  abbrev Sent : Message → Type 0
+  Sent = Kind (st .controller .timestamp) (st .controller .pollOpen) (st .listCounter 0) j k
+
+  -- a channel weighs nothing where no message that it can hold does
+  weightless : (w : Message → ℕ) → ((m : Message) → Sent m → w m ≡ 0) → weigh w (st .channel j k) ≡ 0
+  weightless w f =
+      weigh-zero w (st .channel j k)
+      (each-mono (Fits (sys .workers) (st .controller .timestamp) (st .controller .pollOpen) (st .listCounter 0) j k)
+      (λ m. w m ≡ 0) (λ m h. f m (h .kind)) (st .channel j k) (t .messages j k))
 
   -- the controller sends no lists
   no-lists : j ≡ 0 → weigh isList (st .channel j k) ≡ 0
-  no-lists e = go (st .channel j k) (t .messages j k)
+  no-lists e = weightless isList go
     where
-      go : (l : List Message) → AllFit l → weigh isList l ≡ 0
-      go [] h = refl
-      go (list labels ∷ l) h = absurd (omega (arith, h .0 .kind))
-      go (poll q ∷ l) h = omega (arith, go l (h .1))
-      go (reply n ∷ l) h = omega (arith, go l (h .1))
+      go : (m : Message) → Sent m → isList m ≡ 0
+      go (list labels) h = absurd (omega arith)
+      go (poll q) h = refl
+      go (reply n) h = refl
 
   -- a worker sends no polls
   no-polls : 0 < j → weigh pollMessage (st .channel j k) ≡ 0
-  no-polls a = go (st .channel j k) (t .messages j k)
+  no-polls a = weightless pollMessage go
     where
-      go : (l : List Message) → AllFit l → weigh pollMessage l ≡ 0
-      go [] h = refl
-      go (list labels ∷ l) h = omega (arith, go l (h .1))
-      go (poll q ∷ l) h = absurd (omega (arith, h .0 .kind .0))
-      go (reply n ∷ l) h = omega (arith, go l (h .1))
+      go : (m : Message) → Sent m → pollMessage m ≡ 0
+      go (list labels) h = refl
+      go (poll q) h = absurd (omega (arith, h .0))
+      go (reply n) h = refl
 
   -- a worker is sent no replies
   no-replies : 0 < k → weigh replyMessage (st .channel j k) ≡ 0
-  no-replies a = go (st .channel j k) (t .messages j k)
+  no-replies a = weightless replyMessage go
     where
-      go : (l : List Message) → AllFit l → weigh replyMessage l ≡ 0
-      go [] h = refl
-      go (list labels ∷ l) h = omega (arith, go l (h .1))
-      go (poll q ∷ l) h = omega (arith, go l (h .1))
-      go (reply n ∷ l) h = absurd (omega (arith, h .0 .kind .0))
+      go : (m : Message) → Sent m → replyMessage m ≡ 0
+      go (list labels) h = refl
+      go (poll q) h = refl
+      go (reply n) h = absurd (omega (arith, h .0))
 
 module _ {sys : System} (sound : Sound sys) (ts : List Turn) where
   abbrev now : State

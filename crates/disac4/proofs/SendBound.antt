@@ -6,9 +6,11 @@ use mathlib.Core.Path.{_≡_, refl, ap}
 use native.Mathlib.Omega.{arith}
 use lib.ListN.{length}
 use Rattle.base.proofs.Weight.{weigh, weigh-append}
+use Rattle.network.proofs.DomainSize.{domainSize}
 use Rattle.network.specs.Network.{Label, labelCount}
 use Rattle.disac4.proofs.Conservation.{isSent}
-use Rattle.disac4.proofs.DomainSize.{domainSize, treat-size, load-size, deletions-loaded}
+use Rattle.disac4.proofs.DomainSize.{treat-size, load-size, deletions-loaded}
+use Rattle.disac4.proofs.Empty.{not-empty}
 use Rattle.disac4.proofs.Figures.{sent-count}
 use Rattle.disac4.proofs.Moves.{Worker, Moves, treats, sends, reads, hears, ignores, answers, asks, tallies, marks, drops, discards, kept}
 use Rattle.disac4.proofs.Sound.{Sound}
@@ -50,11 +52,6 @@ module _ (sys : System) (st : State) (k : ℕ) (w : Worker sys k) where
 pub load-unsent : (sys : System) → Sound sys → unsentLabels sys (load sys) ≡ labelCount (sys .net)
 unfolding unsentLabels load
 load-unsent sys sound = omega (arith, deletions-loaded sys (sound .owned), load-size sys)
-
--- a list that is not empty has a member
-not-empty {ℓ} : {A : Type ℓ} (l : List A) → isEmpty l ≡ false → 1 ≤ length l
-not-empty [] e = absurd (true≢false e)
-not-empty (a ∷ l) e = omega arith
 
 -- each send takes one label or more from those that may still be sent, and no other move adds one
 move-unsent : {sys : System} {st s : State} {new : List Event} → Moves sys st s new
