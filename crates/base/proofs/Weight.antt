@@ -1,9 +1,9 @@
 -- The weight of a list: the sum of a number for each of its members. Lengths, occurrences and message counts are weights.
-use Prim.Native.Nat.{ℕ, zero, suc, _+_, _<_, _≤_}
-use mathlib.Core.Bool.{Bool, true, false, cond, false≢true}
+use Prim.Native.Nat.{ℕ, zero, suc, _+_, _<_}
+use mathlib.Core.Bool.{Bool, true, false≢true}
 use mathlib.Core.List.{List, [], _∷_, _++_}
-use mathlib.Core.Logic.{_⊎_, inl, inr, ⊎-elim}
-use mathlib.Core.Path.{_≡_, refl, sym, _∙_, ap}
+use mathlib.Core.Logic.{⊎-elim}
+use mathlib.Core.Path.{_≡_, refl, ap}
 use native.Mathlib.Nat.{not-suc-le-zero}
 use native.Mathlib.Omega.{arith}
 use lib.ListN.{length}
@@ -14,18 +14,22 @@ use Rattle.base.specs.Below.{sumBelow, one, gatherBelow}
 use Rattle.base.specs.Choice.{anyOf}
 
 module _ {ℓ} {A : Type ℓ} where
+  -- the weight of a list
   abbrev pub weigh : (A → ℕ) → List A → ℕ
   weigh w [] = 0
   weigh w (a ∷ l) = w a + weigh w l
 
+  -- of two lists joined
   pub weigh-append : (w : A → ℕ) (l m : List A) → weigh w (l ++ m) ≡ weigh w l + weigh w m
   weigh-append w [] m = omega arith
   weigh-append w (a ∷ l) m = omega (arith, weigh-append w l m)
 
+  -- of many lists joined
   pub weigh-gather : (w : A → ℕ) (n : ℕ) (f : ℕ → List A) → weigh w (gatherBelow n f) ≡ sumBelow n (λ i. weigh w (f i))
   weigh-gather w zero f = refl
   weigh-gather w (suc n) f = omega (arith, weigh-append w (gatherBelow n f) (f n), weigh-gather w n f)
 
+  -- with weight 1 for each member, its length
   pub weigh-one : (l : List A) → weigh (λ a. 1) l ≡ length l
   weigh-one [] = refl
   weigh-one (a ∷ l) = omega (arith, weigh-one l)

@@ -3,7 +3,6 @@ use Prim.Native.Nat.{ℕ, suc, _+_, _*_, _≤_}
 use mathlib.Core.Bool.{Bool, true}
 use mathlib.Core.List.{List, [], _∷_}
 use mathlib.Core.Logic.{_↔_}
-use mathlib.Core.Option.{Option, none, some}
 use mathlib.Core.Path.{_≡_, refl, _∙_, ap}
 use native.Mathlib.Nat.{le-refl, mul-add, add-mul}
 use native.Mathlib.Omega.{arith}
@@ -11,7 +10,6 @@ use Rattle.base.proofs.Bools.{and-left, and-intro, and-comm}
 use Rattle.base.proofs.Sums.{sum-zero, one-mono}
 use Rattle.base.specs.Below.{one}
 use Rattle.network.proofs.DomainSize.{domainSize}
-use Rattle.network.specs.Network.{labelCount}
 use Rattle.disac4.proofs.Channels.{into}
 use Rattle.disac4.proofs.DomainSize.{load-size, deletions-loaded}
 use Rattle.disac4.proofs.Moves.{Effect, idle, acts, effect}
@@ -20,7 +18,7 @@ use Rattle.disac4.proofs.Sound.{Sound}
 use Rattle.disac4.specs.Loading.{unsupported, load}
 use Rattle.disac4.specs.State.{State}
 use Rattle.disac4.specs.System.{System, turnBound, boundOf}
-use Rattle.disac4.specs.Turn.{Turn, step, after, play, isSome, changes, changesWhere}
+use Rattle.disac4.specs.Turn.{Turn, after, play, changes, changesWhere}
 
 module _ (sys : System) (few : sys .workers ≤ 8) where
   -- a turn that is not idle lowers the potential by 1 or more

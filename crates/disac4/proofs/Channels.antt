@@ -1,8 +1,8 @@
 -- The weight of all messages on their way to an actor, and what taking, putting and broadcasting a message does to it.
-use Prim.Native.Nat.{ℕ, zero, suc, _+_, _<_, _≤_}
+use Prim.Native.Nat.{ℕ, suc, _+_, _≤_}
 use mathlib.Core.Bool.{Bool, true, false, cond, _&&_, not}
 use mathlib.Core.List.{List, [], _∷_, _++_}
-use mathlib.Core.Path.{_≡_, refl, sym, _∙_, ap}
+use mathlib.Core.Path.{_≡_, refl, sym, ap}
 use native.Mathlib.Decide.{ℕ-discrete}
 use native.Mathlib.Omega.{arith}
 use borrow.Author.Tests.{leb-true, eqb-true, eqb-false, le-leb, eq-eqb, ne-eqb}
@@ -16,6 +16,7 @@ use Rattle.base.specs.Choice.{update₂}
 use Rattle.disac4.specs.Action.{broadcast}
 use Rattle.disac4.specs.State.{Message}
 
+-- the messages from a sender to a receiver
 abbrev pub Channels : Type 0
 Channels = ℕ → ℕ → List Message
 
@@ -60,6 +61,7 @@ broadcast-each P p k m c own other j i = go (eqb j k) refl (leb i p) refl (eqb i
 -- ---- all messages to an actor
 
 module _ (w : Message → ℕ) (p : ℕ) where
+  -- the weight of all messages to an actor
   abbrev pub into : Channels → ℕ → ℕ
   into c i = sumBelow (suc p) (λ j. weigh w (c j i))
 

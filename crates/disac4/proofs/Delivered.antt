@@ -1,8 +1,8 @@
 -- In a quiet state every deletion was sent, read and treated.
-use Prim.Native.Nat.{ℕ, zero, suc, _<_}
+use Prim.Native.Nat.{ℕ, suc, _<_}
 use mathlib.Core.Bool.{Bool, true, false, cond, _&&_, _||_, not}
-use mathlib.Core.List.{List, [], _∷_}
-use mathlib.Core.Path.{_≡_, refl, ap}
+use mathlib.Core.List.{List}
+use mathlib.Core.Path.{_≡_, ap}
 use native.Mathlib.Decide.{ℕ-discrete}
 use native.Mathlib.Nat.{not-suc-le-zero}
 use native.Mathlib.Omega.{arith}
@@ -10,7 +10,7 @@ use borrow.Author.Tests.{eq-eqb}
 use lib.Dec.{eqb}
 use Rattle.base.proofs.Below.{every-below}
 use Rattle.base.proofs.Bools.{and-left, or-left, or-right, not-of-true}
-use Rattle.base.proofs.Weight.{weigh, weighs-any, counts-any}
+use Rattle.base.proofs.Weight.{weighs-any, counts-any}
 use Rattle.base.specs.Below.{one}
 use Rattle.base.specs.Choice.{anyOf}
 use Rattle.network.proofs.Loaded.{loaded-variable}

@@ -1,6 +1,6 @@
 -- How deletions lower the number of loaded labels in the domains.
 use Prim.Native.Nat.{ℕ, zero, suc, _+_, _<_, _≤_}
-use mathlib.Core.Bool.{Bool, true, false, _&&_, not}
+use mathlib.Core.Bool.{Bool, true, _&&_, not}
 use mathlib.Core.Path.{_≡_, refl, sym, _∙_, ap}
 use native.Mathlib.Nat.{not-suc-le-zero}
 use native.Mathlib.Omega.{arith}
@@ -9,11 +9,11 @@ use lib.Dec.{eqb}
 use lib.ListN.{length}
 use Rattle.base.proofs.Bools.{and-left, and-right, and-false-left}
 use Rattle.base.proofs.Sums.{sum-ext, sum-single, sum-swap, one-split}
-use Rattle.base.specs.Below.{sumBelow, one, countBelow}
+use Rattle.base.specs.Below.{one}
 use Rattle.network.proofs.DomainSize.{domainSize, size-split}
 use Rattle.network.proofs.Labels.{labels-length, label-count}
 use Rattle.network.proofs.Loaded.{loaded-intro}
-use Rattle.network.specs.Network.{Network, Domains, Label, labelCount, supports}
+use Rattle.network.specs.Network.{Domains, Label, labelCount, supports}
 use Rattle.disac4.proofs.Moves.{Worker}
 use Rattle.disac4.proofs.Workers.{overWorkers}
 use Rattle.disac4.specs.Action.{loses, lowered, deletes, deletions}

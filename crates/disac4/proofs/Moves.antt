@@ -1,31 +1,31 @@
 -- What a turn that is not idle does: one case for each action, with what held before it, the state after it and its events.
 -- Every invariant of the protocol is proved by going through these cases.
-use Prim.Native.Nat.{ℕ, zero, suc, _+_, _<_, _≤_}
-use mathlib.Core.Bool.{Bool, true, false, cond, _&&_, _||_, not, false≢true}
+use Prim.Native.Nat.{ℕ, _<_, _≤_}
+use mathlib.Core.Bool.{Bool, true, false, cond, _&&_, _||_, not}
 use mathlib.Core.List.{List, [], _∷_, _++_, append-assoc, append-nil}
-use mathlib.Core.Logic.{_⊎_, inl, inr, ⊎-elim}
-use mathlib.Core.Option.{Option, none, some, Option·getD}
-use mathlib.Core.Path.{_≡_, refl, sym, _∙_, ap, subst}
+use mathlib.Core.Logic.{⊎-elim}
+use mathlib.Core.Option.{Option, none, some}
+use mathlib.Core.Path.{_≡_, refl, sym, ap, subst}
 use native.Mathlib.Omega.{arith}
-use borrow.Author.Tests.{leb-true, eqb-true, eqb-false, le-leb, eq-eqb, ne-eqb, lt-leb, not-true, not-false}
+use borrow.Author.Tests.{leb-true, eqb-true, eqb-false, ne-eqb, lt-leb, not-true, not-false}
 use lib.Dec.{leb, eqb}
-use Rattle.base.proofs.Bools.{decided, clash, and-left, and-right, and-intro, or-cases, or-false-left, or-false-right, or-left, or-right, refuted, and-false-left, and-false-right, not-of}
-use Rattle.base.proofs.Choice.{cond-true, cond-false, none≢some, between-low, between-high}
+use Rattle.base.proofs.Bools.{clash, and-left, and-right, or-cases, or-false-left, or-false-right}
+use Rattle.base.proofs.Choice.{none≢some, between-low, between-high}
 use Rattle.base.specs.Choice.{between}
 use Rattle.network.specs.Network.{Label}
 use Rattle.disac4.specs.Action.{isEmpty, afterTreat, treat, treatFrom, afterSend, send, afterList, afterPoll, afterDrop, readFrom, readWorker, afterAnswer, ready, answerTo, answer, afterAsk, ask, afterCount, afterMark, current, controllerFrom, readController}
-use Rattle.disac4.specs.Event.{Event, sent, taken, treated, eventsAt, events, treatEvent, readEvent, isTreat, isRead}
-use Rattle.disac4.specs.Report.{isSend}
-use Rattle.disac4.specs.State.{State, Message, list, poll, reply, Poll, Controller}
+use Rattle.disac4.specs.Event.{Event, sent, taken, treated, eventsAt, events, treatEvent, readEvent}
+use Rattle.disac4.specs.State.{State, Message, list, poll, reply, Poll}
 use Rattle.disac4.specs.System.{System}
-use Rattle.disac4.specs.declared.Timestamp.{Timestamp}
 use Rattle.disac4.specs.Turn.{Turn, turn, treatNumber, sendNumber, answerNumber, pollNumber, allowed, workerStep, controllerStep, step, after, play, isSome, changes}
+use Rattle.disac4.specs.declared.Timestamp.{Timestamp}
 
 -- an actor that is a worker
 pub record Worker (sys : System) (k : ℕ) : Type 0 where
   pub above : 0 < k
   pub within : k ≤ sys .workers
 
+-- the cases, by the state and the events that they lead to
 pub data Moves (sys : System) (st : State) : State → List Event → Type 0 where
   treats : (k : ℕ) (a : Label) (rest : List Label) → Worker sys k → st .workList k ≡ a ∷ rest
       → Moves sys st (afterTreat sys k a rest st) (treated k a ∷ [])

@@ -1,7 +1,6 @@
 -- How many polls a run asks: at most one more than the loaded labels, as between two polls the controller reads a list; and
 -- how many polls and replies are on their way between the controller and a worker: at most the polls asked.
 use Prim.Native.Nat.{ℕ, suc, _+_, _≤_}
-use mathlib.Core.Bool.{Bool, true, false}
 use mathlib.Core.List.{List, [], _∷_, _++_}
 use mathlib.Core.Option.{Option, none, some}
 use mathlib.Core.Path.{_≡_, refl, sym, ap}

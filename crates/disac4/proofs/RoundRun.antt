@@ -62,10 +62,12 @@ module _ (sys : System) where
   play-append [] us st = refl
   play-append (t ∷ ts) us st = play-append ts us (after sys st t)
 
+  -- a closed plan plays no further round
   pub turns-closed : (fuel : ℕ) (st : State) → st .controller .closed ≡ true → roundTurns sys (suc fuel) st ≡ []
   unfolding roundTurns
   turns-closed fuel st e = rw e
 
+  -- an open plan plays one, and then the rest
   pub turns-open : (fuel : ℕ) (st : State) → st .controller .closed ≡ false
       → roundTurns sys (suc fuel) st ≡ oneRound ++ roundTurns sys fuel (next st)
   unfolding roundTurns

@@ -1,8 +1,7 @@
 -- How many lists a run sends: at most the loaded labels, as each list carries one label or more and no label is sent twice.
 use Prim.Native.Nat.{ℕ, _+_, _≤_}
-use mathlib.Core.Bool.{false, true≢false}
-use mathlib.Core.List.{List, [], _∷_, _++_}
-use mathlib.Core.Path.{_≡_, refl, ap}
+use mathlib.Core.List.{List, []}
+use mathlib.Core.Path.{_≡_}
 use native.Mathlib.Omega.{arith}
 use lib.ListN.{length}
 use Rattle.base.proofs.Weight.{weigh, weigh-append}
@@ -15,8 +14,8 @@ use Rattle.disac4.proofs.Figures.{sent-count}
 use Rattle.disac4.proofs.Moves.{Worker, Moves, treats, sends, reads, hears, ignores, answers, asks, tallies, marks, drops, discards, kept}
 use Rattle.disac4.proofs.Sound.{Sound}
 use Rattle.disac4.proofs.Workers.{overWorkers, over-part, over-update, over-append}
-use Rattle.disac4.specs.Action.{isEmpty, deletions, afterTreat, afterSend, afterList, afterPoll, afterDrop, afterAnswer, afterAsk, afterCount, afterMark}
-use Rattle.disac4.specs.Event.{Event, events}
+use Rattle.disac4.specs.Action.{deletions, afterTreat, afterSend, afterList, afterPoll, afterDrop, afterAnswer, afterAsk, afterCount, afterMark}
+use Rattle.disac4.specs.Event.{Event}
 use Rattle.disac4.specs.Loading.{load}
 use Rattle.disac4.specs.Report.{isSend}
 use Rattle.disac4.specs.State.{State}

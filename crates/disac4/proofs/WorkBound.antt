@@ -1,13 +1,12 @@
 -- How long a worker's lists get: never longer than the loaded labels, as no label comes to a worker twice.
 use Prim.Native.Nat.{ℕ, suc, _+_, _≤_}
 use mathlib.Core.List.{List, [], _∷_, _++_}
-use mathlib.Core.Path.{_≡_, refl, sym, _∙_, ap}
+use mathlib.Core.Path.{refl, sym, ap}
 use native.Mathlib.Decide.{ℕ-discrete}
 use native.Mathlib.Omega.{arith}
 use lib.ListN.{length, length-append}
 use Rattle.base.proofs.Choice.{update-same, update-other}
 use Rattle.base.proofs.Sums.{sum-zero}
-use Rattle.base.specs.Choice.{update, update₂}
 use Rattle.network.specs.Network.{Label, labelCount}
 use Rattle.disac4.proofs.Channels.{into, into-take, into-other, into-falls, into-broadcast, into-broadcast-self}
 use Rattle.disac4.proofs.Moves.{Worker, Moves, treats, sends, reads, hears, ignores, answers, asks, tallies, marks, drops, discards, kept}

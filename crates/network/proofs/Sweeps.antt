@@ -9,7 +9,7 @@ use native.Mathlib.Omega.{arith}
 use Rattle.base.proofs.Below.{any-below, some-below, all-below, every-below, fails-below}
 use Rattle.base.proofs.Bools.{decided, and-left, and-right, and-intro, and-false-right, implied, implies, not-implied}
 use Rattle.base.proofs.Sums.{sum-le, sum-less, one-mono, one-less}
-use Rattle.base.specs.Below.{sumBelow, countBelow, anyBelow, allBelow, one}
+use Rattle.base.specs.Below.{countBelow, anyBelow, allBelow, one}
 use Rattle.network.proofs.DomainSize.{domainSize}
 use Rattle.network.proofs.Loaded.{loaded-variable, loaded-value}
 use Rattle.network.specs.Consistency.{Within, Supported, ArcConsistent, ConsistentWithin}
