@@ -1,16 +1,14 @@
--- Laws of a choice by a test, of pointwise change, and of tests over a list.
+-- Laws of a choice by a test, of pointwise change, and of numbers between bounds.
 use Prim.Native.Nat.{ℕ, _≤_}
-use mathlib.Core.Bool.{Bool, true, false, cond, false≢true}
-use mathlib.Core.List.{List, [], _∷_, _++_}
-use mathlib.Core.Logic.{_⊎_, inl, inr, ⊎-elim}
+use mathlib.Core.Bool.{Bool, true, false, cond}
 use mathlib.Core.Option.{none, some}
 use mathlib.Core.Path.{_≡_, refl, ap}
 use native.Mathlib.Decide.{ℕ-discrete}
 use native.Mathlib.Omega.{arith}
 use borrow.Author.Tests.{leb-true, eq-eqb, ne-eqb}
 use lib.Dec.{leb, eqb}
-use Rattle.base.proofs.Bools.{and-left, and-right, and-intro, and-false-left, and-false-right, or-cases, or-left, or-right}
-use Rattle.base.specs.Choice.{update, update₂, between, anyOf}
+use Rattle.base.proofs.Bools.{and-left, and-right, and-intro, and-false-left, and-false-right}
+use Rattle.base.specs.Choice.{update, update₂, between}
 
 module _ {ℓ} {A : Type ℓ} where
   -- what is chosen where the test holds
@@ -61,25 +59,6 @@ module _ {ℓ} {A : Type ℓ} where
         ]
         | no n ↦ rw (update₂-first f i k v j l n) (there j l (λ p q. n p))
       ]
-
-  -- some member passes the test
-  pub anyOf-split : (t : A → Bool) (l m : List A) → anyOf t (l ++ m) ≡ true → (anyOf t l ≡ true) ⊎ (anyOf t m ≡ true)
-  anyOf-split t [] m e = inr e
-  anyOf-split t (a ∷ l) m e =
-      ⊎-elim (λ p. inl (or-left (anyOf t l) p))
-      (λ q. ⊎-elim (λ p. inl (or-right (t a) p)) (λ p. inr p) (anyOf-split t l m q))
-      (or-cases (t a) (anyOf t (l ++ m)) e)
-
-  -- a member of the first list
-  pub anyOf-left : (t : A → Bool) (l m : List A) → anyOf t l ≡ true → anyOf t (l ++ m) ≡ true
-  anyOf-left t [] m e = absurd (false≢true e)
-  anyOf-left t (a ∷ l) m e =
-      ⊎-elim (λ p. or-left (anyOf t (l ++ m)) p) (λ p. or-right (t a) (anyOf-left t l m p)) (or-cases (t a) (anyOf t l) e)
-
-  -- or of the second
-  pub anyOf-right : (t : A → Bool) (l m : List A) → anyOf t m ≡ true → anyOf t (l ++ m) ≡ true
-  anyOf-right t [] m e = e
-  anyOf-right t (a ∷ l) m e = or-right (t a) (anyOf-right t l m e)
 
 -- nothing is not a result
 pub none≢some {ℓ κ} : {A : Type ℓ} {B : Type κ} {a : A} → none ≡ some a → B

@@ -8,7 +8,8 @@ use mathlib.Core.Path.{_≡_, refl, sym, _∙_, ap}
 use native.Mathlib.Decide.{ℕ-discrete}
 use borrow.Author.Tests.{eq-eqb}
 use Rattle.base.proofs.Bools.{clash, or-cases, or-left}
-use Rattle.base.proofs.Choice.{update-same, update-other, update₂-same, update₂-first, update₂-second, update₂-each, anyOf-left, anyOf-right}
+use Rattle.base.proofs.Choice.{update-same, update-other, update₂-same, update₂-first, update₂-second, update₂-each}
+use Rattle.base.proofs.Members.{anyOf-left, anyOf-right}
 use Rattle.base.specs.Choice.{update, update₂}
 use Rattle.disac4.proofs.Channels.{Channels, broadcast-to, broadcast-sender, broadcast-each}
 use Rattle.disac4.proofs.Moves.{Worker, Moves, treats, sends, reads, hears, ignores, answers, asks, tallies, marks, drops, discards}

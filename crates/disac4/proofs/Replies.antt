@@ -10,8 +10,8 @@ use native.Mathlib.Omega.{arith}
 use borrow.Author.Tests.{ne-eqb}
 use lib.Dec.{eqb}
 use Rattle.base.proofs.Bools.{clash, refuted, or-false, or-false-left, or-false-right, and-left, and-right, and-intro, and-false, and-false-left, not-of, not-of-true}
-use Rattle.base.proofs.Choice.{anyOf-split}
 use Rattle.base.proofs.Each.{Each}
+use Rattle.base.proofs.Members.{anyOf-split}
 use Rattle.base.proofs.Weight.{weigh, weigh-append}
 use Rattle.base.specs.Choice.{anyOf}
 use Rattle.network.specs.Network.{Label}
