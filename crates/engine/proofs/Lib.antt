@@ -1,0 +1,2 @@
+pub mod Inv
+pub mod Regions

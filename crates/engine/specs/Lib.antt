@@ -1,0 +1,9 @@
+pub mod Index
+pub mod Layout
+pub mod Lists
+pub mod Load
+pub mod Memory
+pub mod Messages
+pub mod Step
+pub mod Treat
+pub mod View

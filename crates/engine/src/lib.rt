@@ -1,0 +1,11 @@
+// The state in lent cells: loading, the actions, the turn run and the round run.
+
+pub mod layout;
+
+// A part of the work cells: rows of as many columns, from a fixed place on.
+pub struct Region {
+    pub id: usize,
+    pub base: usize,
+    pub rows: usize,
+    pub cols: usize,
+}
