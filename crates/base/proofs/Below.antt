@@ -1,7 +1,7 @@
 -- Laws of the tests and lists below a bound.
-use Prim.Native.Nat.{ℕ, zero, suc, _+_, _<_, _≤_}
-use mathlib.Core.Bool.{Bool, true, false, _&&_, _||_, false≢true}
-use mathlib.Core.List.{List, [], _∷_, _++_}
+use Prim.Native.Nat.{ℕ, zero, suc, _+_, _<_}
+use mathlib.Core.Bool.{Bool, true, false, false≢true}
+use mathlib.Core.List.{[], _∷_}
 use mathlib.Core.Logic.{_⊎_, inl, inr, ⊎-elim}
 use mathlib.Core.Option.{Option, none, some}
 use mathlib.Core.Path.{_≡_, refl, sym, _∙_, ap, subst}
@@ -9,21 +9,24 @@ use native.Mathlib.Nat.{not-suc-le-zero, eq-or-lt-of-le, le-of-suc-le-suc, le-st
 use native.Mathlib.Numerals.{add-one}
 use native.Mathlib.Omega.{arith}
 use lib.ListN.{length, getD, length-append, List·getD-append}
-use lib.Seq.{getD-append-seam, getD-at}
-use Rattle.base.proofs.Bools.{and-left, and-right, and-intro, or-cases, or-left, or-right}
-use Rattle.base.specs.Below.{anyBelow, allBelow, gatherBelow, listBelow, firstBelow}
+use lib.Seq.{getD-at}
+use Rattle.base.proofs.Bools.{clash, refuted, and-left, and-right, and-intro, or-cases, or-left, or-right, or-false}
+use Rattle.base.proofs.Choice.{none≢some}
+use Rattle.base.specs.Below.{anyBelow, allBelow, listBelow, firstBelow}
 use Rattle.base.specs.Choice.{firstOf}
 
 -- below n + 1: below n, or n itself
 pub below-cases : {n i : ℕ} → i < suc n → (i ≡ n) ⊎ (i < n)
 below-cases h = eq-or-lt-of-le (le-of-suc-le-suc h)
 
+-- an index that passes makes some pass
 pub any-below : (n : ℕ) (t : ℕ → Bool) (i : ℕ) → i < n → t i ≡ true → anyBelow n t ≡ true
 any-below zero t i h e = absurd (not-suc-le-zero h)
 any-below (suc n) t i h e =
     ⊎-elim (λ p. or-right (anyBelow n t) (subst (λ (j : ℕ). t j ≡ true) p e))
     (λ p. or-left (t n) (any-below n t i p e)) (below-cases h)
 
+-- where some pass, here is one
 pub some-below : (n : ℕ) (t : ℕ → Bool) → anyBelow n t ≡ true → (i : ℕ) × (i < n) × (t i ≡ true)
 some-below zero t e = absurd (false≢true e)
 some-below (suc n) t e = go (or-cases (anyBelow n t) (t n) e) (some-below n t)
@@ -33,20 +36,25 @@ some-below (suc n) t e = go (or-cases (anyBelow n t) (t n) e) (some-below n t)
     go (inl p) ih = (ih p .0, le-step (ih p .1), ih p .2)
     go (inr p) ih = (n, le-refl (suc n), p)
 
+-- one more index fails, or passes
+pub any-more : (n : ℕ) (t : ℕ → Bool) → anyBelow n t ≡ false → t n ≡ false → anyBelow (n + 1) t ≡ false
+any-more n t e p = rw add-one (or-false e p)
+
+pub all-more : (n : ℕ) (t : ℕ → Bool) → allBelow n t ≡ true → t n ≡ true → allBelow (n + 1) t ≡ true
+all-more n t e p = rw add-one (and-intro e p)
+
 -- no index passes
 pub none-below : (n : ℕ) (t : ℕ → Bool) → anyBelow n t ≡ false → (i : ℕ) → i < n → t i ≡ false
-none-below n t e i h = go (t i) refl
-  where
-    go : (b : Bool) → t i ≡ b → t i ≡ false
-    go true p = absurd (false≢true (sym e ∙ any-below n t i h p))
-    go false p = p
+none-below n t e i h = refuted (t i) (λ p. clash (any-below n t i h p) e)
 
+-- where all pass, each does
 pub all-below : (n : ℕ) (t : ℕ → Bool) → allBelow n t ≡ true → (i : ℕ) → i < n → t i ≡ true
 all-below zero t e i h = absurd (not-suc-le-zero h)
 all-below (suc n) t e i h =
     ⊎-elim (λ p. subst (λ (j : ℕ). t j ≡ true) (sym p) (and-right (allBelow n t) (t n) e))
     (λ p. all-below n t (and-left (allBelow n t) (t n) e) i p) (below-cases h)
 
+-- where each passes, all do
 pub every-below : (n : ℕ) (t : ℕ → Bool) → ((i : ℕ) → i < n → t i ≡ true) → allBelow n t ≡ true
 every-below zero t f = refl
 every-below (suc n) t f = and-intro (every-below n t (λ i h. f i (le-step h))) (f n (le-refl (suc n)))
@@ -63,10 +71,12 @@ fails-below (suc n) t e = go (allBelow n t) refl (t n) refl (fails-below n t)
     go true p true q ih = absurd (false≢true (sym e ∙ and-intro p q))
 
 module _ {ℓ} {A : Type ℓ} where
+  -- a list of n results has length n
   pub length-list-below : (n : ℕ) (f : ℕ → A) → length (listBelow n f) ≡ n
   length-list-below zero f = refl
   length-list-below (suc n) f = length-append (listBelow n f) (f n ∷ []) ∙ omega (arith, length-list-below n f)
 
+  -- and holds each result at its index
   pub getD-list-below : (n : ℕ) (f : ℕ → A) (d : A) (i : ℕ) → i < n → getD (listBelow n f) i d ≡ f i
   getD-list-below zero f d i h = absurd (not-suc-le-zero h)
   getD-list-below (suc n) f d i h =
@@ -81,10 +91,7 @@ module _ {ℓ} {A : Type ℓ} where
   -- the lowest index with a result, and what it gives
   pub first-below : (n : ℕ) (f : ℕ → Option A) (a : A) → firstBelow n f ≡ some a
       → (i : ℕ) × (i < n) × (f i ≡ some a) × (firstBelow i f ≡ none)
-  first-below zero f a e = absurd (none≢some e)
-    where
-      none≢some : none ≡ some a → ⊥
-      none≢some p = let z : _≡_ {A = ℕ} 0 1 = cc in omega arith
+  first-below zero f a e = none≢some e
   first-below (suc n) f a e = go (firstBelow n f) refl (first-below n f a)
     where
       go : (o : Option A) → firstBelow n f ≡ o
@@ -96,6 +103,19 @@ module _ {ℓ} {A : Type ℓ} where
           ih (p ∙ (ap (λ (o : Option A). firstOf o (f n)) (sym p) ∙ e)) in
           (r .0, le-step (r .1), r .2, r .3)
 
+  -- the first result, where it is known at which index it stands
+  pub first-at : (n : ℕ) (f : ℕ → Option A) (i : ℕ) (a : A) → i < n → firstBelow i f ≡ none → f i ≡ some a
+      → firstBelow n f ≡ some a
+  first-at zero f i a h e p = absurd (not-suc-le-zero h)
+  first-at (suc n) f i a h e p =
+      ⊎-elim (λ q. rw (← q, e) p)
+      (λ q. ap (λ (o : Option A). firstOf o (f n)) (first-at n f i a q e p))
+      (below-cases h)
+
+  -- one more index without a result
+  pub first-more : (n : ℕ) (f : ℕ → Option A) → firstBelow n f ≡ none → f n ≡ none → firstBelow (n + 1) f ≡ none
+  first-more n f e p = rw (add-one, e) p
+
   -- no index has a result
   pub none-first : (n : ℕ) (f : ℕ → Option A) → firstBelow n f ≡ none → (i : ℕ) → i < n → f i ≡ none
   none-first zero f e i h = absurd (not-suc-le-zero h)
@@ -104,7 +124,4 @@ module _ {ℓ} {A : Type ℓ} where
       go : (o : Option A) → firstBelow n f ≡ o → (firstBelow n f ≡ none → (i : ℕ) → i < n → f i ≡ none) → f i ≡ none
       go none p ih =
           ⊎-elim (λ q. ap f q ∙ (ap (λ (o : Option A). firstOf o (f n)) (sym p) ∙ e)) (λ q. ih p i q) (below-cases h)
-      go (some b) p ih = absurd (clash-some (ap (λ (o : Option A). firstOf o (f n)) (sym p) ∙ e))
-        where
-          clash-some : some b ≡ none → ⊥
-          clash-some q = let z : _≡_ {A = ℕ} 0 1 = cc in omega arith
+      go (some b) p ih = none≢some (sym (ap (λ (o : Option A). firstOf o (f n)) (sym p) ∙ e))

@@ -1,55 +1,73 @@
--- Laws of a choice by a test, of pointwise change, and of tests over a list.
+-- Laws of a choice by a test, of pointwise change, and of numbers between bounds.
 use Prim.Native.Nat.{ℕ, _≤_}
-use mathlib.Core.Bool.{Bool, true, false, cond, _&&_, _||_, false≢true}
-use mathlib.Core.List.{List, [], _∷_, _++_}
-use mathlib.Core.Logic.{_⊎_, inl, inr, ⊎-elim}
-use mathlib.Core.Path.{_≡_, refl, sym, _∙_, ap}
+use mathlib.Core.Bool.{Bool, true, false, cond}
+use mathlib.Core.Option.{none, some}
+use mathlib.Core.Path.{_≡_, refl, ap}
+use native.Mathlib.Decide.{ℕ-discrete}
+use native.Mathlib.Omega.{arith}
 use borrow.Author.Tests.{leb-true, eq-eqb, ne-eqb}
 use lib.Dec.{leb, eqb}
-use Rattle.base.proofs.Bools.{and-left, and-right, and-intro, and-false-left, and-false-right, or-cases, or-left, or-right}
-use Rattle.base.specs.Choice.{update, update₂, between, anyOf, allOf}
+use Rattle.base.proofs.Bools.{and-left, and-right, and-intro, and-false-left, and-false-right}
+use Rattle.base.specs.Choice.{update, update₂, between}
 
 module _ {ℓ} {A : Type ℓ} where
+  -- what is chosen where the test holds
   pub cond-true : {b : Bool} (x y : A) → b ≡ true → cond b x y ≡ x
   cond-true x y p = ap (λ (b : Bool). cond b x y) p
 
+  -- and where it fails
   pub cond-false : {b : Bool} (x y : A) → b ≡ false → cond b x y ≡ y
   cond-false x y p = ap (λ (b : Bool). cond b x y) p
 
+  -- the value at the place that was changed
   pub update-same : (f : ℕ → A) (i : ℕ) (v : A) → update f i v i ≡ v
   update-same f i v = cond-true v (f i) (eq-eqb i i refl)
 
+  -- and at any other
   pub update-other : (f : ℕ → A) (i : ℕ) (v : A) (j : ℕ) → (j ≡ i → ⊥) → update f i v j ≡ f j
   update-other f i v j h = cond-false v (f j) (ne-eqb j i h)
 
+  -- the same for a function of two numbers
   pub update₂-same : (f : ℕ → ℕ → A) (i k : ℕ) (v : A) → update₂ f i k v i k ≡ v
   update₂-same f i k v = cond-true v (f i k) (and-intro (eq-eqb i i refl) (eq-eqb k k refl))
 
+  -- at another first number
   pub update₂-first : (f : ℕ → ℕ → A) (i k : ℕ) (v : A) (j l : ℕ) → (j ≡ i → ⊥) → update₂ f i k v j l ≡ f j l
   update₂-first f i k v j l h = cond-false v (f j l) (and-false-left (eqb l k) (ne-eqb j i h))
 
+  -- at another second number
   pub update₂-second : (f : ℕ → ℕ → A) (i k : ℕ) (v : A) (j l : ℕ) → (l ≡ k → ⊥) → update₂ f i k v j l ≡ f j l
   update₂-second f i k v j l h = cond-false v (f j l) (and-false-right (eqb j i) (ne-eqb l k h))
 
-  -- some member passes the test
-  pub anyOf-split : (t : A → Bool) (l m : List A) → anyOf t (l ++ m) ≡ true → (anyOf t l ≡ true) ⊎ (anyOf t m ≡ true)
-  anyOf-split t [] m e = inr e
-  anyOf-split t (a ∷ l) m e =
-      ⊎-elim (λ p. inl (or-left (anyOf t l) p))
-      (λ q. ⊎-elim (λ p. inl (or-right (t a) p)) (λ p. inr p) (anyOf-split t l m q))
-      (or-cases (t a) (anyOf t (l ++ m)) e)
+  -- what holds at the place that was changed and at every other, holds everywhere
+  pub update-each : (P : ℕ → A → Type 0) (f : ℕ → A) (i : ℕ) (v : A) → P i v
+      → ((j : ℕ) → (j ≡ i → ⊥) → P j (f j)) → (j : ℕ) → P j (update f i v j)
+  update-each P f i v here there j =
+      elim (ℕ-discrete j i) [
+        | yes e ↦ rw (e, update-same f i v) here
+        | no n ↦ rw (update-other f i v j n) (there j n)
+      ]
 
-  pub anyOf-left : (t : A → Bool) (l m : List A) → anyOf t l ≡ true → anyOf t (l ++ m) ≡ true
-  anyOf-left t [] m e = absurd (false≢true e)
-  anyOf-left t (a ∷ l) m e =
-      ⊎-elim (λ p. or-left (anyOf t (l ++ m)) p) (λ p. or-right (t a) (anyOf-left t l m p)) (or-cases (t a) (anyOf t l) e)
+  -- the same for a function of two numbers
+  pub update₂-each : (P : ℕ → ℕ → A → Type 0) (f : ℕ → ℕ → A) (i k : ℕ) (v : A) → P i k v
+      → ((j l : ℕ) → (j ≡ i → l ≡ k → ⊥) → P j l (f j l)) → (j l : ℕ) → P j l (update₂ f i k v j l)
+  update₂-each P f i k v here there j l =
+      elim (ℕ-discrete j i) [
+        | yes e ↦ elim (ℕ-discrete l k) [
+          | yes d ↦ rw (e, d, update₂-same f i k v) here
+          | no n ↦ rw (update₂-second f i k v j l n) (there j l (λ p q. n q))
+        ]
+        | no n ↦ rw (update₂-first f i k v j l n) (there j l (λ p q. n p))
+      ]
 
-  pub anyOf-right : (t : A → Bool) (l m : List A) → anyOf t m ≡ true → anyOf t (l ++ m) ≡ true
-  anyOf-right t [] m e = e
-  anyOf-right t (a ∷ l) m e = or-right (t a) (anyOf-right t l m e)
+-- nothing is not a result
+pub none≢some {ℓ κ} : {A : Type ℓ} {B : Type κ} {a : A} → none ≡ some a → B
+none≢some e = absurd (let z : _≡_ {A = ℕ} 0 1 = cc in omega arith)
 
+-- a number between two bounds is at least the lower one
 pub between-low : (low high x : ℕ) → between low high x ≡ true → low ≤ x
 between-low low high x e = leb-true low x (and-left (leb low x) (leb x high) e)
 
+-- and it is at most the upper one
 pub between-high : (low high x : ℕ) → between low high x ≡ true → x ≤ high
 between-high low high x e = leb-true x high (and-right (leb low x) (leb x high) e)

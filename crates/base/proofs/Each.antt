@@ -1,7 +1,7 @@
--- Members of a list that is gathered or mapped.
+-- What holds of each member of a list.
 use Prim.Native.Nat.{ℕ, zero, suc, _<_}
 use mathlib.Core.Bool.{Bool, true}
-use mathlib.Core.List.{List, [], _∷_, _++_, map, List·Memᴰ, List·Memᴰ·head, List·Memᴰ·tail, List·Memᴰ·not-nil, List·Memᴰ·cases-cons, List·Memᴰ·append-cases, Memᴰ·append-left, Memᴰ·append-right}
+use mathlib.Core.List.{List, [], _∷_, _++_, map, List·Memᴰ, List·Memᴰ·not-nil, List·Memᴰ·cases-cons, Memᴰ·append-left, Memᴰ·append-right}
 use mathlib.Core.Logic.{⊎-elim}
 use mathlib.Core.Path.{_≡_, refl, sym, subst}
 use native.Mathlib.Nat.{not-suc-le-zero, le-step, le-refl}
@@ -21,40 +21,40 @@ module _ {ℓ} {A : Type ℓ} where
       (below-cases h)
 
   -- the statement holds of each member of the list
-  abbrev pub Each : (A → Type 0) → List A → Type ℓ
-  Each P l = (a : A) → List·Memᴰ a l → P a
+  abbrev pub Each : (A → Type 0) → List A → Type 0
+  Each P [] = Unit
+  Each P (a ∷ l) = P a × Each P l
 
   module _ (P : A → Type 0) where
-    -- the empty list has none
-    pub each-none : Each P []
-    each-none a i = absurd (List·Memᴰ·not-nil i)
-
-    -- one more member in front
-    pub each-cons : (a : A) (l : List A) → P a → Each P l → Each P (a ∷ l)
-    each-cons a l p f b i = ⊎-elim (λ x. subst P (sym x) p) (λ x. f b x) (List·Memᴰ·cases-cons i)
-
-    -- a list of one member
-    pub each-single : (a : A) → P a → Each P (a ∷ [])
-    each-single a p = each-cons a [] p each-none
+    -- so it holds of any member
+    pub each-member : (l : List A) → Each P l → {a : A} → List·Memᴰ a l → P a
+    each-member [] h i = absurd (List·Memᴰ·not-nil i)
+    each-member (b ∷ l) h i =
+        ⊎-elim (λ x. subst P (sym x) (h .0)) (λ x. each-member l (h .1) x) (List·Memᴰ·cases-cons i)
 
     -- two lists joined
     pub each-append : (l m : List A) → Each P l → Each P m → Each P (l ++ m)
-    each-append l m f g a i = ⊎-elim (λ x. f a x) (λ x. g a x) (List·Memᴰ·append-cases l i)
+    each-append [] m h g = g
+    each-append (a ∷ l) m h g = (h .0, each-append l m (h .1) g)
 
     -- many lists joined
     pub each-gather : (n : ℕ) (f : ℕ → List A) → ((i : ℕ) → i < n → Each P (f i)) → Each P (gatherBelow n f)
-    each-gather zero f h = each-none
+    each-gather zero f h = tt
     each-gather (suc n) f h =
         each-append (gatherBelow n f) (f n) (each-gather n f (λ i l. h i (le-step l))) (h n (le-refl (suc n)))
+
+    -- what follows from it for each member
+    pub each-mono : (Q : A → Type 0) → ((a : A) → P a → Q a) → (l : List A) → Each P l → Each Q l
+    each-mono Q f [] h = tt
+    each-mono Q f (a ∷ l) h = (f a (h .0), each-mono Q f l (h .1))
 
 -- the members' images
 pub each-map {ℓ κ} : {A : Type ℓ} {B : Type κ} (P : B → Type 0) (g : A → B) (l : List A) → Each (λ a. P (g a)) l
     → Each P (map g l)
-each-map P g [] h = each-none P
-each-map P g (a ∷ l) h =
-    each-cons P (g a) (map g l) (h a (List·Memᴰ·head refl)) (each-map P g l (λ b i. h b (List·Memᴰ·tail i)))
+each-map P g [] h = tt
+each-map P g (a ∷ l) h = (h .0, each-map P g l (h .1))
 
 -- a test that each member passes is passed by all
 pub each-all {ℓ} : {A : Type ℓ} (t : A → Bool) (l : List A) → Each (λ a. t a ≡ true) l → allOf t l ≡ true
 each-all t [] h = refl
-each-all t (a ∷ l) h = and-intro (h a (List·Memᴰ·head refl)) (each-all t l (λ b i. h b (List·Memᴰ·tail i)))
+each-all t (a ∷ l) h = and-intro (h .0) (each-all t l (h .1))

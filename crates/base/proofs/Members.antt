@@ -1,8 +1,8 @@
--- Tests over a list, by the places of its members.
+-- Tests over the members of a list: by their places, and of lists joined.
 use Prim.Native.Nat.{ℕ, zero, suc, _<_, zero-le, suc-le-suc}
 use mathlib.Core.Bool.{Bool, true, _||_, false≢true}
-use mathlib.Core.List.{List, [], _∷_}
-use mathlib.Core.Logic.{⊎-elim}
+use mathlib.Core.List.{List, [], _∷_, _++_}
+use mathlib.Core.Logic.{_⊎_, inl, inr, ⊎-elim}
 use mathlib.Core.Path.{_≡_, refl, ap₂}
 use native.Mathlib.Nat.{not-suc-le-zero, le-of-suc-le-suc}
 use lib.ListN.{length, getD}
@@ -42,3 +42,22 @@ module _ {ℓ} {A : Type ℓ} where
   pub any-ext : (s t : A → Bool) → ((a : A) → s a ≡ t a) → (l : List A) → anyOf s l ≡ anyOf t l
   any-ext s t h [] = refl
   any-ext s t h (a ∷ l) = ap₂ _||_ (h a) (any-ext s t h l)
+
+  -- a member of two lists joined that passes is one of the first or of the second
+  pub anyOf-split : (t : A → Bool) (l m : List A) → anyOf t (l ++ m) ≡ true → (anyOf t l ≡ true) ⊎ (anyOf t m ≡ true)
+  anyOf-split t [] m e = inr e
+  anyOf-split t (a ∷ l) m e =
+      ⊎-elim (λ p. inl (or-left (anyOf t l) p))
+      (λ q. ⊎-elim (λ p. inl (or-right (t a) p)) (λ p. inr p) (anyOf-split t l m q))
+      (or-cases (t a) (anyOf t (l ++ m)) e)
+
+  -- one of the first that passes is one of both
+  pub anyOf-left : (t : A → Bool) (l m : List A) → anyOf t l ≡ true → anyOf t (l ++ m) ≡ true
+  anyOf-left t [] m e = absurd (false≢true e)
+  anyOf-left t (a ∷ l) m e =
+      ⊎-elim (λ p. or-left (anyOf t (l ++ m)) p) (λ p. or-right (t a) (anyOf-left t l m p)) (or-cases (t a) (anyOf t l) e)
+
+  -- and so is one of the second
+  pub anyOf-right : (t : A → Bool) (l m : List A) → anyOf t m ≡ true → anyOf t (l ++ m) ≡ true
+  anyOf-right t [] m e = e
+  anyOf-right t (a ∷ l) m e = or-right (t a) (anyOf-right t l m e)

@@ -1,33 +1,44 @@
 -- Laws of sums below a bound.
 use Prim.Native.Nat.{ℕ, zero, suc, _+_, _*_, _<_, _≤_}
-use mathlib.Core.Bool.{Bool, true, false}
-use mathlib.Core.Logic.{_⊎_, inl, inr, ⊎-elim}
-use mathlib.Core.Path.{_≡_, refl, sym, _∙_, ap, ap₂, subst}
+use mathlib.Core.Bool.{Bool, true, false, _&&_, not}
+use mathlib.Core.Logic.{⊎-elim}
+use mathlib.Core.Path.{_≡_, refl, sym, ap, ap₂}
 use native.Mathlib.Nat.{not-suc-le-zero, le-step, le-refl}
+use native.Mathlib.Numerals.{add-one}
 use native.Mathlib.Omega.{arith}
 use Rattle.base.proofs.Below.{below-cases}
 use Rattle.base.specs.Below.{sumBelow, one, countBelow}
 
+-- equal summands have equal sums
 pub sum-ext : (n : ℕ) (f g : ℕ → ℕ) → ((i : ℕ) → i < n → f i ≡ g i) → sumBelow n f ≡ sumBelow n g
 sum-ext zero f g h = refl
 sum-ext (suc n) f g h = ap₂ _+_ (sum-ext n f g (λ i p. h i (le-step p))) (h n (le-refl (suc n)))
 
+-- one summand more
+pub sum-more : (s a n : ℕ) (f : ℕ → ℕ) → s ≡ sumBelow n f → a ≡ f n → s + a ≡ sumBelow (n + 1) f
+sum-more s a n f p q = rw add-one (omega arith)
+
+-- a sum of zeros is 0
 pub sum-zero : (n : ℕ) (f : ℕ → ℕ) → ((i : ℕ) → i < n → f i ≡ 0) → sumBelow n f ≡ 0
 sum-zero zero f h = refl
 sum-zero (suc n) f h = omega (arith, sum-zero n f (λ i p. h i (le-step p)), h n (le-refl (suc n)))
 
+-- the sum of two sums
 pub sum-add : (n : ℕ) (f g : ℕ → ℕ) → sumBelow n (λ i. f i + g i) ≡ sumBelow n f + sumBelow n g
 sum-add zero f g = refl
 sum-add (suc n) f g = omega (arith, sum-add n f g)
 
+-- summands that are at most as large have a sum that is
 pub sum-le : (n : ℕ) (f g : ℕ → ℕ) → ((i : ℕ) → i < n → f i ≤ g i) → sumBelow n f ≤ sumBelow n g
 sum-le zero f g h = le-refl 0
 sum-le (suc n) f g h = omega (arith, sum-le n f g (λ i p. h i (le-step p)), h n (le-refl (suc n)))
 
+-- a common factor
 pub sum-times : (n k : ℕ) (f : ℕ → ℕ) → sumBelow n (λ i. k * f i) ≡ k * sumBelow n f
 sum-times zero k f = omega arith
 sum-times (suc n) k f = omega (arith, sum-times n k f)
 
+-- a sum of equal summands
 pub sum-const : (n k : ℕ) → sumBelow n (λ i. k) ≡ n * k
 sum-const zero k = omega arith
 sum-const (suc n) k = omega (arith, sum-const n k)
@@ -117,3 +128,15 @@ one-mono false b f = omega arith
 -- and less where it fails alone
 pub one-less : (a b : Bool) → a ≡ false → b ≡ true → one a < one b
 one-less a b p q = omega (arith, ap one p, ap one q)
+
+-- what is kept and what is taken out of a whole
+pub one-split : (d t : Bool) → (t ≡ true → d ≡ true) → one (d && not t) + one t ≡ one d
+one-split true true f = refl
+one-split true false f = refl
+one-split false true f = omega (arith, ap one (f refl))
+one-split false false f = refl
+
+-- a test that counts is passed
+pub one-passes : (b : Bool) → 0 < one b → b ≡ true
+one-passes true h = refl
+one-passes false h = absurd (not-suc-le-zero h)

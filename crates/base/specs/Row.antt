@@ -1,5 +1,5 @@
 -- Rows of bits: the set of the values `w` whose bit is set, lowest bit for value 0. Everything holds at any width.
-use Prim.Native.Nat.{ℕ, zero, suc, _+_, _-_, _*_, _/_, _%_, _^_}
+use Prim.Native.Nat.{ℕ, zero, suc, _-_, _*_, _/_, _%_, _^_}
 use mathlib.Core.Bool.{Bool, cond}
 use lib.Dec.{eqb}
 use Rattle.base.specs.Below.{sumBelow}

@@ -3,53 +3,43 @@ use Prim.Native.Nat.{ℕ, suc, _+_, _*_, _≤_}
 use mathlib.Core.Bool.{Bool, true}
 use mathlib.Core.List.{List, [], _∷_}
 use mathlib.Core.Logic.{_↔_}
-use mathlib.Core.Option.{Option, none, some}
-use mathlib.Core.Path.{_≡_, refl, ap}
+use mathlib.Core.Path.{_≡_, refl, _∙_, ap}
 use native.Mathlib.Nat.{le-refl, mul-add, add-mul}
 use native.Mathlib.Omega.{arith}
 use Rattle.base.proofs.Bools.{and-left, and-intro, and-comm}
 use Rattle.base.proofs.Sums.{sum-zero, one-mono}
 use Rattle.base.specs.Below.{one}
-use Rattle.network.specs.Network.{labelCount}
+use Rattle.network.proofs.DomainSize.{domainSize}
 use Rattle.disac4.proofs.Channels.{into}
-use Rattle.disac4.proofs.DomainSize.{domainSize, load-size, deletions-loaded}
-use Rattle.disac4.proofs.Moves.{moves, after-idle, after-move}
+use Rattle.disac4.proofs.DomainSize.{load-size, deletions-loaded}
+use Rattle.disac4.proofs.Moves.{Effect, idle, acts, effect}
 use Rattle.disac4.proofs.Potential.{workerWeight, potential, potential-falls}
 use Rattle.disac4.proofs.Sound.{Sound}
 use Rattle.disac4.specs.Loading.{unsupported, load}
 use Rattle.disac4.specs.State.{State}
 use Rattle.disac4.specs.System.{System, turnBound, boundOf}
-use Rattle.disac4.specs.Turn.{Turn, step, after, play, isSome, changes, changesWhere}
+use Rattle.disac4.specs.Turn.{Turn, after, play, changes, changesWhere}
 
 module _ (sys : System) (few : sys .workers ≤ 8) where
   -- a turn that is not idle lowers the potential by 1 or more
   turn-bounded : (st : State) (t : Turn)
       → one (changes sys st t) + potential sys (after sys st t) ≤ potential sys st
-  unfolding changes
-  turn-bounded st t = go (step sys st t) refl
+  turn-bounded st t = go (effect sys st few t)
     where
-      go : (o : Option State) → step sys st t ≡ o
-          → one (isSome (step sys st t)) + potential sys (after sys st t) ≤ potential sys st
-      go none e = omega (arith, ap (λ x. one (isSome x)) e, ap (potential sys) (after-idle sys st t e))
-      go (some s) e =
-          omega (
-            arith,
-            ap (λ x. one (isSome x)) e,
-            ap (potential sys) (after-move sys st t s e),
-            potential-falls sys st (moves sys st few t s e .2),
-          )
+      go : Effect sys st t → one (changes sys st t) + potential sys (after sys st t) ≤ potential sys st
+      go (idle c a e) = omega (arith, ap one c, ap (potential sys) a)
+      go (acts c o l m) = omega (arith, ap one c, potential-falls sys st m)
 
   -- the report counts a turn exactly if the state after it differs from the state before
   pub changes-exactly : (st : State) (t : Turn) → (changes sys st t ≡ true) ↔ (after sys st t ≡ st → ⊥)
-  unfolding changes
   changes-exactly st t = (
     λ c e. omega (arith, turn-bounded st t, ap one c, ap (potential sys) e),
-    λ h. go (step sys st t) refl h,
+    λ h. go (effect sys st few t) h,
   )
     where
-      go : (o : Option State) → step sys st t ≡ o → (after sys st t ≡ st → ⊥) → isSome (step sys st t) ≡ true
-      go none e h = absurd (h (after-idle sys st t e))
-      go (some s) e h = ap isSome e
+      go : Effect sys st t → (after sys st t ≡ st → ⊥) → changes sys st t ≡ true
+      go (idle c a e) h = absurd (h a)
+      go (acts c o l m) h = c
 
   -- the turns that change something and what is left of the potential are at most the potential before
   pub turns-bounded : (ts : List Turn) (st : State)
@@ -67,27 +57,30 @@ module _ (sys : System) (few : sys .workers ≤ 8) where
   picked-fewer test (t ∷ ts) st =
       omega (arith, picked-fewer test ts (after sys st t), one-mono _ _ (λ e. and-intro (and-left (changes sys st t) (test t) e) refl))
 
+-- `gone` labels to treat and to send, and `listed` labels in the domains, weigh as much as the bound
+loaded-weight : (p listed gone : ℕ)
+    → gone + (5 * p + 1) * gone + (5 * p + 2) * listed + (3 * p + 1) ≡ turnBound p (listed + gone)
+unfolding turnBound
+loaded-weight p listed gone =
+    omega (arith, mul-add (5 * p) listed gone, add-mul (5 * p) 1 gone, add-mul (5 * p) 2 listed)
+
 -- at loading the potential is the bound
 pub potential-loaded : (sys : System) → Sound sys → potential sys (load sys) ≡ boundOf sys
-unfolding potential load boundOf turnBound
+unfolding potential load boundOf
 potential-loaded sys sound =
     let p : ℕ = sys .workers in
-    let labels : ℕ = labelCount (sys .net) in
     let gone : ℕ = domainSize (sys .net) (unsupported (sys .net)) in
     let listed : ℕ = domainSize (sys .net) (load sys .domain) in
+    let summands : potential sys (load sys) ≡ gone + (5 * p + 1) * gone + (5 * p + 2) * listed + (3 * p + 1) =
     omega (
       arith,
       deletions-loaded sys (sound .owned),
       ap (λ x. (5 * p + 1) * x) (deletions-loaded sys (sound .owned)),
-      ap (λ x. (5 * p + 2) * x) (load-size sys),
-      mul-add (5 * p + 2) listed gone,
-      add-mul (5 * p) 1 gone,
-      add-mul (5 * p) 2 gone,
-      add-mul (5 * p) 2 labels,
       sum-zero p (λ i. 0) (λ i h. refl),
       sum-zero (suc p) (λ j. 0) (λ j h. refl),
       sum-zero p (λ i. into workerWeight p (λ j k. []) (suc i)) (λ i h. sum-zero (suc p) (λ j. 0) (λ j h. refl)),
-    )
+    ) in
+    summands ∙ (loaded-weight p listed gone ∙ ap (turnBound p) (load-size sys))
 
 -- of the turns of a run, at most the bound change something
 pub changes-bounded : (sys : System) → Sound sys → (ts : List Turn) → changesWhere sys (λ t. true) (load sys) ts ≤ boundOf sys

@@ -1,12 +1,13 @@
 -- The weight of all messages on their way to an actor, and what taking, putting and broadcasting a message does to it.
-use Prim.Native.Nat.{ℕ, zero, suc, _+_, _<_, _≤_}
+use Prim.Native.Nat.{ℕ, suc, _+_, _≤_}
 use mathlib.Core.Bool.{Bool, true, false, cond, _&&_, not}
 use mathlib.Core.List.{List, [], _∷_, _++_}
-use mathlib.Core.Path.{_≡_, refl, sym, _∙_, ap}
+use mathlib.Core.Path.{_≡_, refl, sym, ap}
+use native.Mathlib.Decide.{ℕ-discrete}
 use native.Mathlib.Omega.{arith}
-use borrow.Author.Tests.{eq-eqb, ne-eqb, le-leb, lt-leb}
+use borrow.Author.Tests.{leb-true, eqb-true, eqb-false, le-leb, eq-eqb, ne-eqb}
 use lib.Dec.{leb, eqb}
-use Rattle.base.proofs.Bools.{and-intro, and-false-left, and-false-right, not-of, not-of-true}
+use Rattle.base.proofs.Bools.{clash, and-intro, and-false-left, and-false-right, not-of, not-of-true}
 use Rattle.base.proofs.Choice.{cond-true, cond-false, update₂-same, update₂-first, update₂-second}
 use Rattle.base.proofs.Sums.{sum-ext, sum-change}
 use Rattle.base.proofs.Weight.{weigh, weigh-append}
@@ -15,6 +16,7 @@ use Rattle.base.specs.Choice.{update₂}
 use Rattle.disac4.specs.Action.{broadcast}
 use Rattle.disac4.specs.State.{Message}
 
+-- the messages from a sender to a receiver
 abbrev pub Channels : Type 0
 Channels = ℕ → ℕ → List Message
 
@@ -42,9 +44,24 @@ broadcast-self p k m c j =
     cond-false (c j k ++ (m ∷ [])) (c j k)
     (and-false-right (eqb j k && leb k p) (not-of-true (eq-eqb k k refl)))
 
+-- what holds of the sender's channels to other actors with the message, and of all others as they were, holds of all
+pub broadcast-each : (P : ℕ → ℕ → List Message → Type 0) (p k : ℕ) (m : Message) (c : Channels)
+    → ((i : ℕ) → i ≤ p → (i ≡ k → ⊥) → P k i (c k i ++ (m ∷ [])))
+    → ((j i : ℕ) → (j ≡ k → i ≤ p → i ≡ k) → P j i (c j i)) → (j i : ℕ) → P j i (broadcast p k m c j i)
+unfolding broadcast
+broadcast-each P p k m c own other j i = go (eqb j k) refl (leb i p) refl (eqb i k) refl
+  where
+    go : (a : Bool) → eqb j k ≡ a → (b : Bool) → leb i p ≡ b → (d : Bool) → eqb i k ≡ d
+        → P j i (cond (a && b && not d) (c j i ++ (m ∷ [])) (c j i))
+    go false x b y d z = other j i (λ e h. clash (eq-eqb j k e) x)
+    go true x false y d z = other j i (λ e h. clash (le-leb i p h) y)
+    go true x true y true z = other j i (λ e h. eqb-true i k z)
+    go true x true y false z = rw (eqb-true j k x) (own i (leb-true i p y) (eqb-false i k z))
+
 -- ---- all messages to an actor
 
 module _ (w : Message → ℕ) (p : ℕ) where
+  -- the weight of all messages to an actor
   abbrev pub into : Channels → ℕ → ℕ
   into c i = sumBelow (suc p) (λ j. weigh w (c j i))
 
@@ -84,6 +101,16 @@ module _ (w : Message → ℕ) (p : ℕ) where
   pub into-other : (c : Channels) (j i : ℕ) (l : List Message) (o : ℕ) → (o ≡ i → ⊥) → into (update₂ c j i l) o ≡ into c o
   into-other c j i l o n = into-same c (update₂ c j i l) o (λ k. update₂-second c j i l k o n)
 
+  -- taking a message adds none to any actor's
+  pub into-falls : (c : Channels) (j i : ℕ) (m : Message) (rest : List Message) → j ≤ p → c j i ≡ m ∷ rest → (o : ℕ)
+      → into (update₂ c j i rest) o ≤ into c o
+  into-falls c j i m rest h e o =
+      elim (ℕ-discrete o i) [
+        | yes same ↦ rw same (omega (arith, into-take c j i m rest h e))
+        | no other ↦ omega (arith, into-other c j i rest o other)
+      ]
+
+  -- a broadcast message is on its way to every other actor
   pub into-broadcast : (c : Channels) (k : ℕ) (m : Message) (i : ℕ) → k ≤ p → i ≤ p → (i ≡ k → ⊥)
       → into (broadcast p k m c) i ≡ into c i + w m
   into-broadcast c k m i h b n =
@@ -94,5 +121,6 @@ module _ (w : Message → ℕ) (p : ℕ) where
         ap (weigh w) (broadcast-to p k m c i b n),
       )
 
+  -- and to its sender no more messages than before
   pub into-broadcast-self : (c : Channels) (k : ℕ) (m : Message) → into (broadcast p k m c) k ≡ into c k
   into-broadcast-self c k m = into-same c (broadcast p k m c) k (λ j. broadcast-self p k m c j)

@@ -11,14 +11,14 @@ use native.Mathlib.Omega.{arith}
 use borrow.Author.Tests.{eqb-true}
 use lib.Dec.{eqb}
 use Rattle.base.proofs.Bools.{decided, clash, and-left, and-right, or-left, or-false-right}
-use Rattle.base.proofs.Choice.{update-other, update₂-first, update₂-second}
+use Rattle.base.proofs.Choice.{update-other, update₂-first, update₂-second, update₂-each}
 use Rattle.base.proofs.Sums.{sum-some}
 use Rattle.base.proofs.Weight.{weigh}
 use Rattle.base.specs.Choice.{update, update₂}
 use Rattle.network.specs.Network.{Label}
-use Rattle.disac4.proofs.Channels.{Channels, into, into-take, into-put, into-same, broadcast-to, broadcast-self}
+use Rattle.disac4.proofs.Channels.{Channels, into, into-take, into-put, into-same, broadcast-to, broadcast-self, broadcast-each}
 use Rattle.disac4.proofs.Conservation.{Conserved}
-use Rattle.disac4.proofs.Every.{at-update₂, at-broadcast}
+use Rattle.disac4.proofs.Empty.{empty}
 use Rattle.disac4.proofs.Moves.{Worker, Moves, treats, sends, reads, hears, ignores, answers, asks, tallies, marks, drops, discards}
 use Rattle.disac4.proofs.Replies.{isReply, replied, listFirst, first-append, first-some, first-sent, first-pass, replied-append, reply-first, none-replied, not-current}
 use Rattle.disac4.proofs.Sound.{isList}
@@ -92,11 +92,6 @@ still {sys} {n} {marked} {c} {d} same f (inr x) =
     x)
 
 -- ---- every move keeps it
-
--- a list that passes the test for it is empty
-pub empty {ℓ} : {A : Type ℓ} (l : List A) → isEmpty l ≡ true → l ≡ []
-empty [] e = refl
-empty (a ∷ l) e = absurd (false≢true e)
 
 module _ (sys : System) (st : State) where
   abbrev n : ℕ
@@ -172,9 +167,9 @@ module _ (sys : System) (st : State) where
   sending k C O w e (inl x) =
       inl
       (doomed-still _
-      (at-broadcast (λ j i l. listFirst n (st .channel j i) ≡ true → listFirst n l ≡ true) (sys .workers) k
+      (broadcast-each (λ j i l. listFirst n (st .channel j i) ≡ true → listFirst n l ≡ true) (sys .workers) k
       (list (st .toSend k)) (st .channel) (λ i b d. first-append n (st .channel k i) (list (st .toSend k) ∷ []))
-      (λ j i y. y))
+      (λ j i n y. y))
       x)
   sending k C O w e (inr x) =
       ⊎-elim
@@ -198,8 +193,8 @@ module _ (sys : System) (st : State) where
   passing k m rest w e no-list no-reply (inl x) =
       inl
       (doomed-still _
-      (at-update₂ (λ j i l. listFirst n (st .channel j i) ≡ true → listFirst n l ≡ true) (st .channel) k 0 rest
-      (λ y. first-pass n m rest no-list no-reply (rw e at y)) (λ j i y. y))
+      (update₂-each (λ j i l. listFirst n (st .channel j i) ≡ true → listFirst n l ≡ true) (st .channel) k 0 rest
+      (λ y. first-pass n m rest no-list no-reply (rw e at y)) (λ j i n y. y))
       x)
   passing k m rest w e no-list no-reply (inr x) =
       inr
@@ -212,8 +207,8 @@ module _ (sys : System) (st : State) where
       (record {
         unmarked = y .unmarked;
         no-reply =
-            at-update₂ (λ j i l. replied n (st .channel j i) ≡ false → replied n l ≡ false) (st .channel) k 0 rest
-            (λ z. or-false-right (isReply n m) (replied n rest) (rw e at z)) (λ j i z. z) i 0 (y .no-reply);
+            update₂-each (λ j i l. replied n (st .channel j i) ≡ false → replied n l ≡ false) (st .channel) k 0 rest
+            (λ z. or-false-right (isReply n m) (replied n rest) (rw e at z)) (λ j i n z. z) i 0 (y .no-reply);
       }))
       inr)
       x)
@@ -225,8 +220,8 @@ module _ (sys : System) (st : State) where
   answering k m w no-list idle (inl x) =
       inl
       (doomed-still _
-      (at-update₂ (λ j i l. listFirst n (st .channel j i) ≡ true → listFirst n l ≡ true) (st .channel) k 0 _
-      (first-append n (st .channel k 0) (m ∷ [])) (λ j i y. y))
+      (update₂-each (λ j i l. listFirst n (st .channel j i) ≡ true → listFirst n l ≡ true) (st .channel) k 0 _
+      (first-append n (st .channel k 0) (m ∷ [])) (λ j i n y. y))
       x)
   answering k m w no-list idle (inr x) =
       inr
@@ -243,8 +238,8 @@ module _ (sys : System) (st : State) where
           (record {
             unmarked = y .unmarked;
             no-reply =
-                at-update₂ (λ j i l. replied n (st .channel j i) ≡ false → replied n l ≡ false) (st .channel) k 0 _
-                (λ z. replied-append n (st .channel k 0) m z r) (λ j i z. z) i 0 (y .no-reply);
+                update₂-each (λ j i l. replied n (st .channel j i) ≡ false → replied n l ≡ false) (st .channel) k 0 _
+                (λ z. replied-append n (st .channel k 0) m z r) (λ j i n z. z) i 0 (y .no-reply);
           })
       waiting i y (inl r) =
           elim (ℕ-discrete i k) [
@@ -329,12 +324,15 @@ module _ (sys : System) (st : State) where
       → ready k q st ≡ true → eqb (q .number .0) n ≡ true → Idle (st .listCounter) (st .workList) (st .toSend) k
   unfolding ready
   ready-idle t o k q e r same =
-      let lists = and-left _ (eqb (st .listCounter k) (q .wanted .0)) r in
+      let no-work : Bool = isEmpty (st .workList k) in
+      let no-send : Bool = isEmpty (st .toSend k) in
+      let counts : Bool = eqb (st .listCounter k) (q .wanted .0) in
+      let both : (no-work && no-send) ≡ true = and-left (no-work && no-send) counts r in
       record {
-        no-work = empty (st .workList k) (and-left (isEmpty (st .workList k)) _ lists);
-        no-send = empty (st .toSend k) (and-right (isEmpty (st .workList k)) _ lists);
+        no-work = empty (st .workList k) (and-left no-work no-send both);
+        no-send = empty (st .toSend k) (and-right no-work no-send both);
         counts =
-            eqb-true (st .listCounter k) (q .wanted .0) (and-right (isEmpty (st .workList k) && isEmpty (st .toSend k)) _ r)
+            eqb-true (st .listCounter k) (q .wanted .0) (and-right (no-work && no-send) counts r)
             ∙ t .polls k q e .wants o (eqb-true (q .number .0) n same);
       }
 

@@ -1,8 +1,8 @@
 -- In a quiet state every deletion was sent, read and treated.
-use Prim.Native.Nat.{ℕ, zero, suc, _<_}
+use Prim.Native.Nat.{ℕ, suc, _<_}
 use mathlib.Core.Bool.{Bool, true, false, cond, _&&_, _||_, not}
-use mathlib.Core.List.{List, [], _∷_}
-use mathlib.Core.Path.{_≡_, refl, ap}
+use mathlib.Core.List.{List}
+use mathlib.Core.Path.{_≡_, ap}
 use native.Mathlib.Decide.{ℕ-discrete}
 use native.Mathlib.Nat.{not-suc-le-zero}
 use native.Mathlib.Omega.{arith}
@@ -10,7 +10,7 @@ use borrow.Author.Tests.{eq-eqb}
 use lib.Dec.{eqb}
 use Rattle.base.proofs.Below.{every-below}
 use Rattle.base.proofs.Bools.{and-left, or-left, or-right, not-of-true}
-use Rattle.base.proofs.Weight.{weigh, counts-any}
+use Rattle.base.proofs.Weight.{weighs-any, counts-any}
 use Rattle.base.specs.Below.{one}
 use Rattle.base.specs.Choice.{anyOf}
 use Rattle.network.proofs.Loaded.{loaded-variable}
@@ -25,16 +25,6 @@ use Rattle.disac4.specs.Loading.{load}
 use Rattle.disac4.specs.State.{State}
 use Rattle.disac4.specs.System.{System}
 use Rattle.disac4.specs.Turn.{Turn, play}
-
--- a list that weighs more than 0 has a member that does
-weighs-any : (w : Event → ℕ) (t : Event → Bool) → ((e : Event) → 0 < w e → t e ≡ true) → (es : List Event)
-    → 0 < weigh w es → anyOf t es ≡ true
-weighs-any w t f [] h = absurd (not-suc-le-zero h)
-weighs-any w t f (e ∷ es) h = go (w e) refl (weighs-any w t f es)
-  where
-    go : (n : ℕ) → w e ≡ n → (0 < weigh w es → anyOf t es ≡ true) → t e || anyOf t es ≡ true
-    go zero p ih = or-right (t e) (ih (omega arith))
-    go (suc n) p ih = or-left (anyOf t es) (f e (omega arith))
 
 module _ (sys : System) (sound : Sound sys) (ts : List Turn) (quiet : Quiet sys (play sys (load sys) ts)) (x v : ℕ)
     (gone : deleted sys (play sys (load sys) ts) x v ≡ true) where

@@ -1,29 +1,11 @@
 -- Demands 2 and 3 and the round, for every accepted plan, from the plan's bytes.
-use Prim.Native.Nat.{ℕ, zero, suc, _<_, _≤_}
-use mathlib.Core.Bool.{Bool, true, false}
-use mathlib.Core.List.{List, [], _∷_, _++_}
+use Prim.Native.Nat.{ℕ, zero, suc}
+use mathlib.Core.Bool.{true, false}
+use mathlib.Core.List.{List, [], _++_}
 use mathlib.Core.Logic.{⊎-elim}
 use mathlib.Core.Path.{_≡_, refl, sym, _∙_, ap, subst}
 use Rattle.base.proofs.Bools.{decided}
-use Rattle.base.specs.Choice.{allOf}
-use Rattle.disac4.proofs.Bound.{changes-exactly, changes-bounded}
-use Rattle.disac4.proofs.Delivered.{quiet-sent, quiet-read, quiet-treated}
-use Rattle.disac4.proofs.Final.{closed-stays, domain-shrinks}
-use Rattle.disac4.proofs.Largest.{never-lost, quiet-largest}
-use Rattle.base.proofs.Each.{Each, each-none, each-append, each-all}
-use Rattle.disac4.proofs.Moves.{Worker}
-use Rattle.disac4.proofs.Progress.{progress}
-use Rattle.disac4.proofs.RoundRun.{Advances, play-append, turns-closed, turns-open, round-run-closes, round-run-complete}
-use Rattle.disac4.proofs.Rounds.{round-allowed}
-use Rattle.disac4.proofs.Safety.{closed-quiet}
-use Rattle.disac4.proofs.Sound.{Sound}
-use Rattle.disac4.specs.Demands.{closedAfter, Done, Demand2, Demand3, RoundCloses}
-use Rattle.disac4.specs.Loading.{load}
-use Rattle.disac4.specs.Report.{final}
-use Rattle.disac4.specs.Round.{round, roundTurns, roundRunTurns}
-use Rattle.disac4.specs.State.{State}
-use Rattle.disac4.specs.System.{System, systemOf, boundOf}
-use Rattle.disac4.specs.Turn.{Turn, allowed, changes, play}
+use Rattle.base.proofs.Each.{Each, each-append, each-all}
 use Rattle.network.proofs.Chain.{apart-keeps}
 use Rattle.network.proofs.Largest.{largest-consistent, largest-exists}
 use Rattle.network.proofs.Solution.{solution-within}
@@ -34,6 +16,22 @@ use Rattle.plan.specs.Decode.{decode, accepted}
 use Rattle.plan.specs.Network.{networkOf}
 use Rattle.plan.specs.Plan.{Plan}
 use Rattle.plan.specs.WellFormed.{WellFormed}
+use Rattle.disac4.proofs.Bound.{changes-exactly, changes-bounded}
+use Rattle.disac4.proofs.Delivered.{quiet-sent, quiet-read, quiet-treated}
+use Rattle.disac4.proofs.Final.{closed-stays, domain-shrinks}
+use Rattle.disac4.proofs.Largest.{never-lost, quiet-largest}
+use Rattle.disac4.proofs.Progress.{progress}
+use Rattle.disac4.proofs.RoundRun.{Advances, play-append, turns-closed, turns-open, round-run-closes, round-run-complete}
+use Rattle.disac4.proofs.Rounds.{round-allowed}
+use Rattle.disac4.proofs.Safety.{closed-quiet}
+use Rattle.disac4.proofs.Sound.{Sound}
+use Rattle.disac4.specs.Demands.{closedAfter, Demand2, Demand3, RoundCloses}
+use Rattle.disac4.specs.Loading.{load}
+use Rattle.disac4.specs.Report.{final}
+use Rattle.disac4.specs.Round.{round, roundTurns, roundRunTurns}
+use Rattle.disac4.specs.State.{State}
+use Rattle.disac4.specs.System.{System, systemOf, boundOf}
+use Rattle.disac4.specs.Turn.{Turn, allowed, changes, play}
 
 module _ (sys : System) (sound : Sound sys) (ts : List Turn) where
   -- demand 3, for a system
@@ -98,9 +96,9 @@ module _ (sys : System) (sound : Sound sys) where
   -- the turns of any number of rounds are allowed
   rounds-allowed : (fuel : ℕ) (st : State) → Each (λ t. allowed (sys .workers) t ≡ true) (roundTurns sys fuel st)
   unfolding roundTurns
-  rounds-allowed zero st = each-none (λ t. allowed (sys .workers) t ≡ true)
+  rounds-allowed zero st = tt
   rounds-allowed (suc fuel) st =
-      ⊎-elim (λ e. rw (turns-closed sys fuel st e) (each-none (λ t. allowed (sys .workers) t ≡ true)))
+      ⊎-elim (λ e. rw (turns-closed sys fuel st e) tt)
       (λ e.
       rw (turns-open sys fuel st e)
       (each-append (λ t. allowed (sys .workers) t ≡ true) (round (sys .workers))

@@ -1,6 +1,6 @@
--- How many loaded labels are in the domains, and how deletions lower that number.
+-- How deletions lower the number of loaded labels in the domains.
 use Prim.Native.Nat.{ℕ, zero, suc, _+_, _<_, _≤_}
-use mathlib.Core.Bool.{Bool, true, false, _&&_, not}
+use mathlib.Core.Bool.{Bool, true, _&&_, not}
 use mathlib.Core.Path.{_≡_, refl, sym, _∙_, ap}
 use native.Mathlib.Nat.{not-suc-le-zero}
 use native.Mathlib.Omega.{arith}
@@ -8,38 +8,18 @@ use borrow.Author.Tests.{eq-eqb, ne-eqb}
 use lib.Dec.{eqb}
 use lib.ListN.{length}
 use Rattle.base.proofs.Bools.{and-left, and-right, and-false-left}
-use Rattle.base.proofs.Sums.{sum-ext, sum-add, sum-single, sum-swap}
-use Rattle.base.specs.Below.{sumBelow, one, countBelow}
+use Rattle.base.proofs.Sums.{sum-ext, sum-single, sum-swap, one-split}
+use Rattle.base.specs.Below.{one}
+use Rattle.network.proofs.DomainSize.{domainSize, size-split}
 use Rattle.network.proofs.Labels.{labels-length, label-count}
 use Rattle.network.proofs.Loaded.{loaded-intro}
-use Rattle.network.specs.Network.{Network, Domains, Label, labelCount, supports}
+use Rattle.network.specs.Network.{Domains, Label, labelCount, supports}
 use Rattle.disac4.proofs.Moves.{Worker}
 use Rattle.disac4.proofs.Workers.{overWorkers}
-use Rattle.disac4.specs.Action.{loses, deletes, deletions}
+use Rattle.disac4.specs.Action.{loses, lowered, deletes, deletions}
 use Rattle.disac4.specs.Loading.{unsupported, loadedDeletions, load}
 use Rattle.disac4.specs.State.{State}
 use Rattle.disac4.specs.System.{System}
-
--- the loaded labels in the domains
-unfoldable pub domainSize : Network → Domains → ℕ
-domainSize net d = sumBelow (net .variables) (λ x. countBelow (net .size x) (d x))
-
--- domains that are made of two parts
-pub size-split : (net : Network) (d e t : Domains)
-    → ((x v : ℕ) → x < net .variables → v < net .size x → one (e x v) + one (t x v) ≡ one (d x v))
-    → domainSize net e + domainSize net t ≡ domainSize net d
-unfolding domainSize
-size-split net d e t f =
-    sym (sum-add (net .variables) _ _)
-    ∙ sum-ext (net .variables) _ _ (λ x h.
-    sym (sum-add (net .size x) _ _) ∙ sum-ext (net .size x) _ _ (λ v i. f x v h i))
-
--- labels kept and labels taken out
-pub one-split : (d t : Bool) → (t ≡ true → d ≡ true) → one (d && not t) + one t ≡ one d
-one-split true true f = refl
-one-split true false f = refl
-one-split false true f = omega (arith, ap one (f refl))
-one-split false false f = refl
 
 -- only labels in the domains are deleted
 pub deletes-listed : (sys : System) (k : ℕ) (a : Label) (st : State) (x v : ℕ) → deletes sys k a st x v ≡ true
@@ -47,7 +27,8 @@ pub deletes-listed : (sys : System) (k : ℕ) (a : Label) (st : State) (x v : �
 unfolding deletes loses
 deletes-listed sys k a st x v e =
     and-right (eqb (sys .owner x) k) (st .domain x v)
-    (and-left _ (supports (sys .net) x v (a .variable) (a .value)) (and-left (loses sys k a st x v) _ e))
+    (and-left (eqb (sys .owner x) k && st .domain x v) (supports (sys .net) x v (a .variable) (a .value))
+    (and-left (loses sys k a st x v) (eqb (lowered sys k a st x v (a .variable)) 0) e))
 
 -- the deletions of a treated label leave the domains
 pub treat-size : (sys : System) (k : ℕ) (a : Label) (st : State)

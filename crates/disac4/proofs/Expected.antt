@@ -8,10 +8,10 @@ use mathlib.Core.Path.{_≡_, refl, sym, _∙_, ap}
 use native.Mathlib.Decide.{ℕ-discrete}
 use borrow.Author.Tests.{eq-eqb}
 use Rattle.base.proofs.Bools.{clash, or-cases, or-left}
-use Rattle.base.proofs.Choice.{update-same, update-other, update₂-same, update₂-first, update₂-second, anyOf-left, anyOf-right}
+use Rattle.base.proofs.Choice.{update-same, update-other, update₂-same, update₂-first, update₂-second, update₂-each}
+use Rattle.base.proofs.Members.{anyOf-left, anyOf-right}
 use Rattle.base.specs.Choice.{update, update₂}
-use Rattle.disac4.proofs.Channels.{Channels, broadcast-to, broadcast-sender}
-use Rattle.disac4.proofs.Every.{at-update₂, at-broadcast}
+use Rattle.disac4.proofs.Channels.{Channels, broadcast-to, broadcast-sender, broadcast-each}
 use Rattle.disac4.proofs.Moves.{Worker, Moves, treats, sends, reads, hears, ignores, answers, asks, tallies, marks, drops, discards}
 use Rattle.disac4.proofs.Replies.{isReply, replied, not-current}
 use Rattle.disac4.proofs.Typed.{Typed, not-controller, controller-count}
@@ -82,8 +82,8 @@ module _ (sys : System) (st : State) where
       answered-map (λ x. x) (λ x. rw (update₂-second (st .channel) j k rest i 0 (not-controller w)) x)
       (λ x.
       will-hold
-      (at-update₂ (λ j k l. (o : Option Poll) → heldAfter o l ≡ heldAfter o (st .channel j k)) (st .channel) j k rest
-      (λ o. sym (no-poll o) ∙ ap (heldAfter o) (sym e)) (λ j k o. refl) 0 i (st .held i) ∙ x))
+      (update₂-each (λ j k l. (o : Option Poll) → heldAfter o l ≡ heldAfter o (st .channel j k)) (st .channel) j k rest
+      (λ o. sym (no-poll o) ∙ ap (heldAfter o) (sym e)) (λ j k n o. refl) 0 i (st .held i) ∙ x))
       (g i v)
 
   -- the controller takes a message that is no reply to the poll
@@ -92,10 +92,10 @@ module _ (sys : System) (st : State) where
       → With (st .controller .marked) (st .held) (update₂ (st .channel) k 0 rest)
   controller-takes k m rest w e no-reply g i v =
       answered-map (λ x. x)
-      (at-update₂ (λ j i l. replied (now .number .0) (st .channel j i) ≡ true → replied (now .number .0) l ≡ true)
+      (update₂-each (λ j i l. replied (now .number .0) (st .channel j i) ≡ true → replied (now .number .0) l ≡ true)
       (st .channel) k 0 rest
       (λ x. ⊎-elim (λ y. clash y no-reply) (λ y. y) (or-cases (isReply (now .number .0) m) _ (rw e at x)))
-      (λ j i x. x) i 0)
+      (λ j i n x. x) i 0)
       (λ x. will-hold (rw (update₂-first (st .channel) k 0 rest 0 i (not-controller w)) x))
       (g i v)
 
@@ -121,9 +121,9 @@ module _ (sys : System) (st : State) where
       (update₂ (st .channel) k 0 (st .channel k 0 ++ (reply (q .number) ∷ [])))
   answering k q w e g i v =
       answered-map (λ x. x)
-      (at-update₂ (λ j i l. replied (now .number .0) (st .channel j i) ≡ true → replied (now .number .0) l ≡ true)
+      (update₂-each (λ j i l. replied (now .number .0) (st .channel j i) ≡ true → replied (now .number .0) l ≡ true)
       (st .channel) k 0 box (anyOf-left (isReply (now .number .0)) (st .channel k 0) (reply (q .number) ∷ []))
-      (λ j i x. x) i 0)
+      (λ j i n x. x) i 0)
       (λ x.
       elim (ℕ-discrete i k) [
         | yes same ↦ rw same (here (rw (same, e) at x))
@@ -166,9 +166,9 @@ module _ (sys : System) (st : State) where
       → With (st .controller .marked) (st .held) (broadcast (sys .workers) k m (st .channel))
   sending k m w g i v =
       answered-map (λ x. x)
-      (at-broadcast (λ j i l. replied (now .number .0) (st .channel j i) ≡ true → replied (now .number .0) l ≡ true)
+      (broadcast-each (λ j i l. replied (now .number .0) (st .channel j i) ≡ true → replied (now .number .0) l ≡ true)
       (sys .workers) k m (st .channel)
-      (λ i b d. anyOf-left (isReply (now .number .0)) (st .channel k i) (m ∷ [])) (λ j i x. x) i 0)
+      (λ i b d. anyOf-left (isReply (now .number .0)) (st .channel k i) (m ∷ [])) (λ j i n x. x) i 0)
       (λ x. will-hold (rw (broadcast-sender (sys .workers) k m (st .channel) 0 i (not-controller w)) x))
       (g i v)
 

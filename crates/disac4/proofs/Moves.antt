@@ -1,31 +1,31 @@
 -- What a turn that is not idle does: one case for each action, with what held before it, the state after it and its events.
 -- Every invariant of the protocol is proved by going through these cases.
-use Prim.Native.Nat.{ℕ, zero, suc, _+_, _<_, _≤_}
-use mathlib.Core.Bool.{Bool, true, false, cond, _&&_, _||_, not, false≢true}
+use Prim.Native.Nat.{ℕ, _<_, _≤_}
+use mathlib.Core.Bool.{Bool, true, false, cond, _&&_, _||_, not}
 use mathlib.Core.List.{List, [], _∷_, _++_, append-assoc, append-nil}
-use mathlib.Core.Logic.{_⊎_, inl, inr, ⊎-elim}
-use mathlib.Core.Option.{Option, none, some, Option·getD}
-use mathlib.Core.Path.{_≡_, refl, sym, _∙_, ap, subst}
+use mathlib.Core.Logic.{⊎-elim}
+use mathlib.Core.Option.{Option, none, some}
+use mathlib.Core.Path.{_≡_, refl, sym, ap, subst}
 use native.Mathlib.Omega.{arith}
-use borrow.Author.Tests.{leb-true, eqb-true, eqb-false, le-leb, eq-eqb, ne-eqb, lt-leb, not-true, not-false}
+use borrow.Author.Tests.{leb-true, eqb-true, eqb-false, ne-eqb, lt-leb, not-true, not-false}
 use lib.Dec.{leb, eqb}
-use Rattle.base.proofs.Bools.{decided, clash, and-left, and-right, and-intro, or-cases, or-false-left, or-false-right, or-left, or-right, refuted, and-false-left, and-false-right, not-of}
-use Rattle.base.proofs.Choice.{cond-true, cond-false, between-low, between-high}
+use Rattle.base.proofs.Bools.{clash, and-left, and-right, or-cases, or-false-left, or-false-right}
+use Rattle.base.proofs.Choice.{none≢some, between-low, between-high}
 use Rattle.base.specs.Choice.{between}
 use Rattle.network.specs.Network.{Label}
 use Rattle.disac4.specs.Action.{isEmpty, afterTreat, treat, treatFrom, afterSend, send, afterList, afterPoll, afterDrop, readFrom, readWorker, afterAnswer, ready, answerTo, answer, afterAsk, ask, afterCount, afterMark, current, controllerFrom, readController}
-use Rattle.disac4.specs.Event.{Event, sent, taken, treated, eventsAt, events, treatEvent, readEvent, isTreat, isRead}
-use Rattle.disac4.specs.Report.{isSend}
-use Rattle.disac4.specs.State.{State, Message, list, poll, reply, Poll, Controller}
+use Rattle.disac4.specs.Event.{Event, sent, taken, treated, eventsAt, events, treatEvent, readEvent}
+use Rattle.disac4.specs.State.{State, Message, list, poll, reply, Poll}
 use Rattle.disac4.specs.System.{System}
-use Rattle.disac4.specs.declared.Timestamp.{Timestamp}
 use Rattle.disac4.specs.Turn.{Turn, turn, treatNumber, sendNumber, answerNumber, pollNumber, allowed, workerStep, controllerStep, step, after, play, isSome, changes}
+use Rattle.disac4.specs.declared.Timestamp.{Timestamp}
 
 -- an actor that is a worker
 pub record Worker (sys : System) (k : ℕ) : Type 0 where
   pub above : 0 < k
   pub within : k ≤ sys .workers
 
+-- the cases, by the state and the events that they lead to
 pub data Moves (sys : System) (st : State) : State → List Event → Type 0 where
   treats : (k : ℕ) (a : Label) (rest : List Label) → Worker sys k → st .workList k ≡ a ∷ rest
       → Moves sys st (afterTreat sys k a rest st) (treated k a ∷ [])
@@ -54,9 +54,6 @@ pub data Moves (sys : System) (st : State) : State → List Event → Type 0 whe
 module _ (sys : System) (st : State) where
   abbrev To : List Event → State → Type 0
   To es s = Moves sys st s es
-
-  none≢some : {s : State} {A : Type 0} → none ≡ some s → A
-  none≢some e = absurd (let z : _≡_ {A = ℕ} 0 1 = cc in omega arith)
 
   reached : {s s′ : State} {es : List Event} → some s ≡ some s′ → To es s → To es s′
   reached {s} {s′} {es} e m = subst (To es) (let z : s ≡ s′ = cc in z) m
@@ -261,13 +258,31 @@ idle-events : (sys : System) (st : State) (t : Turn) → step sys st t ≡ none 
 unfolding eventsAt changes
 idle-events sys st t e = rw e
 
+-- and leaves the state as it is
 pub after-idle : (sys : System) (st : State) (t : Turn) → step sys st t ≡ none → after sys st t ≡ st
 unfolding after
 after-idle sys st t e = rw e
 
+-- a turn that is not idle leads to the next state
 pub after-move : (sys : System) (st : State) (t : Turn) (s : State) → step sys st t ≡ some s → after sys st t ≡ s
 unfolding after
 after-move sys st t s e = rw e
+
+-- what a turn does: nothing, or one of the moves
+pub data Effect (sys : System) (st : State) (t : Turn) : Type 0 where
+  idle : changes sys st t ≡ false → after sys st t ≡ st → eventsAt sys st t ≡ [] → Effect sys st t
+  acts : changes sys st t ≡ true → st .controller .closed ≡ false → allowed (sys .workers) t ≡ true
+      → Moves sys st (after sys st t) (eventsAt sys st t) → Effect sys st t
+
+-- every turn is idle, or allowed and one of the moves of an open plan
+pub effect : (sys : System) (st : State) → sys .workers ≤ 8 → (t : Turn) → Effect sys st t
+unfolding changes
+effect sys st few t = go (step sys st t) refl
+  where
+    go : (o : Option State) → step sys st t ≡ o → Effect sys st t
+    go none e = idle (ap isSome e) (after-idle sys st t e) (idle-events sys st t e)
+    go (some s) e =
+        let m = moves sys st few t s e in acts (ap isSome e) (m .0) (m .1) (rw (after-move sys st t s e) (m .2))
 
 -- what every case of `Moves` keeps holds after any list of turns, with the events so far
 pub kept : (sys : System) → sys .workers ≤ 8 → (I : State → List Event → Type 0)
@@ -278,10 +293,8 @@ unfolding play events
 kept sys few I one-move [] st es h = rw append-nil h
 kept sys few I one-move (t ∷ ts) st es h =
     rw (← append-assoc es (eventsAt sys st t) (events sys (after sys st t) ts))
-    (kept sys few I one-move ts (after sys st t) (es ++ eventsAt sys st t) (next (step sys st t) refl))
+    (kept sys few I one-move ts (after sys st t) (es ++ eventsAt sys st t) (next (effect sys st few t)))
   where
-    next : (o : Option State) → step sys st t ≡ o → I (after sys st t) (es ++ eventsAt sys st t)
-    next none p = rw (after-idle sys st t p, idle-events sys st t p, append-nil) h
-    next (some s) p =
-        rw (after-move sys st t s p)
-        (one-move st es s (eventsAt sys st t) (moves sys st few t s p .0) h (moves sys st few t s p .2))
+    next : Effect sys st t → I (after sys st t) (es ++ eventsAt sys st t)
+    next (idle c a e) = rw (a, e, append-nil) h
+    next (acts c o l m) = one-move st es (after sys st t) (eventsAt sys st t) o h m

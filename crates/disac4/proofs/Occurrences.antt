@@ -10,9 +10,11 @@ use Rattle.disac4.specs.Event.{Event, sent, taken, treated, isTreatOf}
 use Rattle.disac4.specs.State.{Message, list, poll, reply}
 
 module _ (x v : ℕ) where
+  -- in a list
   abbrev pub occurs : List Label → ℕ
   occurs l = weigh (λ a. one (isLabel x v a)) l
 
+  -- in a message
   abbrev pub carried : Message → ℕ
   carried (list labels) = occurs labels
   carried (poll q) = 0
@@ -30,5 +32,6 @@ module _ (x v : ℕ) where
   readBy i j (sent k labels) = 0
   readBy i j (treated k a) = 0
 
+  -- 1 where worker `k` treated it
   abbrev pub treatedBy : ℕ → Event → ℕ
   treatedBy k e = one (isTreatOf k x v e)

@@ -2,19 +2,19 @@
 use Prim.Native.Nat.{ℕ, _<_, _≤_}
 use mathlib.Core.Bool.{true, false}
 use mathlib.Core.List.{List}
-use mathlib.Core.Option.{Option, none, some}
-use mathlib.Core.Path.{_≡_, refl}
+use mathlib.Core.Option.{none, some}
+use mathlib.Core.Path.{_≡_}
 use borrow.Author.Tests.{le-leb, lt-leb}
 use lib.ListN.{length}
 use Rattle.base.specs.Choice.{firstOf}
-use Rattle.disac4.specs.Outcome.{bufferFault, inputFault, turnRun, roundRun, refused, workNeed, listNeed}
-use Rattle.disac4.specs.Turn.{turnListFits, turnFault}
-use Rattle.disac4.specs.declared.Answer.the-variants.{Declined}
 use Rattle.plan.specs.Decode.{planFault}
 use Rattle.plan.specs.Fault.{decline}
 use Rattle.plan.specs.Format.{workerCount}
 use Rattle.plan.specs.declared.Decline.{Decline}
 use Rattle.plan.specs.declared.Fault.the-variants.{ShortWork, ShortLists, BadTurnList}
+use Rattle.disac4.specs.Outcome.{bufferFault, inputFault, turnRun, roundRun, refused, workNeed, listNeed}
+use Rattle.disac4.specs.Turn.{turnListFits, turnFault}
+use Rattle.disac4.specs.declared.Answer.the-variants.{Declined}
 
 -- 9 comes first, whatever else is wrong
 pub short-work : (work lists : List ℕ) → length work < workNeed → bufferFault work lists ≡ some (decline ShortWork 0)
@@ -49,16 +49,19 @@ pub turnRun-buffers : (b ts work lists : List ℕ) (d : Decline) → bufferFault
 unfolding turnRun refused
 turnRun-buffers b ts work lists d h = rw h
 
+-- then the fault of an input
 pub turnRun-inputs : (b ts work lists : List ℕ) (d : Decline) → bufferFault work lists ≡ none → inputFault b ts ≡ some d
     → turnRun b ts work lists .answer ≡ Declined d
 unfolding turnRun refused
 turnRun-inputs b ts work lists d g h = rw (g, h)
 
+-- the same for a round run
 pub roundRun-buffers : (b work lists : List ℕ) (d : Decline) → bufferFault work lists ≡ some d
     → roundRun b work lists .answer ≡ Declined d
 unfolding roundRun refused
 roundRun-buffers b work lists d h = rw h
 
+-- then the fault of the plan
 pub roundRun-plan : (b work lists : List ℕ) (d : Decline) → bufferFault work lists ≡ none → planFault b ≡ some d
     → roundRun b work lists .answer ≡ Declined d
 unfolding roundRun refused

@@ -1,33 +1,31 @@
 -- What a call leaves in the lent buffers, and which declines it can give.
-use Prim.Native.Nat.{ℕ, zero, suc, _+_, _-_, _<_, _≤_}
-use mathlib.Core.Bool.{Bool, true, false, cond}
-use mathlib.Core.List.{List, [], _∷_, _++_}
-use mathlib.Core.Logic.{_⊎_, inl, inr}
+use Prim.Native.Nat.{ℕ, _<_, _≤_}
+use mathlib.Core.List.{List, _++_}
 use mathlib.Core.Option.{Option, none, some}
-use mathlib.Core.Path.{_≡_, refl, sym, _∙_, ap, subst}
+use mathlib.Core.Path.{_≡_, refl, _∙_, subst}
 use native.Mathlib.Nat.{le-dest}
 use native.Mathlib.Omega.{arith}
-use lib.Dec.{leb}
 use lib.ListN.{length, getD, drop, replicate, length-append, length-drop, length-replicate, getD-replicate, List·getD-append}
 use lib.Seq.{getD-append-add, getD-drop}
 use Rattle.base.specs.Choice.{firstOf}
+use Rattle.plan.specs.Decode.{planFault}
+use Rattle.plan.specs.declared.Decline.{Decline}
 use Rattle.disac4.specs.Outcome.{Outcome, overwrite, refused, played, unlessFault, turnRun, roundRun, bufferFault, inputFault, systemAt, workNeed}
 use Rattle.disac4.specs.Report.{listCells, final, reportOf}
 use Rattle.disac4.specs.Round.{roundRunTurns}
 use Rattle.disac4.specs.System.{System}
 use Rattle.disac4.specs.Turn.{Turn, turnsOf}
-use Rattle.disac4.specs.declared.Answer.{Answer}
 use Rattle.disac4.specs.declared.Answer.the-variants.{Reported, Declined}
 use Rattle.disac4.specs.declared.Report.{Report}
-use Rattle.plan.specs.Decode.{planFault}
-use Rattle.plan.specs.declared.Decline.{Decline}
 
 -- ---- writing over the first cells
 
+-- the first cells hold what was written
 pub overwrite-front : (new cells : List ℕ) (i : ℕ) → i < length new → getD (overwrite new cells) i 0 ≡ getD new i 0
 unfolding overwrite
 overwrite-front new cells i h = List·getD-append new (drop (length new) cells) 0 i h
 
+-- the later ones what they had
 pub overwrite-back : (new cells : List ℕ) (i : ℕ) → length new ≤ i → getD (overwrite new cells) i 0 ≡ getD cells i 0
 unfolding overwrite
 overwrite-back new cells i h =
@@ -35,6 +33,7 @@ overwrite-back new cells i h =
     subst (λ (j : ℕ). getD (new ++ drop (length new) cells) j 0 ≡ getD cells j 0) (d .1)
     (getD-append-add new (drop (length new) cells) (d .0) 0 ∙ getD-drop (length new) cells (d .0) 0)
 
+-- and their number stays
 pub overwrite-length : (new cells : List ℕ) → length new ≤ length cells → length (overwrite new cells) ≡ length cells
 unfolding overwrite
 overwrite-length new cells h =

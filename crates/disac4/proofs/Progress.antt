@@ -17,7 +17,7 @@ use Rattle.base.proofs.Weight.{weigh}
 use Rattle.base.specs.Below.{anyBelow}
 use Rattle.base.specs.Choice.{between}
 use Rattle.disac4.proofs.Channels.{into}
-use Rattle.disac4.proofs.Closing.{empty}
+use Rattle.disac4.proofs.Empty.{empty}
 use Rattle.disac4.proofs.Expected.{Answered, has-mark, has-replied, will-hold}
 use Rattle.disac4.proofs.Moves.{Worker}
 use Rattle.disac4.proofs.Safety.{Safe, safe-run}

@@ -28,6 +28,7 @@ use Rattle.disac4.specs.System.{System}
 abbrev pub untreatedSupport : System → List Event → ℕ → ℕ → ℕ → ℕ → ℕ
 untreatedSupport sys es x v y w = cond (supports (sys .net) x v y w) (1 - weigh (treatedBy y w (sys .owner x)) es) 0
 
+-- how many supports of a label its owner has not treated
 abbrev pub remaining : System → List Event → ℕ → ℕ → ℕ → ℕ
 remaining sys es x v y = sumBelow (sys .net .size y) (untreatedSupport sys es x v y)
 

@@ -10,17 +10,17 @@ use native.Mathlib.Omega.{arith}
 use borrow.Author.Tests.{ne-eqb}
 use lib.Dec.{eqb}
 use Rattle.base.proofs.Bools.{clash, refuted, or-false, or-false-left, or-false-right, and-left, and-right, and-intro, and-false, and-false-left, not-of, not-of-true}
-use Rattle.base.proofs.Choice.{anyOf-split}
+use Rattle.base.proofs.Each.{Each}
+use Rattle.base.proofs.Members.{anyOf-split}
 use Rattle.base.proofs.Weight.{weigh, weigh-append}
 use Rattle.base.specs.Choice.{anyOf}
-use Rattle.disac4.proofs.Every.{Each}
+use Rattle.network.specs.Network.{Label}
 use Rattle.disac4.proofs.Sound.{isList}
 use Rattle.disac4.proofs.Typed.{Typed, Fits}
 use Rattle.disac4.specs.Action.{current}
 use Rattle.disac4.specs.State.{State, Message, list, poll, reply}
 use Rattle.disac4.specs.System.{System}
 use Rattle.disac4.specs.declared.Timestamp.{Timestamp}
-use Rattle.network.specs.Network.{Label}
 
 -- a reply to poll `n`
 abbrev pub isReply : ℕ → Message → Bool

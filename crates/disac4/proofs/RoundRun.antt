@@ -9,10 +9,10 @@ use mathlib.Core.Path.{_≡_, refl, sym, _∙_, ap, subst}
 use native.Mathlib.Nat.{not-suc-le-zero}
 use native.Mathlib.Omega.{arith}
 use Rattle.base.proofs.Bools.{decided, clash, refuted}
+use Rattle.base.proofs.Each.{Each, each-member}
 use Rattle.base.specs.Below.{one}
 use Rattle.disac4.proofs.Bound.{turns-bounded, potential-loaded}
-use Rattle.base.proofs.Each.{Each, each-none, each-cons}
-use Rattle.disac4.proofs.Moves.{moves, after-idle}
+use Rattle.disac4.proofs.Moves.{after-idle, Effect, idle, acts, effect}
 use Rattle.disac4.proofs.Potential.{potential}
 use Rattle.disac4.proofs.Rounds.{allowed-round}
 use Rattle.disac4.proofs.Sound.{Sound}
@@ -51,11 +51,10 @@ module _ (sys : System) where
   -- where a list of turns changes nothing, each of them is idle in the state before the list
   pub all-idle : (ts : List Turn) (st : State) → changesWhere sys (λ t. true) st ts ≡ 0 → Each (Idle st) ts
   unfolding changesWhere
-  all-idle [] st e = each-none (Idle st)
+  all-idle [] st e = tt
   all-idle (t ∷ ts) st e =
       let first : Idle st t = refuted (changes sys st t) (λ c. omega (arith, ap (λ b. one (b && true)) c)) in
-      each-cons (Idle st) t ts first
-      (subst (λ s. Each (Idle s) ts) (idle-stays st t first) (all-idle ts (after sys st t) (omega arith)))
+      (first, subst (λ s. Each (Idle s) ts) (idle-stays st t first) (all-idle ts (after sys st t) (omega arith)))
 
   -- the turns of two lists, one after the other
   pub play-append : (ts us : List Turn) (st : State) → play sys st (ts ++ us) ≡ play sys (play sys st ts) us
@@ -63,10 +62,12 @@ module _ (sys : System) where
   play-append [] us st = refl
   play-append (t ∷ ts) us st = play-append ts us (after sys st t)
 
+  -- a closed plan plays no further round
   pub turns-closed : (fuel : ℕ) (st : State) → st .controller .closed ≡ true → roundTurns sys (suc fuel) st ≡ []
   unfolding roundTurns
   turns-closed fuel st e = rw e
 
+  -- an open plan plays one, and then the rest
   pub turns-open : (fuel : ℕ) (st : State) → st .controller .closed ≡ false
       → roundTurns sys (suc fuel) st ≡ oneRound ++ roundTurns sys fuel (next st)
   unfolding roundTurns
@@ -75,19 +76,20 @@ module _ (sys : System) where
   module _ (few : sys .workers ≤ 8) where
     -- only an allowed turn changes something
     pub changes-allowed : (st : State) (t : Turn) → changes sys st t ≡ true → allowed (sys .workers) t ≡ true
-    unfolding changes
-    changes-allowed st t c = go (step sys st t) refl
+    changes-allowed st t c = go (effect sys st few t)
       where
-        go : (o : Option State) → step sys st t ≡ o → allowed (sys .workers) t ≡ true
-        go none e = clash c (ap isSome e)
-        go (some s) e = moves sys st few t s e .1
+        go : Effect sys st t → allowed (sys .workers) t ≡ true
+        go (idle d a e) = clash c d
+        go (acts d o l m) = l
 
     -- where each turn of the round would leave the state as it is, every turn would
     pub round-decides : (st : State) → Each (λ t. after sys st t ≡ st) (round (sys .workers)) → (t : Turn)
         → after sys st t ≡ st
     round-decides st same t =
         ⊎-elim
-        (λ c. same t (allowed-round (sys .workers) t (changes-allowed st t c)))
+        (λ c.
+        each-member (λ t. after sys st t ≡ st) (round (sys .workers)) same
+        (allowed-round (sys .workers) t (changes-allowed st t c)))
         (λ c. idle-stays st t c)
         (decided (changes sys st t))
 
@@ -97,7 +99,10 @@ module _ (sys : System) where
     round-changes st t c = go (changesWhere sys (λ t. true) st oneRound) refl
       where
         go : (n : ℕ) → changesWhere sys (λ t. true) st oneRound ≡ n → 0 < changesWhere sys (λ t. true) st oneRound
-        go zero e = clash c (all-idle oneRound st e t (allowed-round (sys .workers) t (changes-allowed st t c)))
+        go zero e =
+            clash c
+            (each-member (Idle st) oneRound (all-idle oneRound st e)
+            (allowed-round (sys .workers) t (changes-allowed st t c)))
         go (suc n) e = omega arith
 
     module _ (I : State → Type 0) (advances : Advances sys I) where

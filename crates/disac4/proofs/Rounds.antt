@@ -11,9 +11,9 @@ use borrow.Author.Tests.{leb-true, eqb-true, eqb-false, le-leb, ne-eqb, not-true
 use lib.Dec.{leb, eqb}
 use Rattle.base.proofs.Bools.{and-left, and-right, and-intro, or-cases, or-left, or-right, not-of}
 use Rattle.base.proofs.Choice.{between-low, between-high}
+use Rattle.base.proofs.Each.{Each, member-gather, each-append, each-gather, each-mono, each-map}
 use Rattle.base.specs.Below.{gatherBelow, listBelow}
 use Rattle.base.specs.Choice.{between}
-use Rattle.base.proofs.Each.{Each, member-gather, each-none, each-cons, each-single, each-append, each-gather, each-map}
 use Rattle.disac4.specs.Round.{others, workerRound, round}
 use Rattle.disac4.specs.Turn.{Turn, turn, treatNumber, sendNumber, answerNumber, pollNumber, allowed}
 
@@ -104,8 +104,8 @@ others-each p k =
     each-gather (MayRead p k) (suc p) (λ j. cond (eqb j k) [] (j ∷ [])) (λ j h. go j h (eqb j k) refl)
   where
     go : (j : ℕ) → j < suc p → (b : Bool) → eqb j k ≡ b → Each (MayRead p k) (cond b [] (j ∷ []))
-    go j h true e = each-none (MayRead p k)
-    go j h false e = each-single (MayRead p k) j (and-intro (le-leb j p (omega arith)) (not-of e))
+    go j h true e = tt
+    go j h false e = (and-intro (le-leb j p (omega arith)) (not-of e), tt)
 
 abbrev Allowed : ℕ → Turn → Type 0
 Allowed p t = allowed p t ≡ true
@@ -114,10 +114,9 @@ worker-round-allowed : (p k : ℕ) → 0 < k → k ≤ p → Each (Allowed p) (w
 unfolding workerRound
 worker-round-allowed p k h b =
     each-append (Allowed p) (map (turn k) (others p k)) _
-    (each-map (Allowed p) (turn k) (others p k) (λ j m. may j (or-left _ (others-each p k j m))))
-    (each-cons (Allowed p) (turn k treatNumber) _ (own treatNumber refl)
-    (each-cons (Allowed p) (turn k sendNumber) _ (own sendNumber refl)
-    (each-single (Allowed p) (turn k answerNumber) (own answerNumber refl))))
+    (each-map (Allowed p) (turn k) (others p k)
+    (each-mono (MayRead p k) (λ j. Allowed p (turn k j)) (λ j r. may j (or-left _ r)) (others p k) (others-each p k)))
+    (own treatNumber refl, (own sendNumber refl, (own answerNumber refl, tt)))
   where
     may : (d : ℕ) → workerMay p k d ≡ true → Allowed p (turn k d)
     may d e = worker-allowed p k d h ∙ and-intro (le-leb k p b) e
@@ -126,14 +125,12 @@ worker-round-allowed p k h b =
     own d e = may d (or-right (leb d p && not (eqb d k)) e)
 
 -- every turn of the round is allowed
-pub round-allowed : (p : ℕ) (t : Turn) → List·Memᴰ t (round p) → allowed p t ≡ true
+pub round-allowed : (p : ℕ) → Each (λ t. allowed p t ≡ true) (round p)
 unfolding round allowed
 round-allowed p =
     each-append (Allowed p) (workerTurns p ++ controllerReads p) (turn 0 pollNumber ∷ [])
     (each-append (Allowed p) (workerTurns p) (controllerReads p)
     (each-gather (Allowed p) p (λ i. workerRound p (suc i)) (λ i h. worker-round-allowed p (suc i) (omega arith) h))
     (each-gather (Allowed p) p (λ i. turn 0 (suc i) ∷ [])
-    (λ i h.
-    each-single (Allowed p) (turn 0 (suc i))
-    (or-left _ (and-intro (le-leb 1 (suc i) (omega arith)) (le-leb (suc i) p h))))))
-    (each-single (Allowed p) (turn 0 pollNumber) (or-right (between 1 p pollNumber) refl))
+    (λ i h. (or-left _ (and-intro (le-leb 1 (suc i) (omega arith)) (le-leb (suc i) p h)), tt))))
+    (or-right (between 1 p pollNumber) refl, tt)

@@ -1,6 +1,6 @@
 -- What the theorems ask of a system, and the state in which no deletion is on its way.
 use Prim.Native.Nat.{ℕ, _<_, _≤_}
-use mathlib.Core.List.{List, []}
+use mathlib.Core.List.{[]}
 use mathlib.Core.Path.{_≡_}
 use Rattle.base.proofs.Weight.{weigh}
 use Rattle.disac4.proofs.Moves.{Worker}

@@ -8,15 +8,15 @@ use native.Mathlib.Omega.{arith}
 use borrow.Author.Tests.{eq-eqb, ne-eqb}
 use lib.Dec.{eqb}
 use Rattle.base.proofs.Bools.{and-intro, and-false-left, and-false-right}
-use Rattle.base.proofs.Choice.{cond-true, cond-false}
+use Rattle.base.proofs.Choice.{cond-true, cond-false, update-each, update₂-each}
 use Rattle.base.proofs.Weight.{weigh, weigh-append}
 use Rattle.base.specs.Below.{one}
 use Rattle.base.specs.Choice.{update₂}
 use Rattle.network.specs.Network.{Label, Domains, isLabel, loaded}
+use Rattle.disac4.proofs.Channels.{broadcast-each}
 use Rattle.disac4.proofs.Deleted.{deletedBy, treat-deletes, treat-deletes-own}
 use Rattle.disac4.proofs.Moves.{Moves, Worker, treats, sends, reads, hears, ignores, answers, asks, tallies, marks, drops, discards}
 use Rattle.disac4.proofs.Occurrences.{occurs, carried, sentBy, readBy, treatedBy}
-use Rattle.disac4.proofs.Pointwise.{update-each, update₂-each, broadcast-each}
 use Rattle.disac4.specs.Action.{deletions, afterTreat, afterSend, afterList, afterPoll, afterDrop, afterAnswer, afterAsk, afterCount, afterMark, pollOf}
 use Rattle.disac4.specs.Event.{Event, sent, taken, treated, deleted}
 use Rattle.disac4.specs.State.{State, Message, list, poll, reply, Poll}
@@ -80,9 +80,11 @@ module _ (sys : System) (x v : ℕ) where
     unfolding afterAsk
     at-ask =
         still st (afterAsk sys st) refl refl refl
-        (broadcast-each (λ j i l. weigh (carried x v) l ≡ waits (st .channel) j i) (sys .workers) 0 (poll q) (st .channel)
-        (λ i n. weigh-append (carried x v) (st .channel 0 i) (poll q ∷ []) ∙ omega arith)
-        (λ j i n. refl))
+        (λ j i h n.
+        broadcast-each (λ j i l. weigh (carried x v) l ≡ waits (st .channel) j i) (sys .workers) 0 (poll q) (st .channel)
+        (λ i h n. weigh-append (carried x v) (st .channel 0 i) (poll q ∷ []) ∙ omega arith)
+        (λ j i n. refl)
+        j i)
       where
         q : Poll
         q = pollOf (suc (st .controller .timestamp)) (st .listCounter 0)
@@ -138,10 +140,11 @@ module _ (sys : System) (x v : ℕ) where
           (omega (arith, own))
           (λ j n. omega (arith, other j n));
       reading = broadcast-each
-          (λ j i l. weigh (readBy x v i j) new + weigh (carried x v) l ≡ waits (st .channel) j i + weigh (sentBy x v j) new)
+          (λ j i l. i ≤ sys .workers → (i ≡ j → ⊥)
+          → weigh (readBy x v i j) new + weigh (carried x v) l ≡ waits (st .channel) j i + weigh (sentBy x v j) new)
           (sys .workers) k (list (st .toSend k)) (st .channel)
-          (λ i n. omega (arith, own, weigh-append (carried x v) (st .channel k i) (list (st .toSend k) ∷ [])))
-          (λ j i n. omega (arith, other j n));
+          (λ i h n b d. omega (arith, own, weigh-append (carried x v) (st .channel k i) (list (st .toSend k) ∷ [])))
+          (λ j i n b d. omega (arith, other j (λ e. d (n e b ∙ sym e))));
       unread-own = λ j. refl;
       treating = λ j h. omega arith;
     }

@@ -3,13 +3,13 @@ use Prim.Native.Nat.{ℕ, suc, _<_, _≤_}
 use mathlib.Core.Bool.{Bool, true, false, false≢true}
 use mathlib.Core.List.{List, [], _∷_, _++_}
 use mathlib.Core.Option.{Option, none, some}
-use mathlib.Core.Path.{_≡_, refl, _∙_, subst}
+use mathlib.Core.Path.{_≡_, refl, sym, _∙_, subst}
 use native.Mathlib.Nat.{le-refl}
 use native.Mathlib.Omega.{arith}
-use Rattle.base.proofs.Choice.{update-other}
+use Rattle.base.proofs.Choice.{none≢some, update-other, update-each, update₂-each}
+use Rattle.base.proofs.Each.{Each, each-append, each-mono}
 use Rattle.base.specs.Choice.{update, update₂}
-use Rattle.disac4.proofs.Channels.{Channels}
-use Rattle.disac4.proofs.Every.{at-update, at-update₂, at-broadcast, Each, each-append, each-map}
+use Rattle.disac4.proofs.Channels.{Channels, broadcast-each}
 use Rattle.disac4.proofs.Moves.{Worker, Moves, treats, sends, reads, hears, ignores, answers, asks, tallies, marks, drops, discards}
 use Rattle.disac4.specs.Action.{broadcast, pollOf, afterTreat, afterSend, afterList, afterPoll, afterDrop, afterAnswer, afterAsk, afterCount, afterMark}
 use Rattle.disac4.specs.Event.{Event}
@@ -64,27 +64,27 @@ module _ (p N : ℕ) (asked : Bool) (D : ℕ) where
   take-typed : (c : Channels) (j k : ℕ) (m : Message) (rest : List Message) → c j k ≡ m ∷ rest
       → Messages p N asked D c → Messages p N asked D (update₂ c j k rest)
   take-typed c j k m rest e h =
-      at-update₂ (λ j k l. Each (Fits p N asked D j k) l) c j k rest ((rw e at (h j k)) .1) h
+      update₂-each (λ j k l. Each (Fits p N asked D j k) l) c j k rest ((rw e at (h j k)) .1) (λ j k n. h j k)
 
   put-typed : (c : Channels) (j k : ℕ) (m : Message) → Fits p N asked D j k m
       → Messages p N asked D c → Messages p N asked D (update₂ c j k (c j k ++ (m ∷ [])))
   put-typed c j k m f h =
-      at-update₂ (λ j k l. Each (Fits p N asked D j k) l) c j k (c j k ++ (m ∷ []))
-      (each-append (Fits p N asked D j k) (c j k) (m ∷ []) (h j k) (f, tt)) h
+      update₂-each (λ j k l. Each (Fits p N asked D j k) l) c j k (c j k ++ (m ∷ []))
+      (each-append (Fits p N asked D j k) (c j k) (m ∷ []) (h j k) (f, tt)) (λ j k n. h j k)
 
   broadcast-typed : (c : Channels) (k : ℕ) (m : Message) → k ≤ p → ((i : ℕ) → Kind N asked D k i m)
       → Messages p N asked D c → Messages p N asked D (broadcast p k m c)
   broadcast-typed c k m b f h =
-      at-broadcast (λ j i l. Each (Fits p N asked D j i) l) p k m c
+      broadcast-each (λ j i l. Each (Fits p N asked D j i) l) p k m c
       (λ i w o.
       each-append (Fits p N asked D k i) (c k i) (m ∷ []) (h k i)
-      (record { sender = b; receiver = w; other = o; kind = f i }, tt))
-      h
+      (record { sender = b; receiver = w; other = λ e. o (sym e); kind = f i }, tt))
+      (λ j i n. h j i)
 
   hold-typed : (held : ℕ → Option Poll) (k : ℕ) (o : Option Poll) → ((q : Poll) → o ≡ some q → Timely N asked D q)
       → HeldPolls N asked D held → HeldPolls N asked D (update held k o)
   hold-typed held k o new h =
-      at-update (λ i o. (q : Poll) → o ≡ some q → Timely N asked D q) held k o new (λ i d. h i)
+      update-each (λ i o. (q : Poll) → o ≡ some q → Timely N asked D q) held k o new (λ i d. h i)
 
   -- the controller's figures change, and the open poll, if it is the same, wants the same count
   module _ (N′ : ℕ) (asked′ : Bool) (D′ : ℕ) (rises : N ≤ N′) (reads-on : D ≤ D′)
@@ -103,7 +103,7 @@ module _ (p N : ℕ) (asked : Bool) (D : ℕ) where
 
     messages-later : (c : Channels) → Messages p N asked D c → Messages p N′ asked′ D′ c
     messages-later c h j k =
-        each-map (Fits p N asked D j k) (Fits p N′ asked′ D′ j k)
+        each-mono (Fits p N asked D j k) (Fits p N′ asked′ D′ j k)
         (λ m f.
         record { sender = f .sender; receiver = f .receiver; other = f .other; kind = kind-later j k m (f .kind) })
         (c j k) (h j k)
@@ -125,9 +125,6 @@ module _ {sys : System} {st : State} (t : Typed sys st) where
   -- no actor has a channel to itself
   pub no-self : (k : ℕ) → st .channel k k ≡ []
   no-self k = no-message k k (λ h b d. d refl)
-
-nothing-held {ℓ} : {A : Type ℓ} {q : Poll} → none ≡ some q → A
-nothing-held e = absurd (let z : _≡_ {A = ℕ} 0 1 = cc in omega arith)
 
 -- ---- every move keeps it
 
@@ -176,7 +173,7 @@ module _ {sys : System} {st : State} (t : Typed sys st) where
           kind = (refl, t .polls k q e .bound);
         })
         (t .messages);
-    polls = hold-typed (sys .workers) N asked D (st .held) k none (λ q′ x. nothing-held x) (t .polls);
+    polls = hold-typed (sys .workers) N asked D (st .held) k none (λ q′ x. none≢some x) (t .polls);
   }
   typed-move (asks e) = record {
     messages =
@@ -208,5 +205,5 @@ pub typed-load : (sys : System) → Typed sys (load sys)
 unfolding load
 typed-load sys = record {
   messages = λ j k. tt;
-  polls = λ k q x. nothing-held x;
+  polls = λ k q x. none≢some x;
 }

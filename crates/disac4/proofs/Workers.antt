@@ -6,7 +6,7 @@ use native.Mathlib.Nat.{not-suc-le-zero}
 use native.Mathlib.Omega.{arith}
 use lib.ListN.{length, length-append}
 use Rattle.base.proofs.Choice.{update-same, update-other}
-use Rattle.base.proofs.Sums.{sum-ext, sum-add, sum-const, sum-change}
+use Rattle.base.proofs.Sums.{sum-ext, sum-add, sum-const, sum-part, sum-change}
 use Rattle.base.specs.Below.{sumBelow}
 use Rattle.base.specs.Choice.{update, update₂}
 use Rattle.disac4.proofs.Channels.{Channels, into, into-take, into-other, into-broadcast, into-broadcast-self}
@@ -24,6 +24,11 @@ module _ (p : ℕ) where
   over-change f g zero a b e = absurd (not-suc-le-zero a)
   over-change f g (suc i) a b e =
       sum-change p (λ i. f (suc i)) (λ i. g (suc i)) i b (λ j h n. e (suc j) h (λ q. omega arith))
+
+  -- a sum over the workers is at least each worker's summand
+  pub over-part : (f : ℕ → ℕ) (k : ℕ) → 0 < k → k ≤ p → f k ≤ overWorkers f
+  over-part f zero a b = absurd (not-suc-le-zero a)
+  over-part f (suc i) a b = sum-part p (λ i. f (suc i)) i b
 
   -- the value at worker `k` is replaced
   pub over-update {ℓ} : {A : Type ℓ} (w : A → ℕ) (f : ℕ → A) (k : ℕ) (v : A) → 0 < k → k ≤ p

@@ -1,13 +1,13 @@
 -- The actions (deeds) of workers and controller, each as document 01 words it: the next state, or nothing where it is idle.
-use Prim.Native.Nat.{ℕ, suc, _+_, _-_}
-use mathlib.Core.Bool.{Bool, true, false, cond, _&&_, _||_, not}
+use Prim.Native.Nat.{ℕ, suc, _-_}
+use mathlib.Core.Bool.{Bool, true, false, cond, _&&_, not}
 use mathlib.Core.List.{List, [], _∷_, _++_}
 use mathlib.Core.Option.{Option, none, some}
 use lib.Dec.{leb, eqb}
 use Rattle.base.specs.Below.{allBelow}
 use Rattle.base.specs.Choice.{update, update₂}
 use Rattle.network.specs.Network.{Label, labelsWhere, supports}
-use Rattle.disac4.specs.State.{State, Message, list, poll, reply, Poll, Controller}
+use Rattle.disac4.specs.State.{State, Message, list, poll, reply, Poll}
 use Rattle.disac4.specs.System.{System}
 use Rattle.disac4.specs.declared.Timestamp.{Timestamp}
 

@@ -1,5 +1,7 @@
 -- Named on an `unfolding` line, this opens what the crate and those below it compute with, for facts that hold by computing.
 use Rattle.base.specs.Computes.{base-computes}
+use Rattle.network.specs.Computes.{network-computes}
+use Rattle.plan.specs.Computes.{plan-computes}
 use Rattle.disac4.specs.Action.{broadcast, loses, lowered, deletes, deletions, afterTreat, treat, afterSend, send, afterList, afterPoll, afterDrop, readWorker, afterAnswer, ready, answer, pollOf, afterAsk, ask, afterCount, allMarked, afterMark, current, readController}
 use Rattle.disac4.specs.Event.{eventsAt, events, holds, unsent, unread, untreated, deleted}
 use Rattle.disac4.specs.Loading.{loadedCounter, unsupported, loadedDeletions, load}
@@ -9,8 +11,6 @@ use Rattle.disac4.specs.Round.{others, workerRound, round, roundTurns, r
 use Rattle.disac4.specs.System.{systemOf, turnBound, boundOf}
 use Rattle.disac4.specs.Turn.{allowed, workerStep, controllerStep, step, after, play, changes, changesWhere, turnAt, turnsOf, turnListFits, turnFault}
 use Rattle.disac4.specs.Worked.{allowedTurns, ran, unsentLabels, findingOf, table}
-use Rattle.network.specs.Computes.{network-computes}
-use Rattle.plan.specs.Computes.{plan-computes}
 
 unfoldable pub disac4-computes : Unit {0}
 unfolding broadcast loses lowered deletes deletions afterTreat treat afterSend send afterList afterPoll afterDrop readWorker afterAnswer ready answer pollOf afterAsk ask afterCount allMarked afterMark current readController eventsAt events holds unsent unread untreated deleted loadedCounter unsupported loadedDeletions load inputFault systemAt lowestEmpty statusOf listCells final reportOf others workerRound round roundTurns roundRunTurns systemOf turnBound boundOf allowed workerStep controllerStep step after play changes changesWhere turnAt turnsOf turnListFits turnFault allowedTurns ran unsentLabels findingOf table base-computes network-computes plan-computes

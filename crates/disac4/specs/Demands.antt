@@ -1,6 +1,6 @@
 -- Demands 2 and 3, and the round, as claims about a system and a list of turns. `proofs/Demands.antt` proves them for every
 -- accepted plan.
-use Prim.Native.Nat.{ℕ, _+_, _<_, _≤_}
+use Prim.Native.Nat.{ℕ, _<_, _≤_}
 use mathlib.Core.Bool.{Bool, true, false}
 use mathlib.Core.List.{List, _++_}
 use mathlib.Core.Path.{_≡_}
@@ -14,7 +14,7 @@ use Rattle.disac4.specs.Loading.{load}
 use Rattle.disac4.specs.Report.{final}
 use Rattle.disac4.specs.Round.{round, roundTurns, roundRunTurns}
 use Rattle.disac4.specs.System.{System, boundOf}
-use Rattle.disac4.specs.Turn.{Turn, allowed, after, play, changesWhere}
+use Rattle.disac4.specs.Turn.{Turn, allowed, after, changesWhere}
 
 -- after these turns the plan is closed; bare is closed too
 unfoldable pub closedAfter : System → List Turn → Bool

@@ -1,5 +1,5 @@
 -- Variables that no chain of constraints ties to a domain lose no value through it.
-use Prim.Native.Nat.{ℕ, _<_}
+use Prim.Native.Nat.{ℕ}
 use mathlib.Core.Bool.{Bool, true, _&&_}
 use mathlib.Core.Path.{_≡_}
 use Rattle.base.proofs.Bools.{and-left, and-right, and-intro}

@@ -1,4 +1,5 @@
 pub mod Chain
+pub mod DomainSize
 pub mod Labels
 pub mod Largest
 pub mod Loaded

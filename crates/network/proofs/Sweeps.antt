@@ -9,7 +9,8 @@ use native.Mathlib.Omega.{arith}
 use Rattle.base.proofs.Below.{any-below, some-below, all-below, every-below, fails-below}
 use Rattle.base.proofs.Bools.{decided, and-left, and-right, and-intro, and-false-right, implied, implies, not-implied}
 use Rattle.base.proofs.Sums.{sum-le, sum-less, one-mono, one-less}
-use Rattle.base.specs.Below.{sumBelow, countBelow, anyBelow, allBelow, one}
+use Rattle.base.specs.Below.{countBelow, anyBelow, allBelow, one}
+use Rattle.network.proofs.DomainSize.{domainSize}
 use Rattle.network.proofs.Loaded.{loaded-variable, loaded-value}
 use Rattle.network.specs.Consistency.{Within, Supported, ArcConsistent, ConsistentWithin}
 use Rattle.network.specs.Network.{Network, Domains, loaded}
@@ -29,10 +30,6 @@ sweep net d x v = d x v && supportedAll net d x v
 -- a sweep takes no label away
 abbrev pub rests : Network → Domains → Bool
 rests net d = allBelow (net .variables) (λ x. allBelow (net .size x) (λ v. not (d x v) || supportedAll net d x v))
-
--- how many loaded labels the domains hold
-abbrev pub labelsIn : Network → Domains → ℕ
-labelsIn net d = sumBelow (net .variables) (λ x. countBelow (net .size x) (d x))
 
 -- domains within the loaded ones that contain all arc-consistent ones
 pub record Around (net : Network) (d : Domains) : Type 0 where
@@ -92,7 +89,8 @@ module _ (net : Network) (d : Domains) where
       (λ p. and-right (d x v) (supportedAll net d x v) (sweep-keeps d c (λ y w q. q) x v p))))
 
   -- any other sweep takes a label away
-  pub sweep-fewer : rests net d ≡ false → labelsIn net (sweep net d) < labelsIn net d
+  pub sweep-fewer : rests net d ≡ false → domainSize net (sweep net d) < domainSize net d
+  unfolding domainSize
   sweep-fewer r =
       let i : (x : ℕ) × (x < net .variables) × (allBelow (net .size x) (λ v. not (d x v) || supportedAll net d x v) ≡ false) =
       fails-below (net .variables) (λ x. allBelow (net .size x) (λ v. not (d x v) || supportedAll net d x v)) r in
@@ -110,7 +108,7 @@ module _ (net : Network) (d : Domains) where
       gone x v p = one-less (sweep net d x v) (d x v) (and-false-right (d x v) (p .1)) (p .0)
 
 -- sweeps from domains with at most `k` labels come to rest
-rest : (net : Network) (k : ℕ) (d : Domains) → Around net d → labelsIn net d ≤ k
+rest : (net : Network) (k : ℕ) (d : Domains) → Around net d → domainSize net d ≤ k
     → (e : Domains) × ConsistentWithin net e × Around net e
 rest net zero d a h =
     ⊎-elim (λ p. (d, record { within = a .inner; consistent = rests-consistent net d (a .inner) p }, a))
@@ -123,5 +121,5 @@ rest net (suc k) d a h =
 pub sweeps-end : (net : Network) → (d : Domains) × ConsistentWithin net d × Around net d
 unfolding Within
 sweeps-end net =
-    rest net (labelsIn net (loaded net)) (loaded net)
-    (record { inner = λ x v e. e; outer = λ e c. c .within }) (le-refl (labelsIn net (loaded net)))
+    rest net (domainSize net (loaded net)) (loaded net)
+    (record { inner = λ x v e. e; outer = λ e c. c .within }) (le-refl (domainSize net (loaded net)))

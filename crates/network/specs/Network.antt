@@ -1,5 +1,5 @@
 -- A binary constraint network, definitions 1 to 3 of source document 001. Variables and values are counted from 0.
-use Prim.Native.Nat.{ℕ, _<_}
+use Prim.Native.Nat.{ℕ}
 use mathlib.Core.Bool.{Bool, cond, _&&_}
 use mathlib.Core.List.{List, [], _∷_}
 use lib.Dec.{ltb, eqb}

@@ -1,6 +1,6 @@
 -- Solutions (menus that meet all rules): a value for every variable, each two of them allowed.
 use Prim.Native.Nat.{ℕ, zero, suc, _<_}
-use mathlib.Core.Bool.{Bool, true, _&&_, _||_, not}
+use mathlib.Core.Bool.{Bool, true, _||_, not}
 use mathlib.Core.Path.{_≡_}
 use Rattle.base.specs.Below.{allBelow, anyBelow}
 use Rattle.base.specs.Choice.{update}

@@ -3,8 +3,8 @@ use Prim.Native.Nat.{ℕ, suc, _+_, _<_}
 use mathlib.Core.List.{List}
 use mathlib.Core.Option.{none}
 use mathlib.Core.Path.{_≡_}
-use borrow.Author.Tests.{le-leb, lt-leb, ne-eqb}
 use native.Mathlib.Omega.{arith}
+use borrow.Author.Tests.{le-leb, lt-leb, ne-eqb}
 use Rattle.plan.proofs.Faults.{sound-section}
 use Rattle.plan.specs.Check.{firstFault, headChecks, variableChecks, constraintChecks, sectionChecks}
 use Rattle.plan.specs.Decode.{sectionCount, planFault}

@@ -4,8 +4,8 @@ use mathlib.Core.Bool.{Bool, true, false}
 use mathlib.Core.List.{List}
 use mathlib.Core.Option.{none}
 use mathlib.Core.Path.{_≡_, sym, _∙_, ap}
-use borrow.Author.Tests.{leb-true, eqb-false, not-true}
 use native.Mathlib.Omega.{arith}
+use borrow.Author.Tests.{leb-true, eqb-false, not-true}
 use lib.Dec.{eqb}
 use lib.ListN.{getD}
 use Rattle.base.proofs.Below.{none-below}

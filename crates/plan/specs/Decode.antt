@@ -1,17 +1,17 @@
 -- From bytes to the plan, or to the fault and its place.
 use Prim.Native.Nat.{ℕ, suc, _+_}
 use mathlib.Core.Bool.{cond}
-use mathlib.Core.List.{List, [], _∷_}
+use mathlib.Core.List.{List}
 use mathlib.Core.Option.{Option, none, some}
 use lib.Dec.{ltb, eqb}
 use lib.ListN.{length}
-use Rattle.base.specs.Below.{firstBelow, listBelow, sumBelow}
+use Rattle.base.specs.Below.{firstBelow, listBelow}
 use Rattle.base.specs.Bytes.{byteAt}
 use Rattle.base.specs.Choice.{firstOf}
 use Rattle.plan.specs.Check.{sectionFault}
 use Rattle.plan.specs.Fault.{decline}
 use Rattle.plan.specs.Format.{sectionStart, workerCount, variableCount, constraintCount, ownerAt, valueCountAt, codeAt, figureAt, firstAt, secondAt, kindAt, tableRowAt, limitAt, sizeAt}
-use Rattle.plan.specs.Plan.{Value, Variable, Relation, table, sumLimit, Constraint, Plan}
+use Rattle.plan.specs.Plan.{Variable, Relation, table, sumLimit, Constraint, Plan}
 use Rattle.plan.specs.declared.Decline.{Decline}
 use Rattle.plan.specs.declared.Fault.the-variants.{Truncated, BadVersion, TrailingBytes}
 
