@@ -1,2 +1,2 @@
-pub mod Inv
 pub mod Regions
+pub mod Runs
