@@ -1,2 +1,3 @@
+pub mod Cleared
 pub mod Regions
 pub mod Runs
