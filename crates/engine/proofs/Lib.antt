@@ -1,3 +1,4 @@
 pub mod Cleared
 pub mod Regions
+pub mod RoundsLeft
 pub mod Runs
