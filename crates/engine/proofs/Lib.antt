@@ -1,3 +1,4 @@
+pub mod Behind
 pub mod Cleared
 pub mod Regions
 pub mod RoundsLeft
