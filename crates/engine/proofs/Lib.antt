@@ -1,2 +1,5 @@
-pub mod Inv
+pub mod Behind
+pub mod Cleared
 pub mod Regions
+pub mod RoundsLeft
+pub mod Runs

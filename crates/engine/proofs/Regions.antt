@@ -33,7 +33,7 @@ next-apart r h =
     (all-below BEHIND (λ r. leb (ends (regionAt r)) (regionAt (suc r) .base)) apart r h)
 
 -- behind the table all is one region
-past-table : (r : ℕ) → BEHIND ≤ r → regionAt r ≡ region BEHIND 24576 1 (2 ^ 64)
+pub past-table : (r : ℕ) → BEHIND ≤ r → regionAt r ≡ region BEHIND 24576 1 (2 ^ 64)
 past-table r h = List·getD-eq-default regions (region BEHIND 24576 1 (2 ^ 64)) h
 
 before : (r s : ℕ) → r < BEHIND → r < s → ends (regionAt r) ≤ regionAt s .base
@@ -53,6 +53,10 @@ before r (suc s) h l = ⊎-elim here (λ x. later (before r s h x) x) (below-cas
 -- a place lies within its region
 within : (g : Region) (i j : ℕ) → i < g .rows → j < g .cols → address g i j < ends g
 within g i j h l = omega (arith, mul-le-mul-right (g .cols) h)
+
+-- a place of a region of the table is one of the needed cells
+pub place-low : (r i j : ℕ) → r < BEHIND → i < regionAt r .rows → j < regionAt r .cols → address (regionAt r) i j < 24576
+place-low r i j h row col = omega (arith, within (regionAt r) i j row col, before r BEHIND h h)
 
 -- within a region, two places are one only if row and column are
 same-place : (n i j i′ j′ : ℕ) → j < n → j′ < n → i * n + j ≡ i′ * n + j′ → (i ≡ i′) × (j ≡ j′)
