@@ -5,7 +5,7 @@ use mathlib.Core.Logic.{_⊎_}
 use mathlib.Core.Path.{_≡_}
 use lib.Dec.{leb, eqb}
 use Rattle.base.specs.Below.{sumBelow, countBelow}
-use Rattle.disac4.proofs.DomainSize.{domainSize}
+use Rattle.network.proofs.DomainSize.{domainSize}
 use Rattle.disac4.proofs.Sound.{Sound}
 use Rattle.disac4.specs.System.{System}
 use Rattle.disac4.specs.declared.Tally.{Tally}
