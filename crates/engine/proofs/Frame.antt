@@ -1,0 +1,139 @@
+-- What each part of the invariant depends on: where those cells are kept, so is the part.
+use Prim.Native.Nat.{ℕ, _+_, _-_, _^_, _<_, _≤_}
+use mathlib.Core.Bool.{Bool, true, false}
+use mathlib.Core.Logic.{_⊎_, inl, inr, ⊎-elim}
+use mathlib.Core.Path.{_≡_, refl, sym, _∙_, ap}
+use native.Mathlib.Omega.{arith}
+use lib.Dec.{leb}
+use Rattle.base.proofs.Sums.{count-ext}
+use Rattle.disac4.specs.System.{System}
+use Rattle.disac4.specs.declared.Tally.{Tally}
+use Rattle.engine.specs.Layout.{WORKERS, CURSORS, BOUNDS, LOG, WORK, OUT, WANTED, DOMAIN, HEADS, HEAD, TAIL, LOGEND, SENDS, LISTS, HELD, POLLS, OUTEND, OUTREAD}
+use Rattle.engine.specs.Memory.{Mem}
+use Rattle.engine.specs.Step.{Machine}
+use Rattle.engine.specs.View.{LISTMARK}
+use Rattle.engine.proofs.Inv.{Row, Polled, Replied, Paired, Inv, Totals, listsOut}
+use Rattle.engine.proofs.Stores.{each-row}
+
+-- a worker's cells, those of its row of cursors apart
+pub record SameRow (m m′ : Mem) (i : ℕ) : Type 0 where
+  pub workers : (c : ℕ) → m′ WORKERS i c ≡ m WORKERS i c
+  pub bounds : (n : ℕ) → m′ BOUNDS i n ≡ m BOUNDS i n
+  pub log : (d : ℕ) → m′ LOG i d ≡ m LOG i d
+  pub work : (d : ℕ) → m′ WORK i d ≡ m WORK i d
+  pub out : (e : ℕ) → m′ OUT i e ≡ m OUT i e
+
+-- the wanted counts
+abbrev pub SameWanted : Mem → Mem → Type 0
+SameWanted m m′ = (n : ℕ) → m′ WANTED 0 n ≡ m WANTED 0 n
+
+-- the index of the counters
+abbrev pub SameHeads : Mem → Mem → Type 0
+SameHeads m m′ = (x y : ℕ) → m′ HEADS x y ≡ m HEADS x y
+
+-- marks and closing apart
+pub record SameTally (t t′ : Tally) : Type 0 where
+  pub lists : t′ .lists .0 ≡ t .lists .0
+  pub timestamp : t′ .timestamp .0 ≡ t .timestamp .0
+  pub polling : t′ .polling ≡ t .polling
+
+pub same-tally : (t : Tally) → SameTally t t
+same-tally t = record { lists = refl; timestamp = refl; polling = refl }
+
+module _ (m m′ : Mem) where
+  -- a worker's row depends on its cells and on how many polls there were
+  pub row-kept : (sys : System) (t t′ : Tally) (i : ℕ) → SameRow m m′ i → t .timestamp .0 ≤ t′ .timestamp .0
+      → Row sys m t i → Row sys m′ t′ i
+  row-kept sys t t′ i s l r = record {
+    queue = omega (arith, s .workers HEAD, s .workers TAIL, r .queue);
+    first-bound = s .bounds 0 ∙ r .first-bound;
+    bounds-rise = λ n h.
+      omega (arith, s .bounds n, s .bounds (n + 1), r .bounds-rise n (omega (arith, s .workers SENDS)));
+    last-bound = rw (s .workers SENDS, s .workers LOGEND, s .bounds (m WORKERS i SENDS)) (r .last-bound);
+    out-read = omega (arith, s .workers OUTREAD, s .workers OUTEND, r .out-read);
+    out-list = λ e h g.
+      omega
+      (arith, s .out e, s .workers SENDS, r .out-list e (omega (arith, s .workers OUTEND)) (omega (arith, s .out e)));
+    polls-read = omega (arith, s .workers POLLS, r .polls-read);
+    held-read = omega (arith, s .workers HELD, s .workers POLLS, r .held-read);
+    log-codes = λ d h. rw (s .log d) (r .log-codes d (omega (arith, s .workers LOGEND)));
+    work-codes = λ d h. rw (s .work d) (r .work-codes d (omega (arith, s .workers TAIL)));
+  }
+
+  -- polls depend on the wanted counts and the tally
+  pub polled-kept : (t t′ : Tally) → SameWanted m m′ → SameTally t t′ → Polled m t → Polled m′ t′
+  polled-kept t t′ w s p = record {
+    rises = λ n h l. omega (arith, w n, w (n + 1), p .rises n h (omega (arith, s .timestamp)));
+    wanted-open = λ e.
+      let q = p .wanted-open (sym (s .polling) ∙ e) in
+      (omega (arith, s .timestamp), rw (s .timestamp) (w (t .timestamp .0) ∙ q .1 ∙ sym (s .lists)));
+    wanted-ended = λ e h.
+      rw (s .timestamp, s .lists, w (t .timestamp .0)) (p .wanted-ended (sym (s .polling) ∙ e) (omega (arith, s .timestamp)));
+  }
+
+  -- a reply depends on its worker's cells, the wanted counts and the tally
+  pub replied-kept : (t t′ : Tally) (i : ℕ) → SameRow m m′ i → SameWanted m m′ → SameTally t t′ → Replied m t i
+      → Replied m′ t′ i
+  replied-kept t t′ i s w u r = record {
+    one-more = omega (arith, s .workers OUTEND, s .workers LISTS, r .one-more);
+    no-work = omega (arith, s .workers HEAD, s .workers TAIL, r .no-work);
+    no-send = rw (s .workers SENDS, s .workers LOGEND, s .bounds (m WORKERS i SENDS)) (r .no-send);
+    held-later = λ h.
+      rw (s .workers LISTS, s .workers HELD, w (m WORKERS i HELD)) (r .held-later (omega (arith, s .workers HELD)));
+    polls-later = λ n h l.
+      omega (
+        arith,
+        w n,
+        s .workers LISTS,
+        r .polls-later n (omega (arith, s .workers POLLS)) (omega (arith, u .timestamp)),
+      );
+    ended-later = λ e. omega (arith, s .workers LISTS, u .lists, r .ended-later (sym (u .polling) ∙ e));
+    count-low = omega (arith, s .workers LISTS, u .lists, r .count-low);
+  }
+
+  -- the rows of counters depend on the index
+  pub paired-kept : (sys : System) → SameHeads m m′ → Paired sys m → Paired sys m′
+  paired-kept sys s p = record {
+    low = λ x y e. rw (s x y) (p .low x y e);
+    high = λ x y e. rw (s x y) (p .high x y e);
+    own = λ x y x′ y′ e f q. p .own x y x′ y′ e f (sym (s x y) ∙ q ∙ s x′ y′);
+  }
+
+  -- how many list messages a row put depends on its messages up to there
+  pub lists-out-kept : (i n : ℕ) → ((e : ℕ) → e < n → m′ OUT i e ≡ m OUT i e) → listsOut m′ i n ≡ listsOut m i n
+  lists-out-kept i n s =
+      count-ext n (λ e. leb LISTMARK (m′ OUT i e)) (λ e. leb LISTMARK (m OUT i e)) (λ e h. ap (leb LISTMARK) (s e h))
+
+-- of what the invariant mentions row by row, only row `i` is changed
+pub record OnlyRow (m m′ : Mem) (i : ℕ) : Type 0 where
+  pub others : (k : ℕ) → (k ≡ i → ⊥) → SameRow m m′ k
+  pub wanted : SameWanted m m′
+  pub heads : SameHeads m m′
+
+-- a row has put as many messages for the controller as its count says, or one more where it has replied
+abbrev pub Answered : Mem → Tally → ℕ → Type 0
+Answered m t i = (m WORKERS i OUTEND ≤ m WORKERS i LISTS) ⊎ Replied m t i
+
+-- an action of one row keeps the invariant if it does so at its row and in the totals
+pub row-action : (sys : System) (s s′ : Machine) (i : ℕ) → Inv sys s → OnlyRow (s .mem) (s′ .mem) i
+    → SameTally (s .tally) (s′ .tally) → Row sys (s′ .mem) (s′ .tally) i → Totals sys (s′ .mem) (s′ .tally)
+    → Answered (s′ .mem) (s′ .tally) i → s′ .tally .marks < 2 ^ sys .workers → Inv sys s′
+row-action sys s s′ i inv only u row totals answered marks = record {
+  rows =
+    each-row (λ k. k < sys .workers → Row sys (s′ .mem) (s′ .tally) k) i (λ h. row) (λ k n h.
+    row-kept (s .mem) (s′ .mem) sys (s .tally) (s′ .tally) k (only .others k n) (omega (arith, u .timestamp))
+    (inv .rows k h));
+  totals = totals;
+  polled = polled-kept (s .mem) (s′ .mem) (s .tally) (s′ .tally) (only .wanted) u (inv .polled);
+  replied =
+    each-row (λ k. k < sys .workers → Answered (s′ .mem) (s′ .tally) k) i (λ h. answered) (λ k n h.
+    ⊎-elim
+    (λ l.
+    inl (omega (arith, only .others k n .workers OUTEND, only .others k n .workers LISTS)))
+    (λ r.
+    inr
+    (replied-kept (s .mem) (s′ .mem) (s .tally) (s′ .tally) k (only .others k n) (only .wanted) u r))
+    (inv .replied k h));
+  paired = paired-kept (s .mem) (s′ .mem) sys (only .heads) (inv .paired);
+  marks = marks;
+}

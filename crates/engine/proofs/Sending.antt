@@ -1,0 +1,178 @@
+-- Sending keeps the invariant: the unsent end of the log becomes one more list message.
+use Prim.Native.Nat.{ℕ, suc, _+_, _-_, _<_, _≤_}
+use mathlib.Core.Bool.{Bool, true, false}
+use mathlib.Core.Logic.{_⊎_, inl, inr, ⊎-elim}
+use mathlib.Core.Option.{Option, none, some}
+use mathlib.Core.Path.{_≡_, refl, sym, _∙_, ap}
+use native.Mathlib.Numerals.{add-one}
+use native.Mathlib.Omega.{arith}
+use borrow.Author.Tests.{eqb-false, le-leb, ne-eqb}
+use lib.Dec.{leb, ltb, eqb}
+use Rattle.base.proofs.Below.{below-cases}
+use Rattle.base.proofs.Sums.{sum-ext}
+use Rattle.base.specs.Below.{sumBelow, one}
+use Rattle.disac4.specs.System.{System}
+use Rattle.disac4.specs.declared.Tally.{Tally}
+use Rattle.engine.specs.Layout.{WORKERS, CURSORS, BOUNDS, LOG, WORK, OUT, WANTED, DOMAIN, HEADS, HEAD, TAIL, LOGEND, SENDS, LISTS, HELD, POLLS, OUTEND, OUTREAD}
+use Rattle.engine.specs.Memory.{Mem, store}
+use Rattle.engine.specs.Messages.{sendM, sentM}
+use Rattle.engine.specs.Step.{Machine}
+use Rattle.engine.specs.View.{LISTMARK}
+use Rattle.engine.proofs.Frame.{OnlyRow, SameRow, Answered, row-action, same-tally, lists-out-kept}
+use Rattle.engine.proofs.Inv.{Row, Replied, Totals, Inv, listsOut}
+use Rattle.engine.proofs.Stores.{and-never, store-same, store-other, each-row, up-to, if-some, unless-some, some-same}
+
+-- ---- what the stores changed
+
+module _ (i : ℕ) (m : Mem) where
+  other-rows : (k c : ℕ) → (k ≡ i → ⊥) → sentM i m WORKERS k c ≡ m WORKERS k c
+  unfolding sentM
+  other-rows k c n = simp (ne-eqb k i n, and-never)
+
+  old-bound : (k n : ℕ) → (n ≡ m WORKERS i SENDS + 1 → k ≡ i → ⊥) → sentM i m BOUNDS k n ≡ m BOUNDS k n
+  unfolding sentM
+  old-bound k n h =
+      store-other m BOUNDS i (m WORKERS i SENDS + 1) (m WORKERS i LOGEND) BOUNDS k n (λ p. h)
+
+  new-bound : sentM i m BOUNDS i (m WORKERS i SENDS + 1) ≡ m WORKERS i LOGEND
+  unfolding sentM
+  new-bound = store-same m BOUNDS i (m WORKERS i SENDS + 1) (m WORKERS i LOGEND)
+
+  old-out : (k e : ℕ) → (e ≡ m WORKERS i OUTEND → k ≡ i → ⊥) → sentM i m OUT k e ≡ m OUT k e
+  unfolding sentM
+  old-out k e h = store-other m OUT i (m WORKERS i OUTEND) (LISTMARK + m WORKERS i SENDS) OUT k e (λ p. h)
+
+  new-out : sentM i m OUT i (m WORKERS i OUTEND) ≡ LISTMARK + m WORKERS i SENDS
+  unfolding sentM
+  new-out = store-same m OUT i (m WORKERS i OUTEND) (LISTMARK + m WORKERS i SENDS)
+
+  more-sends : sentM i m WORKERS i SENDS ≡ m WORKERS i SENDS + 1
+  unfolding sentM
+  more-sends = store-same m WORKERS i SENDS (m WORKERS i SENDS + 1)
+
+  more-out : sentM i m WORKERS i OUTEND ≡ m WORKERS i OUTEND + 1
+  unfolding sentM
+  more-out = store-same m WORKERS i OUTEND (m WORKERS i OUTEND + 1)
+
+  more-lists : sentM i m WORKERS i LISTS ≡ m WORKERS i LISTS + 1
+  unfolding sentM
+  more-lists = store-same m WORKERS i LISTS (m WORKERS i LISTS + 1)
+
+  only-row : OnlyRow m (sentM i m) i
+  unfolding sentM
+  only-row = record {
+    others = λ k n. record {
+      workers = λ c. other-rows k c n;
+      bounds = λ c. old-bound k c (λ p. n);
+      log = λ c. refl;
+      work = λ c. refl;
+      out = λ c. old-out k c (λ p. n);
+    };
+    wanted = λ n. refl;
+    heads = λ x y. refl;
+  }
+
+-- ---- the parts of the invariant
+
+module _ (sys : System) (m : Mem) (t : Tally) (i : ℕ) (inv : Inv sys (record { mem = m; tally = t })) (h : i < sys .workers)
+    (unsent : m BOUNDS i (m WORKERS i SENDS) ≡ m WORKERS i LOGEND → ⊥) where
+  row : Row sys (sentM i m) t i
+  unfolding sentM
+  row =
+      let r = inv .rows i h in
+      record {
+        queue = r .queue;
+        first-bound = old-bound i m i 0 (omega arith) ∙ r .first-bound;
+        bounds-rise = λ n l.
+          up-to (λ n. sentM i m BOUNDS i n < sentM i m BOUNDS i (n + 1)) (m WORKERS i SENDS)
+          (omega (arith, new-bound i m, old-bound i m i (m WORKERS i SENDS) (omega arith), r .last-bound, unsent))
+          (λ n g. omega (arith, old-bound i m i n (omega arith), old-bound i m i (n + 1) (omega arith), r .bounds-rise n g))
+          n (omega (arith, more-sends i m));
+        last-bound = rw (more-sends i m, new-bound i m) (omega arith);
+        out-read = omega (arith, more-out i m, r .out-read);
+        out-list = λ e l.
+          up-to (λ e. LISTMARK ≤ sentM i m OUT i e → sentM i m OUT i e - LISTMARK < sentM i m WORKERS i SENDS)
+          (m WORKERS i OUTEND)
+          (λ g. omega (arith, new-out i m, more-sends i m))
+          (λ e q g.
+          let old = old-out i m i e (omega arith) in
+          omega (arith, more-sends i m, r .out-list e q (omega arith)))
+          e (omega (arith, more-out i m));
+        polls-read = r .polls-read;
+        held-read = r .held-read;
+        log-codes = r .log-codes;
+        work-codes = r .work-codes;
+      }
+
+  totals : Totals sys (sentM i m) t
+  unfolding sentM
+  totals =
+      let u = inv .totals in
+      record {
+        own-cursor = u .own-cursor;
+        cursor = λ j k p q.
+          each-row (λ j. m CURSORS j k ≤ m WORKERS j SENDS → m CURSORS j k ≤ sentM i m WORKERS j SENDS) i
+          (λ l. omega (arith, more-sends i m)) (λ j n l. omega (arith, other-rows i m j SENDS n)) j (u .cursor j k p q);
+        pushed = λ k p.
+          u .pushed k p
+          ∙ ap (λ x. m WORKERS k LOGEND + x)
+          (sum-ext (sys .workers) (λ j. m BOUNDS j (m CURSORS j k)) (λ j. sentM i m BOUNDS j (m CURSORS j k)) (λ j q.
+          sym
+          (old-bound i m j (m CURSORS j k) (λ x e.
+          omega (arith, u .cursor j k q p, ap (λ x. m WORKERS x SENDS) e)))));
+        counted = λ k p.
+          each-row
+          (λ k. m WORKERS k LISTS ≡ m WORKERS k SENDS + sumBelow (sys .workers) (λ j. m CURSORS j k)
+          → sentM i m WORKERS k LISTS ≡ sentM i m WORKERS k SENDS + sumBelow (sys .workers) (λ j. m CURSORS j k)) i
+          (λ e. omega (arith, more-lists i m, more-sends i m))
+          (λ k n e. omega (arith, other-rows i m k LISTS n, other-rows i m k SENDS n)) k (u .counted k p);
+        logged = u .logged;
+        all-out = λ k p.
+          each-row
+          (λ k. listsOut m k (m WORKERS k OUTEND) ≡ m WORKERS k SENDS
+          → listsOut (sentM i m) k (sentM i m WORKERS k OUTEND) ≡ sentM i m WORKERS k SENDS) i
+          (λ e.
+          ap (listsOut (sentM i m) i) (more-out i m ∙ add-one _)
+          ∙ omega (
+            arith,
+            more-sends i m,
+            lists-out-kept m (sentM i m) i (m WORKERS i OUTEND) (λ x l. old-out i m i x (omega arith)),
+            ap one (le-leb LISTMARK (sentM i m OUT i (m WORKERS i OUTEND)) (omega (arith, new-out i m))),
+          ))
+          (λ k n e.
+          ap (listsOut (sentM i m) k) (other-rows i m k OUTEND n)
+          ∙ lists-out-kept m (sentM i m) k (m WORKERS k OUTEND) (λ x l. old-out i m k x (λ p. n))
+          ∙ e
+          ∙ sym (other-rows i m k SENDS n))
+          k (u .all-out k p);
+        heard =
+          u .heard
+          ∙ sum-ext (sys .workers) (λ k. listsOut m k (m WORKERS k OUTREAD))
+          (λ k. listsOut (sentM i m) k (m WORKERS k OUTREAD)) (λ k p.
+          sym
+          (lists-out-kept m (sentM i m) k (m WORKERS k OUTREAD) (λ x l.
+          old-out i m k x (λ q e. omega (arith, inv .rows k p .out-read, ap (λ x. m WORKERS x OUTEND) e)))));
+      }
+
+  -- a worker that has labels to send has not replied at its present count
+  answered : Answered (sentM i m) t i
+  answered =
+      ⊎-elim (λ l. inl (omega (arith, more-out i m, more-lists i m))) (λ r. absurd (unsent (r .no-send)))
+      (inv .replied i h)
+
+  sent-keeps : Inv sys (record { mem = sentM i m; tally = t })
+  sent-keeps =
+      row-action sys (record { mem = m; tally = t }) (record { mem = sentM i m; tally = t }) i inv (only-row i m)
+      (same-tally t) row totals answered (inv .marks)
+
+-- sending keeps the invariant
+pub send-keeps : (sys : System) (m m′ : Mem) (t : Tally) (i : ℕ) → Inv sys (record { mem = m; tally = t })
+    → i < sys .workers → sendM i m ≡ some m′ → Inv sys (record { mem = m′; tally = t })
+unfolding sendM
+send-keeps sys m m′ t i inv h e =
+    let e₁ = if-some (ltb (m WORKERS i SENDS) 519) e in
+    let e₂ = unless-some (eqb (m BOUNDS i (m WORKERS i SENDS)) (m WORKERS i LOGEND)) (e₁ .1) in
+    let e₃ = if-some (ltb (m WORKERS i OUTEND) 520) (e₂ .1) in
+    let e₄ = if-some (ltb (m WORKERS i LISTS) 65535) (e₃ .1) in
+    some-same (λ x. Inv sys (record { mem = x; tally = t })) (e₄ .1)
+    (sent-keeps sys m t i inv h (eqb-false (m BOUNDS i (m WORKERS i SENDS)) (m WORKERS i LOGEND) (e₂ .0)))
