@@ -2,17 +2,19 @@
 use Prim.Native.Nat.{ℕ, _+_, _-_, _^_, _<_, _≤_}
 use mathlib.Core.Bool.{Bool, true, false}
 use mathlib.Core.Logic.{_⊎_, inl, inr, ⊎-elim}
-use mathlib.Core.Path.{_≡_, refl, sym, _∙_, ap}
+use mathlib.Core.Path.{_≡_, refl, sym, _∙_, ap, ap₂, fun-ext}
 use native.Mathlib.Omega.{arith}
-use lib.Dec.{leb}
-use Rattle.base.proofs.Sums.{count-ext}
+use lib.Dec.{leb, eqb}
+use Rattle.base.proofs.Sums.{sum-ext, count-ext}
+use Rattle.base.specs.Below.{sumBelow}
+use Rattle.disac4.proofs.DomainSize.{domainSize}
 use Rattle.disac4.specs.System.{System}
 use Rattle.disac4.specs.declared.Tally.{Tally}
 use Rattle.engine.specs.Layout.{WORKERS, CURSORS, BOUNDS, LOG, WORK, OUT, WANTED, DOMAIN, HEADS, HEAD, TAIL, LOGEND, SENDS, LISTS, HELD, POLLS, OUTEND, OUTREAD}
 use Rattle.engine.specs.Memory.{Mem}
 use Rattle.engine.specs.Step.{Machine}
-use Rattle.engine.specs.View.{LISTMARK}
-use Rattle.engine.proofs.Inv.{Row, Polled, Replied, Paired, Inv, Totals, listsOut}
+use Rattle.engine.specs.View.{LISTED, LISTMARK}
+use Rattle.engine.proofs.Inv.{Code, Row, Polled, Replied, Paired, Inv, Totals, listsOut}
 use Rattle.engine.proofs.Stores.{each-row}
 
 -- a worker's cells, those of its row of cursors apart
@@ -41,24 +43,48 @@ pub same-tally : (t : Tally) → SameTally t t
 same-tally t = record { lists = refl; timestamp = refl; polling = refl }
 
 module _ (m m′ : Mem) where
-  -- a worker's row depends on its cells and on how many polls there were
+  -- a worker's row depends on its cells and on how many polls there were; its work list may grow
+  pub row-grown : (sys : System) (t t′ : Tally) (i : ℕ)
+      → ((c : ℕ) → (c ≡ TAIL → ⊥) → (c ≡ LISTS → ⊥) → m′ WORKERS i c ≡ m WORKERS i c)
+      → ((n : ℕ) → m′ BOUNDS i n ≡ m BOUNDS i n) → ((d : ℕ) → m′ LOG i d ≡ m LOG i d)
+      → ((e : ℕ) → m′ OUT i e ≡ m OUT i e) → t .timestamp .0 ≤ t′ .timestamp .0
+      → m WORKERS i TAIL ≤ m′ WORKERS i TAIL → ((d : ℕ) → d < m′ WORKERS i TAIL → Code sys (m′ WORK i d))
+      → Row sys m t i → Row sys m′ t′ i
+  row-grown sys t t′ i workers bounds log out l longer codes r = record {
+    queue = omega (arith, column HEAD (omega arith), r .queue);
+    first-bound = bounds 0 ∙ r .first-bound;
+    bounds-rise = λ n h. omega (arith, bounds n, bounds (n + 1), r .bounds-rise n (omega (arith, sends)));
+    last-bound = rw (sends, log-end, bounds (m WORKERS i SENDS)) (r .last-bound);
+    out-read = omega (arith, column OUTREAD (omega arith), out-end, r .out-read);
+    out-list = λ e h g. omega (arith, out e, sends, r .out-list e (omega (arith, out-end)) (omega (arith, out e)));
+    polls-read = omega (arith, polls, r .polls-read);
+    held-read = omega (arith, column HELD (omega arith), polls, r .held-read);
+    log-codes = λ d h. rw (log d) (r .log-codes d (omega (arith, log-end)));
+    work-codes = codes;
+  }
+    where
+      column : (c : ℕ) → (c ≡ TAIL → ⊥) × (c ≡ LISTS → ⊥) → m′ WORKERS i c ≡ m WORKERS i c
+      column c n = workers c (n .0) (n .1)
+
+      sends : m′ WORKERS i SENDS ≡ m WORKERS i SENDS
+      sends = column SENDS (omega arith)
+
+      log-end : m′ WORKERS i LOGEND ≡ m WORKERS i LOGEND
+      log-end = column LOGEND (omega arith)
+
+      out-end : m′ WORKERS i OUTEND ≡ m WORKERS i OUTEND
+      out-end = column OUTEND (omega arith)
+
+      polls : m′ WORKERS i POLLS ≡ m WORKERS i POLLS
+      polls = column POLLS (omega arith)
+
+  -- the same where the work list is kept too
   pub row-kept : (sys : System) (t t′ : Tally) (i : ℕ) → SameRow m m′ i → t .timestamp .0 ≤ t′ .timestamp .0
       → Row sys m t i → Row sys m′ t′ i
-  row-kept sys t t′ i s l r = record {
-    queue = omega (arith, s .workers HEAD, s .workers TAIL, r .queue);
-    first-bound = s .bounds 0 ∙ r .first-bound;
-    bounds-rise = λ n h.
-      omega (arith, s .bounds n, s .bounds (n + 1), r .bounds-rise n (omega (arith, s .workers SENDS)));
-    last-bound = rw (s .workers SENDS, s .workers LOGEND, s .bounds (m WORKERS i SENDS)) (r .last-bound);
-    out-read = omega (arith, s .workers OUTREAD, s .workers OUTEND, r .out-read);
-    out-list = λ e h g.
-      omega
-      (arith, s .out e, s .workers SENDS, r .out-list e (omega (arith, s .workers OUTEND)) (omega (arith, s .out e)));
-    polls-read = omega (arith, s .workers POLLS, r .polls-read);
-    held-read = omega (arith, s .workers HELD, s .workers POLLS, r .held-read);
-    log-codes = λ d h. rw (s .log d) (r .log-codes d (omega (arith, s .workers LOGEND)));
-    work-codes = λ d h. rw (s .work d) (r .work-codes d (omega (arith, s .workers TAIL)));
-  }
+  row-kept sys t t′ i s l r =
+      row-grown sys t t′ i (λ c p q. s .workers c) (s .bounds) (s .log) (s .out) l (omega (arith, s .workers TAIL))
+      (λ d h.
+      rw (s .work d) (r .work-codes d (omega (arith, s .workers TAIL)))) r
 
   -- polls depend on the wanted counts and the tally
   pub polled-kept : (t t′ : Tally) → SameWanted m m′ → SameTally t t′ → Polled m t → Polled m′ t′
@@ -103,6 +129,23 @@ module _ (m m′ : Mem) where
   pub lists-out-kept : (i n : ℕ) → ((e : ℕ) → e < n → m′ OUT i e ≡ m OUT i e) → listsOut m′ i n ≡ listsOut m i n
   lists-out-kept i n s =
       count-ext n (λ e. leb LISTMARK (m′ OUT i e)) (λ e. leb LISTMARK (m OUT i e)) (λ e h. ap (leb LISTMARK) (s e h))
+
+  -- the labels in logs and domains depend on where the logs end and on the domains
+  pub logged-kept : (sys : System) → ((i : ℕ) → m′ WORKERS i LOGEND ≡ m WORKERS i LOGEND)
+      → ((x v : ℕ) → m′ DOMAIN x v ≡ m DOMAIN x v)
+      → sumBelow (sys .workers) (λ i. m′ WORKERS i LOGEND) + domainSize (sys .net) (λ x v. eqb (m′ DOMAIN x v) LISTED)
+      ≡ sumBelow (sys .workers) (λ i. m WORKERS i LOGEND) + domainSize (sys .net) (λ x v. eqb (m DOMAIN x v) LISTED)
+  logged-kept sys ends domain =
+      ap₂ _+_ (sum-ext (sys .workers) (λ i. m′ WORKERS i LOGEND) (λ i. m WORKERS i LOGEND) (λ i h. ends i))
+      (ap (domainSize (sys .net)) (fun-ext λ x. fun-ext λ v. ap (λ c. eqb c LISTED) (domain x v)))
+
+  -- what the controller has counted depends on the messages that it read
+  pub heard-kept : (p : ℕ) → ((i : ℕ) → i < p → m′ WORKERS i OUTREAD ≡ m WORKERS i OUTREAD)
+      → ((i e : ℕ) → i < p → e < m WORKERS i OUTREAD → m′ OUT i e ≡ m OUT i e)
+      → sumBelow p (λ i. listsOut m′ i (m′ WORKERS i OUTREAD)) ≡ sumBelow p (λ i. listsOut m i (m WORKERS i OUTREAD))
+  heard-kept p read out =
+      sum-ext p (λ i. listsOut m′ i (m′ WORKERS i OUTREAD)) (λ i. listsOut m i (m WORKERS i OUTREAD)) (λ i h.
+      ap (listsOut m′ i) (read i h) ∙ lists-out-kept i (m WORKERS i OUTREAD) (λ e l. out i e h l))
 
 -- of what the invariant mentions row by row, only row `i` is changed
 pub record OnlyRow (m m′ : Mem) (i : ℕ) : Type 0 where

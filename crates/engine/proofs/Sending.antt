@@ -18,7 +18,7 @@ use Rattle.engine.specs.Memory.{Mem, store}
 use Rattle.engine.specs.Messages.{sendM, sentM}
 use Rattle.engine.specs.Step.{Machine}
 use Rattle.engine.specs.View.{LISTMARK}
-use Rattle.engine.proofs.Frame.{OnlyRow, SameRow, Answered, row-action, same-tally, lists-out-kept}
+use Rattle.engine.proofs.Frame.{OnlyRow, SameRow, Answered, row-action, same-tally, lists-out-kept, heard-kept}
 use Rattle.engine.proofs.Inv.{Row, Replied, Totals, Inv, listsOut}
 use Rattle.engine.proofs.Stores.{and-never, store-same, store-other, each-row, up-to, if-some, unless-some, some-same}
 
@@ -147,11 +147,9 @@ module _ (sys : System) (m : Mem) (t : Tally) (i : ℕ) (inv : Inv sys (record {
           k (u .all-out k p);
         heard =
           u .heard
-          ∙ sum-ext (sys .workers) (λ k. listsOut m k (m WORKERS k OUTREAD))
-          (λ k. listsOut (sentM i m) k (m WORKERS k OUTREAD)) (λ k p.
-          sym
-          (lists-out-kept m (sentM i m) k (m WORKERS k OUTREAD) (λ x l.
-          old-out i m k x (λ q e. omega (arith, inv .rows k p .out-read, ap (λ x. m WORKERS x OUTEND) e)))));
+          ∙ sym
+          (heard-kept m (sentM i m) (sys .workers) (λ k p. refl) (λ k x p l.
+          old-out i m k x (λ q e. omega (arith, inv .rows k p .out-read, ap (λ x. m WORKERS x OUTEND) e))));
       }
 
   -- a worker that has labels to send has not replied at its present count
