@@ -3,10 +3,11 @@ use Prim.Native.Nat.{ℕ, _+_, _-_, _^_, _<_, _≤_}
 use mathlib.Core.Bool.{Bool, true, false}
 use mathlib.Core.Logic.{_⊎_, inl, inr, ⊎-elim}
 use mathlib.Core.Path.{_≡_, refl, sym, _∙_, ap, ap₂, fun-ext}
+use native.Mathlib.Numerals.{add-one}
 use native.Mathlib.Omega.{arith}
 use lib.Dec.{leb, eqb}
 use Rattle.base.proofs.Sums.{sum-ext, count-ext}
-use Rattle.base.specs.Below.{sumBelow}
+use Rattle.base.specs.Below.{sumBelow, one}
 use Rattle.disac4.proofs.DomainSize.{domainSize}
 use Rattle.disac4.specs.System.{System}
 use Rattle.disac4.specs.declared.Tally.{Tally}
@@ -32,15 +33,6 @@ SameWanted m m′ = (n : ℕ) → m′ WANTED 0 n ≡ m WANTED 0 n
 -- the index of the counters
 abbrev pub SameHeads : Mem → Mem → Type 0
 SameHeads m m′ = (x y : ℕ) → m′ HEADS x y ≡ m HEADS x y
-
--- marks and closing apart
-pub record SameTally (t t′ : Tally) : Type 0 where
-  pub lists : t′ .lists .0 ≡ t .lists .0
-  pub timestamp : t′ .timestamp .0 ≡ t .timestamp .0
-  pub polling : t′ .polling ≡ t .polling
-
-pub same-tally : (t : Tally) → SameTally t t
-same-tally t = record { lists = refl; timestamp = refl; polling = refl }
 
 module _ (m m′ : Mem) where
   -- a worker's row depends on its cells and on how many polls there were; its work list may grow
@@ -86,35 +78,25 @@ module _ (m m′ : Mem) where
       (λ d h.
       rw (s .work d) (r .work-codes d (omega (arith, s .workers TAIL)))) r
 
-  -- polls depend on the wanted counts and the tally
-  pub polled-kept : (t t′ : Tally) → SameWanted m m′ → SameTally t t′ → Polled m t → Polled m′ t′
-  polled-kept t t′ w s p = record {
-    rises = λ n h l. omega (arith, w n, w (n + 1), p .rises n h (omega (arith, s .timestamp)));
-    wanted-open = λ e.
-      let q = p .wanted-open (sym (s .polling) ∙ e) in
-      (omega (arith, s .timestamp), rw (s .timestamp) (w (t .timestamp .0) ∙ q .1 ∙ sym (s .lists)));
-    wanted-ended = λ e h.
-      rw (s .timestamp, s .lists, w (t .timestamp .0)) (p .wanted-ended (sym (s .polling) ∙ e) (omega (arith, s .timestamp)));
+  -- polls depend on the wanted counts
+  pub polled-kept : (t : Tally) → SameWanted m m′ → Polled m t → Polled m′ t
+  polled-kept t w p = record {
+    rises = λ n h l. omega (arith, w n, w (n + 1), p .rises n h l);
+    wanted-open = λ e. (p .wanted-open e .0, w (t .timestamp .0) ∙ p .wanted-open e .1);
+    wanted-ended = λ e h. omega (arith, w (t .timestamp .0), p .wanted-ended e h);
   }
 
-  -- a reply depends on its worker's cells, the wanted counts and the tally
-  pub replied-kept : (t t′ : Tally) (i : ℕ) → SameRow m m′ i → SameWanted m m′ → SameTally t t′ → Replied m t i
-      → Replied m′ t′ i
-  replied-kept t t′ i s w u r = record {
+  -- a reply depends on its worker's cells and the wanted counts
+  pub replied-kept : (t : Tally) (i : ℕ) → SameRow m m′ i → SameWanted m m′ → Replied m t i → Replied m′ t i
+  replied-kept t i s w r = record {
     one-more = omega (arith, s .workers OUTEND, s .workers LISTS, r .one-more);
     no-work = omega (arith, s .workers HEAD, s .workers TAIL, r .no-work);
     no-send = rw (s .workers SENDS, s .workers LOGEND, s .bounds (m WORKERS i SENDS)) (r .no-send);
     held-later = λ h.
       rw (s .workers LISTS, s .workers HELD, w (m WORKERS i HELD)) (r .held-later (omega (arith, s .workers HELD)));
-    polls-later = λ n h l.
-      omega (
-        arith,
-        w n,
-        s .workers LISTS,
-        r .polls-later n (omega (arith, s .workers POLLS)) (omega (arith, u .timestamp)),
-      );
-    ended-later = λ e. omega (arith, s .workers LISTS, u .lists, r .ended-later (sym (u .polling) ∙ e));
-    count-low = omega (arith, s .workers LISTS, u .lists, r .count-low);
+    polls-later = λ n h l. omega (arith, w n, s .workers LISTS, r .polls-later n (omega (arith, s .workers POLLS)) l);
+    ended-later = λ e. omega (arith, s .workers LISTS, r .ended-later e);
+    count-low = omega (arith, s .workers LISTS, r .count-low);
   }
 
   -- the rows of counters depend on the index
@@ -126,9 +108,17 @@ module _ (m m′ : Mem) where
   }
 
   -- how many list messages a row put depends on its messages up to there
-  pub lists-out-kept : (i n : ℕ) → ((e : ℕ) → e < n → m′ OUT i e ≡ m OUT i e) → listsOut m′ i n ≡ listsOut m i n
-  lists-out-kept i n s =
-      count-ext n (λ e. leb LISTMARK (m′ OUT i e)) (λ e. leb LISTMARK (m OUT i e)) (λ e h. ap (leb LISTMARK) (s e h))
+  pub lists-out-kept : (i n n′ : ℕ) → n′ ≡ n → ((e : ℕ) → e < n → m′ OUT i e ≡ m OUT i e)
+      → listsOut m′ i n′ ≡ listsOut m i n
+  lists-out-kept i n n′ q s =
+      ap (listsOut m′ i) q
+      ∙ count-ext n (λ e. leb LISTMARK (m′ OUT i e)) (λ e. leb LISTMARK (m OUT i e)) (λ e h. ap (leb LISTMARK) (s e h))
+
+  -- with one message more
+  pub lists-out-more : (i n n′ : ℕ) → n′ ≡ n + 1 → ((e : ℕ) → e < n → m′ OUT i e ≡ m OUT i e)
+      → listsOut m′ i n′ ≡ listsOut m i n + one (leb LISTMARK (m′ OUT i n))
+  lists-out-more i n n′ q s =
+      ap (listsOut m′ i) (q ∙ add-one n) ∙ ap (λ x. x + one (leb LISTMARK (m′ OUT i n))) (lists-out-kept i n n refl s)
 
   -- the labels in logs and domains depend on where the logs end and on the domains
   pub logged-kept : (sys : System) → ((i : ℕ) → m′ WORKERS i LOGEND ≡ m WORKERS i LOGEND)
@@ -145,7 +135,7 @@ module _ (m m′ : Mem) where
       → sumBelow p (λ i. listsOut m′ i (m′ WORKERS i OUTREAD)) ≡ sumBelow p (λ i. listsOut m i (m WORKERS i OUTREAD))
   heard-kept p read out =
       sum-ext p (λ i. listsOut m′ i (m′ WORKERS i OUTREAD)) (λ i. listsOut m i (m WORKERS i OUTREAD)) (λ i h.
-      ap (listsOut m′ i) (read i h) ∙ lists-out-kept i (m WORKERS i OUTREAD) (λ e l. out i e h l))
+      lists-out-kept i (m WORKERS i OUTREAD) (m′ WORKERS i OUTREAD) (read i h) (λ e l. out i e h l))
 
 -- of what the invariant mentions row by row, only row `i` is changed
 pub record OnlyRow (m m′ : Mem) (i : ℕ) : Type 0 where
@@ -157,17 +147,25 @@ pub record OnlyRow (m m′ : Mem) (i : ℕ) : Type 0 where
 abbrev pub Answered : Mem → Tally → ℕ → Type 0
 Answered m t i = (m WORKERS i OUTEND ≤ m WORKERS i LISTS) ⊎ Replied m t i
 
+-- a tally that may follow another one beside the same memory
+pub record Follows (m : Mem) (t t′ : Tally) : Type 0 where
+  pub later : t .timestamp .0 ≤ t′ .timestamp .0
+  pub polled : Polled m t′
+  pub replied : (i : ℕ) → Replied m t i → Replied m t′ i
+
+pub follows-itself : (m : Mem) (t : Tally) → Polled m t → Follows m t t
+follows-itself m t p = record { later = omega arith; polled = p; replied = λ i r. r }
+
 -- an action of one row keeps the invariant if it does so at its row and in the totals
 pub row-action : (sys : System) (s s′ : Machine) (i : ℕ) → Inv sys s → OnlyRow (s .mem) (s′ .mem) i
-    → SameTally (s .tally) (s′ .tally) → Row sys (s′ .mem) (s′ .tally) i → Totals sys (s′ .mem) (s′ .tally)
+    → Follows (s .mem) (s .tally) (s′ .tally) → Row sys (s′ .mem) (s′ .tally) i → Totals sys (s′ .mem) (s′ .tally)
     → Answered (s′ .mem) (s′ .tally) i → s′ .tally .marks < 2 ^ sys .workers → Inv sys s′
-row-action sys s s′ i inv only u row totals answered marks = record {
+row-action sys s s′ i inv only next row totals answered marks = record {
   rows =
     each-row (λ k. k < sys .workers → Row sys (s′ .mem) (s′ .tally) k) i (λ h. row) (λ k n h.
-    row-kept (s .mem) (s′ .mem) sys (s .tally) (s′ .tally) k (only .others k n) (omega (arith, u .timestamp))
-    (inv .rows k h));
+    row-kept (s .mem) (s′ .mem) sys (s .tally) (s′ .tally) k (only .others k n) (next .later) (inv .rows k h));
   totals = totals;
-  polled = polled-kept (s .mem) (s′ .mem) (s .tally) (s′ .tally) (only .wanted) u (inv .polled);
+  polled = polled-kept (s .mem) (s′ .mem) (s′ .tally) (only .wanted) (next .polled);
   replied =
     each-row (λ k. k < sys .workers → Answered (s′ .mem) (s′ .tally) k) i (λ h. answered) (λ k n h.
     ⊎-elim
@@ -175,7 +173,7 @@ row-action sys s s′ i inv only u row totals answered marks = record {
     inl (omega (arith, only .others k n .workers OUTEND, only .others k n .workers LISTS)))
     (λ r.
     inr
-    (replied-kept (s .mem) (s′ .mem) (s .tally) (s′ .tally) k (only .others k n) (only .wanted) u r))
+    (replied-kept (s .mem) (s′ .mem) (s′ .tally) k (only .others k n) (only .wanted) (next .replied k r)))
     (inv .replied k h));
   paired = paired-kept (s .mem) (s′ .mem) sys (only .heads) (inv .paired);
   marks = marks;

@@ -19,7 +19,7 @@ use Rattle.engine.specs.Messages.{letterStart, letterEnd, takenM, readLi
 use Rattle.engine.specs.Step.{Machine}
 use Rattle.engine.proofs.Capacity.{tail-room, bound-logged}
 use Rattle.engine.proofs.Copied.{Joined, copy-joins}
-use Rattle.engine.proofs.Frame.{OnlyRow, Answered, row-action, row-grown, same-tally, lists-out-kept, logged-kept, heard-kept}
+use Rattle.engine.proofs.Frame.{OnlyRow, Answered, row-action, row-grown, follows-itself, lists-out-kept, logged-kept, heard-kept}
 use Rattle.engine.proofs.Inv.{Code, Row, Totals, Inv, Small, listsOut}
 use Rattle.engine.proofs.Stores.{store-same, store-other, each-row, if-some, some-same}
 
@@ -165,8 +165,8 @@ module _ (sys : System) (m : Mem) (t : Tally) (j i : ℕ) (inv : Inv sys (record
           (region j i m room DOMAIN (omega arith))
           ∙ u .logged;
         all-out = λ k p.
-          ap (listsOut (takenM j i m) k) (column j i m room k OUTEND (omega arith) (omega arith))
-          ∙ lists-out-kept m (takenM j i m) k (m WORKERS k OUTEND) (λ e l. region j i m room OUT (omega arith) k e)
+          lists-out-kept m (takenM j i m) k (m WORKERS k OUTEND) (takenM j i m WORKERS k OUTEND)
+          (column j i m room k OUTEND (omega arith) (omega arith)) (λ e l. region j i m room OUT (omega arith) k e)
           ∙ u .all-out k p
           ∙ sym (column j i m room k SENDS (omega arith) (omega arith));
         heard =
@@ -215,7 +215,7 @@ module _ (sys : System) (m : Mem) (t : Tally) (j i : ℕ) (inv : Inv sys (record
   taken-keeps : Inv sys (record { mem = takenM j i m; tally = t })
   taken-keeps =
       row-action sys (record { mem = m; tally = t }) (record { mem = takenM j i m; tally = t }) i inv
-      (only-row j i m room) (same-tally t) row totals answered (inv .marks)
+      (only-row j i m room) (follows-itself m t (inv .polled)) row totals answered (inv .marks)
 
 -- reading a list message keeps the invariant
 pub read-list-keeps : (sys : System) → Small sys → (m m′ : Mem) (t : Tally) (j i : ℕ)

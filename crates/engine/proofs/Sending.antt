@@ -18,7 +18,7 @@ use Rattle.engine.specs.Memory.{Mem, store}
 use Rattle.engine.specs.Messages.{sendM, sentM}
 use Rattle.engine.specs.Step.{Machine}
 use Rattle.engine.specs.View.{LISTMARK}
-use Rattle.engine.proofs.Frame.{OnlyRow, SameRow, Answered, row-action, same-tally, lists-out-kept, heard-kept}
+use Rattle.engine.proofs.Frame.{OnlyRow, SameRow, Answered, row-action, follows-itself, lists-out-kept, lists-out-more, heard-kept}
 use Rattle.engine.proofs.Inv.{Row, Replied, Totals, Inv, listsOut}
 use Rattle.engine.proofs.Stores.{and-never, store-same, store-other, each-row, up-to, if-some, unless-some, some-same}
 
@@ -132,16 +132,17 @@ module _ (sys : System) (m : Mem) (t : Tally) (i : ℕ) (inv : Inv sys (record {
           (λ k. listsOut m k (m WORKERS k OUTEND) ≡ m WORKERS k SENDS
           → listsOut (sentM i m) k (sentM i m WORKERS k OUTEND) ≡ sentM i m WORKERS k SENDS) i
           (λ e.
-          ap (listsOut (sentM i m) i) (more-out i m ∙ add-one _)
-          ∙ omega (
+          omega (
             arith,
             more-sends i m,
-            lists-out-kept m (sentM i m) i (m WORKERS i OUTEND) (λ x l. old-out i m i x (omega arith)),
+            lists-out-more m (sentM i m) i (m WORKERS i OUTEND) (sentM i m WORKERS i OUTEND) (more-out i m) (λ x l.
+            old-out i m i x (omega arith)),
             ap one (le-leb LISTMARK (sentM i m OUT i (m WORKERS i OUTEND)) (omega (arith, new-out i m))),
           ))
           (λ k n e.
-          ap (listsOut (sentM i m) k) (other-rows i m k OUTEND n)
-          ∙ lists-out-kept m (sentM i m) k (m WORKERS k OUTEND) (λ x l. old-out i m k x (λ p. n))
+          lists-out-kept m (sentM i m) k (m WORKERS k OUTEND) (sentM i m WORKERS k OUTEND) (other-rows i m k OUTEND n)
+          (λ x l.
+          old-out i m k x (λ p. n))
           ∙ e
           ∙ sym (other-rows i m k SENDS n))
           k (u .all-out k p);
@@ -161,7 +162,7 @@ module _ (sys : System) (m : Mem) (t : Tally) (i : ℕ) (inv : Inv sys (record {
   sent-keeps : Inv sys (record { mem = sentM i m; tally = t })
   sent-keeps =
       row-action sys (record { mem = m; tally = t }) (record { mem = sentM i m; tally = t }) i inv (only-row i m)
-      (same-tally t) row totals answered (inv .marks)
+      (follows-itself m t (inv .polled)) row totals answered (inv .marks)
 
 -- sending keeps the invariant
 pub send-keeps : (sys : System) (m m′ : Mem) (t : Tally) (i : ℕ) → Inv sys (record { mem = m; tally = t })
