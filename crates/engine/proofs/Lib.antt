@@ -2,6 +2,7 @@ pub mod Capacity
 pub mod Copied
 pub mod Frame
 pub mod Inv
+pub mod Polling
 pub mod Reading
 pub mod Regions
 pub mod Sending
