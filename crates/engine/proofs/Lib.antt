@@ -1,3 +1,4 @@
+pub mod Answering
 pub mod Capacity
 pub mod Copied
 pub mod Frame
