@@ -2,6 +2,7 @@ pub mod Answering
 pub mod Capacity
 pub mod Copied
 pub mod Frame
+pub mod Hearing
 pub mod Inv
 pub mod Polling
 pub mod Reading
