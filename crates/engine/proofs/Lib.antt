@@ -4,6 +4,7 @@ pub mod Copied
 pub mod Frame
 pub mod Hearing
 pub mod Inv
+pub mod Keeps
 pub mod Polling
 pub mod Reading
 pub mod Regions

@@ -38,7 +38,8 @@ pub up-to : (P : ℕ → Type 0) (x : ℕ) → P x → ((n : ℕ) → n < x → 
 up-to P x last before n h = elim (ℕ-discrete n x) [ yes e ↦ subst P (sym e) last | no d ↦ before n (omega arith) ]
 
 module _ {A : Type 0} where
-  idle : {a : A} → none ≡ some a → ⊥
+  -- no action is both idle and done
+  pub idle : {a : A} → none ≡ some a → ⊥
   idle e = let z : _≡_ {A = ℕ} 0 1 = cc in omega arith
 
   -- an action that is idle unless a test holds
@@ -54,3 +55,9 @@ module _ {A : Type 0} where
   -- an action's result is the one that it names
   pub some-same : (P : A → Type 0) {a b : A} → some a ≡ some b → P a → P b
   some-same P {a} {b} e p = let same : a ≡ b = cc in subst P same p
+
+-- a choice by a test, taken apart
+pub by-test : {A P : Type 0} (b : Bool) {x y a : A} → cond b x y ≡ a → (b ≡ true → x ≡ a → P) → (b ≡ false → y ≡ a → P)
+    → P
+by-test true e f g = f refl e
+by-test false e f g = g refl e
