@@ -17,8 +17,9 @@ use Rattle.engine.specs.Memory.{Mem, store}
 use Rattle.engine.specs.Messages.{answerM, answeredM}
 use Rattle.engine.specs.View.{LISTMARK}
 use Rattle.engine.proofs.Capacity.{risen}
-use Rattle.engine.proofs.Frame.{OnlyRow, Answered, row-action, follows-itself, lists-out-kept, lists-out-more, heard-kept}
+use Rattle.engine.proofs.Frame.{OnlyRow, Answered, row-action, follows-itself}
 use Rattle.engine.proofs.Inv.{Row, Polled, Replied, Totals, Inv, listsOut}
+use Rattle.engine.proofs.Outgoing.{Put, put-lists, put-counted, put-heard}
 use Rattle.engine.proofs.Stores.{and-never, store-same, store-other, each-row, up-to, if-some, unless-some, some-same}
 
 -- wanted counts rise from poll to poll
@@ -35,21 +36,19 @@ module _ (i : ℕ) (m : Mem) where
   unfolding answeredM
   other-rows k c n = simp (ne-eqb k i n, and-never)
 
-  old-out : (k e : ℕ) → (e ≡ m WORKERS i OUTEND → k ≡ i → ⊥) → answeredM i m OUT k e ≡ m OUT k e
-  unfolding answeredM
-  old-out k e h = store-other m OUT i (m WORKERS i OUTEND) (m WORKERS i HELD) OUT k e (λ p. h)
-
-  new-out : answeredM i m OUT i (m WORKERS i OUTEND) ≡ m WORKERS i HELD
-  unfolding answeredM
-  new-out = store-same m OUT i (m WORKERS i OUTEND) (m WORKERS i HELD)
-
-  more-out : answeredM i m WORKERS i OUTEND ≡ m WORKERS i OUTEND + 1
-  unfolding answeredM
-  more-out = store-same m WORKERS i OUTEND (m WORKERS i OUTEND + 1)
-
   none-held : answeredM i m WORKERS i HELD ≡ 0
   unfolding answeredM
   none-held = store-same m WORKERS i HELD 0
+
+  put : Put i (m WORKERS i HELD) m (answeredM i m)
+  unfolding answeredM
+  put = record {
+    more = store-same m WORKERS i OUTEND (m WORKERS i OUTEND + 1);
+    others = λ k n. other-rows k OUTEND n;
+    read = λ k. refl;
+    new = store-same m OUT i (m WORKERS i OUTEND) (m WORKERS i HELD);
+    old = λ k e n. store-other m OUT i (m WORKERS i OUTEND) (m WORKERS i HELD) OUT k e (λ p. n);
+  }
 
   only-row : OnlyRow m (answeredM i m) i
   unfolding answeredM
@@ -59,7 +58,7 @@ module _ (i : ℕ) (m : Mem) where
       bounds = λ c. refl;
       log = λ c. refl;
       work = λ c. refl;
-      out = λ c. old-out k c (λ p. n);
+      out = λ c. put .old k c (λ p. n);
     };
     wanted = λ n. refl;
     heads = λ x y. refl;
@@ -86,15 +85,10 @@ module _ (sys : System) (m : Mem) (t : Tally) (i : ℕ) (inv : Inv sys (record {
         first-bound = r .first-bound;
         bounds-rise = r .bounds-rise;
         last-bound = r .last-bound;
-        out-read = omega (arith, more-out i m, r .out-read);
-        out-list = λ e l.
-          up-to (λ e. LISTMARK ≤ answeredM i m OUT i e → answeredM i m OUT i e - LISTMARK < m WORKERS i SENDS)
-          (m WORKERS i OUTEND)
-          (λ g. omega (arith, new-out i m, ready .low))
-          (λ e q g.
-          let old = old-out i m i e (omega arith) in
-          omega (arith, r .out-list e q (omega arith)))
-          e (omega (arith, more-out i m));
+        out-read = omega (arith, put i m .more, r .out-read);
+        out-list =
+          put-lists i (m WORKERS i HELD) m (answeredM i m) (put i m) (omega arith) (λ l. omega (arith, ready .low))
+          (r .out-list);
         polls-read = r .polls-read;
         held-read = omega (arith, none-held i m);
         log-codes = r .log-codes;
@@ -112,27 +106,12 @@ module _ (sys : System) (m : Mem) (t : Tally) (i : ℕ) (inv : Inv sys (record {
         counted = u .counted;
         logged = u .logged;
         all-out = λ k p.
-          each-row
-          (λ k. listsOut m k (m WORKERS k OUTEND) ≡ m WORKERS k SENDS
-          → listsOut (answeredM i m) k (answeredM i m WORKERS k OUTEND) ≡ m WORKERS k SENDS) i
-          (λ e.
-          omega (
-            arith,
-            lists-out-more m (answeredM i m) i (m WORKERS i OUTEND) (answeredM i m WORKERS i OUTEND) (more-out i m) (λ x l.
-            old-out i m i x (omega arith)),
-            ap one (lt-leb LISTMARK (answeredM i m OUT i (m WORKERS i OUTEND)) (omega (arith, new-out i m, ready .low))),
-          ))
-          (λ k n e.
-          lists-out-kept m (answeredM i m) k (m WORKERS k OUTEND) (answeredM i m WORKERS k OUTEND)
-          (other-rows i m k OUTEND n) (λ x l.
-          old-out i m k x (λ p. n))
-          ∙ e)
-          k (u .all-out k p);
+          put-counted i (m WORKERS i HELD) m (answeredM i m) (put i m)
+          (omega (arith, ap one (lt-leb LISTMARK (m WORKERS i HELD) (ready .low)))) (λ k n. refl) k (u .all-out k p);
         heard =
           u .heard
           ∙ sym
-          (heard-kept m (answeredM i m) (sys .workers) (λ k p. refl) (λ k x p l.
-          old-out i m k x (λ q e. omega (arith, inv .rows k p .out-read, ap (λ x. m WORKERS x OUTEND) e))));
+          (put-heard i (m WORKERS i HELD) m (answeredM i m) (put i m) (sys .workers) (λ k p. inv .rows k p .out-read));
       }
 
   -- the poll that was answered was sent
@@ -154,7 +133,7 @@ module _ (sys : System) (m : Mem) (t : Tally) (i : ℕ) (inv : Inv sys (record {
       let some-poll : 0 < t .timestamp .0 = omega (arith, sent, ready .held) in
       let ended : t .polling ≡ false → m WORKERS i LISTS < t .lists .0 = λ x. omega (arith, p .wanted-ended x some-poll) in
       record {
-        one-more = omega (arith, more-out i m);
+        one-more = omega (arith, put i m .more);
         no-work = ready .no-work;
         no-send = ready .no-send;
         held-later = λ l. omega (arith, none-held i m);
@@ -171,7 +150,7 @@ module _ (sys : System) (m : Mem) (t : Tally) (i : ℕ) (inv : Inv sys (record {
       (λ l.
       elim (ℕ-discrete (m WORKERS i OUTEND) (m WORKERS i LISTS)) [
         | yes e ↦ inr (first-reply e)
-        | no n ↦ inl (omega (arith, more-out i m))
+        | no n ↦ inl (omega (arith, put i m .more))
       ])
       (λ r. absurd (omega (arith, r .held-later (ready .held), ready .wanted)))
       (inv .replied i h)

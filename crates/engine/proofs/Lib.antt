@@ -5,6 +5,7 @@ pub mod Frame
 pub mod Hearing
 pub mod Inv
 pub mod Keeps
+pub mod Outgoing
 pub mod Polling
 pub mod Reading
 pub mod Regions

@@ -18,8 +18,9 @@ use Rattle.engine.specs.Memory.{Mem, store}
 use Rattle.engine.specs.Messages.{sendM, sentM}
 use Rattle.engine.specs.Step.{Machine}
 use Rattle.engine.specs.View.{LISTMARK}
-use Rattle.engine.proofs.Frame.{OnlyRow, SameRow, Answered, row-action, follows-itself, lists-out-kept, lists-out-more, heard-kept}
+use Rattle.engine.proofs.Frame.{OnlyRow, SameRow, Answered, row-action, follows-itself}
 use Rattle.engine.proofs.Inv.{Row, Replied, Totals, Inv, listsOut}
+use Rattle.engine.proofs.Outgoing.{Put, put-lists, put-counted, put-heard}
 use Rattle.engine.proofs.Stores.{and-never, store-same, store-other, each-row, up-to, if-some, unless-some, some-same}
 
 -- ---- what the stores changed
@@ -38,25 +39,23 @@ module _ (i : ℕ) (m : Mem) where
   unfolding sentM
   new-bound = store-same m BOUNDS i (m WORKERS i SENDS + 1) (m WORKERS i LOGEND)
 
-  old-out : (k e : ℕ) → (e ≡ m WORKERS i OUTEND → k ≡ i → ⊥) → sentM i m OUT k e ≡ m OUT k e
-  unfolding sentM
-  old-out k e h = store-other m OUT i (m WORKERS i OUTEND) (LISTMARK + m WORKERS i SENDS) OUT k e (λ p. h)
-
-  new-out : sentM i m OUT i (m WORKERS i OUTEND) ≡ LISTMARK + m WORKERS i SENDS
-  unfolding sentM
-  new-out = store-same m OUT i (m WORKERS i OUTEND) (LISTMARK + m WORKERS i SENDS)
-
   more-sends : sentM i m WORKERS i SENDS ≡ m WORKERS i SENDS + 1
   unfolding sentM
   more-sends = store-same m WORKERS i SENDS (m WORKERS i SENDS + 1)
 
-  more-out : sentM i m WORKERS i OUTEND ≡ m WORKERS i OUTEND + 1
-  unfolding sentM
-  more-out = store-same m WORKERS i OUTEND (m WORKERS i OUTEND + 1)
-
   more-lists : sentM i m WORKERS i LISTS ≡ m WORKERS i LISTS + 1
   unfolding sentM
   more-lists = store-same m WORKERS i LISTS (m WORKERS i LISTS + 1)
+
+  put : Put i (LISTMARK + m WORKERS i SENDS) m (sentM i m)
+  unfolding sentM
+  put = record {
+    more = store-same m WORKERS i OUTEND (m WORKERS i OUTEND + 1);
+    others = λ k n. other-rows k OUTEND n;
+    read = λ k. refl;
+    new = store-same m OUT i (m WORKERS i OUTEND) (LISTMARK + m WORKERS i SENDS);
+    old = λ k e n. store-other m OUT i (m WORKERS i OUTEND) (LISTMARK + m WORKERS i SENDS) OUT k e (λ p. n);
+  }
 
   only-row : OnlyRow m (sentM i m) i
   unfolding sentM
@@ -66,7 +65,7 @@ module _ (i : ℕ) (m : Mem) where
       bounds = λ c. old-bound k c (λ p. n);
       log = λ c. refl;
       work = λ c. refl;
-      out = λ c. old-out k c (λ p. n);
+      out = λ c. put .old k c (λ p. n);
     };
     wanted = λ n. refl;
     heads = λ x y. refl;
@@ -89,15 +88,10 @@ module _ (sys : System) (m : Mem) (t : Tally) (i : ℕ) (inv : Inv sys (record {
           (λ n g. omega (arith, old-bound i m i n (omega arith), old-bound i m i (n + 1) (omega arith), r .bounds-rise n g))
           n (omega (arith, more-sends i m));
         last-bound = rw (more-sends i m, new-bound i m) (omega arith);
-        out-read = omega (arith, more-out i m, r .out-read);
-        out-list = λ e l.
-          up-to (λ e. LISTMARK ≤ sentM i m OUT i e → sentM i m OUT i e - LISTMARK < sentM i m WORKERS i SENDS)
-          (m WORKERS i OUTEND)
-          (λ g. omega (arith, new-out i m, more-sends i m))
-          (λ e q g.
-          let old = old-out i m i e (omega arith) in
-          omega (arith, more-sends i m, r .out-list e q (omega arith)))
-          e (omega (arith, more-out i m));
+        out-read = omega (arith, put i m .more, r .out-read);
+        out-list =
+          put-lists i (LISTMARK + m WORKERS i SENDS) m (sentM i m) (put i m) (omega (arith, more-sends i m))
+          (λ l. omega (arith, more-sends i m)) (r .out-list);
         polls-read = r .polls-read;
         held-read = r .held-read;
         log-codes = r .log-codes;
@@ -128,35 +122,20 @@ module _ (sys : System) (m : Mem) (t : Tally) (i : ℕ) (inv : Inv sys (record {
           (λ k n e. omega (arith, other-rows i m k LISTS n, other-rows i m k SENDS n)) k (u .counted k p);
         logged = u .logged;
         all-out = λ k p.
-          each-row
-          (λ k. listsOut m k (m WORKERS k OUTEND) ≡ m WORKERS k SENDS
-          → listsOut (sentM i m) k (sentM i m WORKERS k OUTEND) ≡ sentM i m WORKERS k SENDS) i
-          (λ e.
-          omega (
-            arith,
-            more-sends i m,
-            lists-out-more m (sentM i m) i (m WORKERS i OUTEND) (sentM i m WORKERS i OUTEND) (more-out i m) (λ x l.
-            old-out i m i x (omega arith)),
-            ap one (le-leb LISTMARK (sentM i m OUT i (m WORKERS i OUTEND)) (omega (arith, new-out i m))),
-          ))
-          (λ k n e.
-          lists-out-kept m (sentM i m) k (m WORKERS k OUTEND) (sentM i m WORKERS k OUTEND) (other-rows i m k OUTEND n)
-          (λ x l.
-          old-out i m k x (λ p. n))
-          ∙ e
-          ∙ sym (other-rows i m k SENDS n))
-          k (u .all-out k p);
+          put-counted i (LISTMARK + m WORKERS i SENDS) m (sentM i m) (put i m)
+          (omega (arith, more-sends i m, ap one (le-leb LISTMARK (LISTMARK + m WORKERS i SENDS) (omega arith))))
+          (λ k n. other-rows i m k SENDS n) k (u .all-out k p);
         heard =
           u .heard
           ∙ sym
-          (heard-kept m (sentM i m) (sys .workers) (λ k p. refl) (λ k x p l.
-          old-out i m k x (λ q e. omega (arith, inv .rows k p .out-read, ap (λ x. m WORKERS x OUTEND) e))));
+          (put-heard i (LISTMARK + m WORKERS i SENDS) m (sentM i m) (put i m) (sys .workers) (λ k p.
+          inv .rows k p .out-read));
       }
 
   -- a worker that has labels to send has not replied at its present count
   answered : Answered (sentM i m) t i
   answered =
-      ⊎-elim (λ l. inl (omega (arith, more-out i m, more-lists i m))) (λ r. absurd (unsent (r .no-send)))
+      ⊎-elim (λ l. inl (omega (arith, put i m .more, more-lists i m))) (λ r. absurd (unsent (r .no-send)))
       (inv .replied i h)
 
   sent-keeps : Inv sys (record { mem = sentM i m; tally = t })
