@@ -1,26 +1,26 @@
 -- Answering keeps the invariant: a worker replies once at each value of its list counter.
-use Prim.Native.Nat.{ℕ, suc, _+_, _-_, _<_, _≤_}
-use mathlib.Core.Bool.{Bool, true, false, cond}
-use mathlib.Core.Logic.{_⊎_, inl, inr, ⊎-elim}
-use mathlib.Core.Option.{Option, none, some}
+use Prim.Native.Nat.{ℕ, _+_, _-_, _<_, _≤_}
+use mathlib.Core.Bool.{false}
+use mathlib.Core.Logic.{inl, inr, ⊎-elim}
+use mathlib.Core.Option.{some}
 use mathlib.Core.Path.{_≡_, refl, sym, _∙_, ap}
-use native.Mathlib.Decide.{ℕ-discrete, decLe}
+use native.Mathlib.Decide.{ℕ-discrete}
 use native.Mathlib.Omega.{arith}
 use borrow.Author.Tests.{ltb-true, eqb-true, eqb-false, lt-leb, ne-eqb}
-use lib.Dec.{leb, ltb, eqb}
+use lib.Dec.{ltb, eqb}
 use Rattle.base.proofs.Bools.{decided}
 use Rattle.base.specs.Below.{one}
 use Rattle.disac4.specs.System.{System}
 use Rattle.disac4.specs.declared.Tally.{Tally}
-use Rattle.engine.specs.Layout.{WORKERS, CURSORS, BOUNDS, LOG, WORK, OUT, WANTED, DOMAIN, HEADS, HEAD, TAIL, LOGEND, SENDS, LISTS, HELD, POLLS, OUTEND, OUTREAD}
-use Rattle.engine.specs.Memory.{Mem, store}
+use Rattle.engine.specs.Layout.{WORKERS, BOUNDS, OUT, WANTED, HEAD, TAIL, LOGEND, SENDS, LISTS, HELD, OUTEND}
+use Rattle.engine.specs.Memory.{Mem}
 use Rattle.engine.specs.Messages.{answerM, answeredM}
 use Rattle.engine.specs.View.{LISTMARK}
 use Rattle.engine.proofs.Capacity.{risen}
 use Rattle.engine.proofs.Frame.{OnlyRow, Answered, row-action, follows-itself}
-use Rattle.engine.proofs.Inv.{Row, Polled, Replied, Totals, Inv, listsOut}
+use Rattle.engine.proofs.Inv.{Row, Polled, Replied, Totals, Inv}
 use Rattle.engine.proofs.Outgoing.{Put, put-lists, put-counted, put-heard}
-use Rattle.engine.proofs.Stores.{and-never, store-same, store-other, each-row, up-to, if-some, unless-some, some-same}
+use Rattle.engine.proofs.Stores.{and-never, store-same, store-other, if-some, unless-some, some-same}
 
 -- wanted counts rise from poll to poll
 wanted-later : (m : Mem) (t : Tally) → Polled m t → (n n′ : ℕ) → 0 < n → n ≤ n′ → n′ ≤ t .timestamp .0
@@ -87,8 +87,8 @@ module _ (sys : System) (m : Mem) (t : Tally) (i : ℕ) (inv : Inv sys (record {
         last-bound = r .last-bound;
         out-read = omega (arith, put i m .more, r .out-read);
         out-list =
-          put-lists i (m WORKERS i HELD) m (answeredM i m) (put i m) (omega arith) (λ l. omega (arith, ready .low))
-          (r .out-list);
+            put-lists i (m WORKERS i HELD) m (answeredM i m) (put i m) (omega arith) (λ l. omega (arith, ready .low))
+            (r .out-list);
         polls-read = r .polls-read;
         held-read = omega (arith, none-held i m);
         log-codes = r .log-codes;
@@ -106,12 +106,12 @@ module _ (sys : System) (m : Mem) (t : Tally) (i : ℕ) (inv : Inv sys (record {
         counted = u .counted;
         logged = u .logged;
         all-out = λ k p.
-          put-counted i (m WORKERS i HELD) m (answeredM i m) (put i m)
-          (omega (arith, ap one (lt-leb LISTMARK (m WORKERS i HELD) (ready .low)))) (λ k n. refl) k (u .all-out k p);
+            put-counted i (m WORKERS i HELD) m (answeredM i m) (put i m)
+            (omega (arith, ap one (lt-leb LISTMARK (m WORKERS i HELD) (ready .low)))) (λ k n. refl) k (u .all-out k p);
         heard =
-          u .heard
-          ∙ sym
-          (put-heard i (m WORKERS i HELD) m (answeredM i m) (put i m) (sys .workers) (λ k p. inv .rows k p .out-read));
+            u .heard
+            ∙ sym
+            (put-heard i (m WORKERS i HELD) m (answeredM i m) (put i m) (sys .workers) (λ k p. inv .rows k p .out-read));
       }
 
   -- the poll that was answered was sent
@@ -140,7 +140,7 @@ module _ (sys : System) (m : Mem) (t : Tally) (i : ℕ) (inv : Inv sys (record {
         polls-later = λ n l b. omega (arith, more-wanted n (omega (arith, inv .rows i h .held-read)) b, inv .rows i h .held-read);
         ended-later = ended;
         count-low =
-          ⊎-elim (λ x. omega (arith, p .wanted-open x .1)) (λ x. omega (arith, ended x)) (decided (t .polling));
+            ⊎-elim (λ x. omega (arith, p .wanted-open x .1)) (λ x. omega (arith, ended x)) (decided (t .polling));
       }
 
   answered : Answered (answeredM i m) t i

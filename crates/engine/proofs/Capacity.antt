@@ -135,19 +135,19 @@ module _ (sys : System) (small : Small sys) (s : Machine) (inv : Inv sys s) wher
       within k p q =
           elim (ℕ-discrete k j) [
             | yes e ↦
-              omega (
-                arith,
-                ap next e,
-                update-same read j (m BOUNDS j (m CURSORS j i + 1)),
-                bound-logged j hj (m CURSORS j i + 1) (omega arith),
-                ap (λ (k : ℕ). m WORKERS k LOGEND) e,
-              )
+                omega (
+                  arith,
+                  ap next e,
+                  update-same read j (m BOUNDS j (m CURSORS j i + 1)),
+                  bound-logged j hj (m CURSORS j i + 1) (omega arith),
+                  ap (λ (k : ℕ). m WORKERS k LOGEND) e,
+                )
             | no d ↦
-              omega (
-                arith,
-                update-other read j (m BOUNDS j (m CURSORS j i + 1)) k d,
-                bound-logged k p (m CURSORS k i) (inv .totals .cursor k i p hi),
-              )
+                omega (
+                  arith,
+                  update-other read j (m BOUNDS j (m CURSORS j i + 1)) k d,
+                  bound-logged k p (m CURSORS k i) (inv .totals .cursor k i p hi),
+                )
           ]
 
   -- the work list fits its row
@@ -158,8 +158,8 @@ module _ (sys : System) (small : Small sys) (s : Machine) (inv : Inv sys s) wher
         logs-small,
         inv .totals .pushed i h,
         beside-own (sys .workers) (λ j. m BOUNDS j (m CURSORS j i)) (λ j. m WORKERS j LOGEND) i h
-        (ap (m BOUNDS i) (inv .totals .own-cursor i h) ∙ inv .rows i h .first-bound)
-        (λ j p q. bound-logged j p (m CURSORS j i) (inv .totals .cursor j i p h)),
+            (ap (m BOUNDS i) (inv .totals .own-cursor i h) ∙ inv .rows i h .first-bound)
+            (λ j p q. bound-logged j p (m CURSORS j i) (inv .totals .cursor j i p h)),
       )
 
   -- ---- counts of lists
@@ -172,7 +172,7 @@ module _ (sys : System) (small : Small sys) (s : Machine) (inv : Inv sys s) wher
         sends-small,
         inv .totals .counted i h,
         beside-own (sys .workers) (λ j. m CURSORS j i) (λ j. m WORKERS j SENDS) i h (inv .totals .own-cursor i h)
-        (λ j p q. inv .totals .cursor j i p h),
+            (λ j p q. inv .totals .cursor j i p h),
       )
 
   -- the controller's
@@ -209,9 +209,9 @@ module _ (sys : System) (small : Small sys) (s : Machine) (inv : Inv sys s) wher
       elim (ℕ-discrete (s .tally .timestamp .0) 0) [
         | yes e ↦ omega arith
         | no n ↦ ⊎-elim
-        (λ p. omega (arith, wanted-high (omega arith), inv .polled .wanted-open p .1, heard-few))
-        (λ p. omega (arith, wanted-high (omega arith), inv .polled .wanted-ended p (omega arith), heard-few))
-        (decided (s .tally .polling))
+            (λ p. omega (arith, wanted-high (omega arith), inv .polled .wanted-open p .1, heard-few))
+            (λ p. omega (arith, wanted-high (omega arith), inv .polled .wanted-ended p (omega arith), heard-few))
+            (decided (s .tally .polling))
       ]
     where
       wanted-high : 0 < s .tally .timestamp .0 → s .tally .timestamp .0 ≤ m WANTED 0 (s .tally .timestamp .0) + 1

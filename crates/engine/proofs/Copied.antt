@@ -1,6 +1,5 @@
 -- What copying a list message changes: the end of the reader's work list and where it ends, nothing else.
 use Prim.Native.Nat.{ℕ, zero, suc, _+_, _<_, _≤_}
-use mathlib.Core.Bool.{Bool, true, false}
 use mathlib.Core.Path.{_≡_, refl, sym, _∙_, ap}
 use native.Mathlib.Decide.{ℕ-discrete}
 use native.Mathlib.Nat.{not-suc-le-zero}
@@ -10,7 +9,7 @@ use Rattle.base.proofs.Choice.{cond-true}
 use Rattle.engine.specs.Layout.{WORKERS, LOG, WORK, TAIL}
 use Rattle.engine.specs.Lists.{pushM, copyM}
 use Rattle.engine.specs.Memory.{Mem, store}
-use Rattle.engine.proofs.Stores.{store-same, store-other, up-to}
+use Rattle.engine.proofs.Stores.{store-same, store-other}
 
 -- `n` labels, read off by `f`, joined the end of row `i`'s work list
 pub record Joined (i n : ℕ) (f : ℕ → ℕ) (m m′ : Mem) : Type 0 where
@@ -31,21 +30,21 @@ join : (i n c : ℕ) (f : ℕ → ℕ) (m m′ : Mem) → Joined i n f m m′ �
 join i n c f m m′ g e = record {
   longer = store-same m′ WORKERS i TAIL (m′ WORKERS i TAIL + 1) ∙ omega (arith, g .longer);
   joined = λ d h.
-    elim (ℕ-discrete d n) [
-      | yes q ↦
-        ap (store m′ WORK i (m′ WORKERS i TAIL) c WORK i) (omega (arith, g .longer))
-        ∙ store-same m′ WORK i (m′ WORKERS i TAIL) c
-        ∙ sym e
-        ∙ ap f (sym q)
-      | no q ↦
-        store-other m′ WORK i (m′ WORKERS i TAIL) c WORK i (m WORKERS i TAIL + d) (λ r x y. omega (arith, g .longer))
-        ∙ g .joined d (omega arith)
-    ];
+      elim (ℕ-discrete d n) [
+        | yes q ↦
+            ap (store m′ WORK i (m′ WORKERS i TAIL) c WORK i) (omega (arith, g .longer))
+            ∙ store-same m′ WORK i (m′ WORKERS i TAIL) c
+            ∙ sym e
+            ∙ ap f (sym q)
+        | no q ↦
+            store-other m′ WORK i (m′ WORKERS i TAIL) c WORK i (m WORKERS i TAIL + d) (λ r x y. omega (arith, g .longer))
+            ∙ g .joined d (omega arith)
+      ];
   kept = λ r k x p q.
-    store-other (store m′ WORK i (m′ WORKERS i TAIL) c) WORKERS i TAIL (m′ WORKERS i TAIL + 1) r k x p
-    ∙ store-other m′ WORK i (m′ WORKERS i TAIL) c r k x (λ a b y.
-    q a y (omega (arith, g .longer)) (omega (arith, g .longer)))
-    ∙ g .kept r k x p (λ a y b z. q a y b (omega arith));
+      store-other (store m′ WORK i (m′ WORKERS i TAIL) c) WORKERS i TAIL (m′ WORKERS i TAIL + 1) r k x p
+      ∙ store-other m′ WORK i (m′ WORKERS i TAIL) c r k x (λ a b y.
+      q a y (omega (arith, g .longer)) (omega (arith, g .longer)))
+      ∙ g .kept r k x p (λ a y b z. q a y b (omega arith));
 }
 
 -- a copied list message: labels of row `j`'s log joined the end of row `i`'s work list

@@ -1,6 +1,5 @@
 -- What each part of the invariant depends on: where those cells are kept, so is the part.
-use Prim.Native.Nat.{ℕ, _+_, _-_, _^_, _<_, _≤_}
-use mathlib.Core.Bool.{Bool, true, false}
+use Prim.Native.Nat.{ℕ, _+_, _^_, _<_, _≤_}
 use mathlib.Core.Logic.{_⊎_, inl, inr, ⊎-elim}
 use mathlib.Core.Path.{_≡_, refl, sym, _∙_, ap, ap₂, fun-ext}
 use native.Mathlib.Numerals.{add-one}
@@ -86,18 +85,24 @@ module _ (m m′ : Mem) where
     wanted-ended = λ e h. omega (arith, w (t .timestamp .0), p .wanted-ended e h);
   }
 
-  -- a reply depends on its worker's cells and the wanted counts
-  pub replied-kept : (t : Tally) (i : ℕ) → SameRow m m′ i → SameWanted m m′ → Replied m t i → Replied m′ t i
-  replied-kept t i s w r = record {
-    one-more = omega (arith, s .workers OUTEND, s .workers LISTS, r .one-more);
-    no-work = omega (arith, s .workers HEAD, s .workers TAIL, r .no-work);
-    no-send = rw (s .workers SENDS, s .workers LOGEND, s .bounds (m WORKERS i SENDS)) (r .no-send);
-    held-later = λ h.
-      rw (s .workers LISTS, s .workers HELD, w (m WORKERS i HELD)) (r .held-later (omega (arith, s .workers HELD)));
-    polls-later = λ n h l. omega (arith, w n, s .workers LISTS, r .polls-later n (omega (arith, s .workers POLLS)) l);
-    ended-later = λ e. omega (arith, s .workers LISTS, r .ended-later e);
-    count-low = omega (arith, s .workers LISTS, r .count-low);
+  -- a reply depends on its worker's cells, on the wanted counts, and not on what the controller has read
+  pub replied-kept : (t : Tally) (i : ℕ) → ((c : ℕ) → (c ≡ OUTREAD → ⊥) → m′ WORKERS i c ≡ m WORKERS i c)
+      → ((n : ℕ) → m′ BOUNDS i n ≡ m BOUNDS i n) → SameWanted m m′ → Replied m t i → Replied m′ t i
+  replied-kept t i workers bounds w r = record {
+    one-more = omega (arith, workers OUTEND (omega arith), lists, r .one-more);
+    no-work = omega (arith, workers HEAD (omega arith), workers TAIL (omega arith), r .no-work);
+    no-send = rw (workers SENDS (omega arith), workers LOGEND (omega arith), bounds (m WORKERS i SENDS)) (r .no-send);
+    held-later = λ h. rw (lists, held, w (m WORKERS i HELD)) (r .held-later (omega (arith, held)));
+    polls-later = λ n h l. omega (arith, w n, lists, r .polls-later n (omega (arith, workers POLLS (omega arith))) l);
+    ended-later = λ e. omega (arith, lists, r .ended-later e);
+    count-low = omega (arith, lists, r .count-low);
   }
+    where
+      lists : m′ WORKERS i LISTS ≡ m WORKERS i LISTS
+      lists = workers LISTS (omega arith)
+
+      held : m′ WORKERS i HELD ≡ m WORKERS i HELD
+      held = workers HELD (omega arith)
 
   -- the rows of counters depend on the index
   pub paired-kept : (sys : System) → SameHeads m m′ → Paired sys m → Paired sys m′
@@ -152,34 +157,34 @@ totals-kept sys m m′ t t′ s e u = record {
   own-cursor = λ i h. s .cursors i i ∙ u .own-cursor i h;
   cursor = λ j i h l. omega (arith, s .cursors j i, sends j, u .cursor j i h l);
   pushed = λ i h.
-    omega (
-      arith,
-      s .workers i TAIL (omega arith) (omega arith),
-      ends i,
-      sum-ext (sys .workers) (λ j. m′ BOUNDS j (m′ CURSORS j i)) (λ j. m BOUNDS j (m CURSORS j i)) (λ j l.
-      s .bounds j (m′ CURSORS j i) ∙ ap (m BOUNDS j) (s .cursors j i)),
-      u .pushed i h,
-    );
+      omega (
+        arith,
+        s .workers i TAIL (omega arith) (omega arith),
+        ends i,
+        sum-ext (sys .workers) (λ j. m′ BOUNDS j (m′ CURSORS j i)) (λ j. m BOUNDS j (m CURSORS j i)) (λ j l.
+            s .bounds j (m′ CURSORS j i) ∙ ap (m BOUNDS j) (s .cursors j i)),
+        u .pushed i h,
+      );
   counted = λ i h.
-    omega (
-      arith,
-      s .workers i LISTS (omega arith) (omega arith),
-      sends i,
-      sum-ext (sys .workers) (λ j. m′ CURSORS j i) (λ j. m CURSORS j i) (λ j l. s .cursors j i),
-      u .counted i h,
-    );
+      omega (
+        arith,
+        s .workers i LISTS (omega arith) (omega arith),
+        sends i,
+        sum-ext (sys .workers) (λ j. m′ CURSORS j i) (λ j. m CURSORS j i) (λ j l. s .cursors j i),
+        u .counted i h,
+      );
   logged = logged-kept m m′ sys ends (s .domain) ∙ u .logged;
   all-out = λ i h.
-    lists-out-kept m m′ i (m WORKERS i OUTEND) (m′ WORKERS i OUTEND) (s .workers i OUTEND (omega arith) (omega arith))
-    (λ n l.
-    s .out i n)
-    ∙ u .all-out i h
-    ∙ sym (sends i);
+      lists-out-kept m m′ i (m WORKERS i OUTEND) (m′ WORKERS i OUTEND) (s .workers i OUTEND (omega arith) (omega arith))
+      (λ n l.
+      s .out i n)
+      ∙ u .all-out i h
+      ∙ sym (sends i);
   heard =
-    e
-    ∙ u .heard
-    ∙ sym
-    (heard-kept m m′ (sys .workers) (λ i h. s .workers i OUTREAD (omega arith) (omega arith)) (λ i n h l. s .out i n));
+      e
+      ∙ u .heard
+      ∙ sym
+      (heard-kept m m′ (sys .workers) (λ i h. s .workers i OUTREAD (omega arith) (omega arith)) (λ i n h l. s .out i n));
 }
   where
     sends : (i : ℕ) → m′ WORKERS i SENDS ≡ m WORKERS i SENDS
@@ -213,19 +218,20 @@ pub row-action : (sys : System) (s s′ : Machine) (i : ℕ) → Inv sys s → O
     → Answered (s′ .mem) (s′ .tally) i → s′ .tally .marks < 2 ^ sys .workers → Inv sys s′
 row-action sys s s′ i inv only next row totals answered marks = record {
   rows =
-    each-row (λ k. k < sys .workers → Row sys (s′ .mem) (s′ .tally) k) i (λ h. row) (λ k n h.
-    row-kept (s .mem) (s′ .mem) sys (s .tally) (s′ .tally) k (only .others k n) (next .later) (inv .rows k h));
+      each-row (λ k. k < sys .workers → Row sys (s′ .mem) (s′ .tally) k) i (λ h. row) (λ k n h.
+      row-kept (s .mem) (s′ .mem) sys (s .tally) (s′ .tally) k (only .others k n) (next .later) (inv .rows k h));
   totals = totals;
   polled = polled-kept (s .mem) (s′ .mem) (s′ .tally) (only .wanted) (next .polled);
   replied =
-    each-row (λ k. k < sys .workers → Answered (s′ .mem) (s′ .tally) k) i (λ h. answered) (λ k n h.
-    ⊎-elim
-    (λ l.
-    inl (omega (arith, only .others k n .workers OUTEND, only .others k n .workers LISTS)))
-    (λ r.
-    inr
-    (replied-kept (s .mem) (s′ .mem) (s′ .tally) k (only .others k n) (only .wanted) (next .replied k r)))
-    (inv .replied k h));
+      each-row (λ k. k < sys .workers → Answered (s′ .mem) (s′ .tally) k) i (λ h. answered) (λ k n h.
+      ⊎-elim
+      (λ l.
+      inl (omega (arith, only .others k n .workers OUTEND, only .others k n .workers LISTS)))
+      (λ r.
+      inr
+      (replied-kept (s .mem) (s′ .mem) (s′ .tally) k (λ c p. only .others k n .workers c) (only .others k n .bounds)
+      (only .wanted) (next .replied k r)))
+      (inv .replied k h));
   paired = paired-kept (s .mem) (s′ .mem) sys (only .heads) (inv .paired);
   marks = marks;
 }

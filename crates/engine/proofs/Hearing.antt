@@ -1,28 +1,28 @@
 -- The controller's reading keeps the invariant: it counts a list message, and marks a reply to the open poll.
-use Prim.Native.Nat.{ℕ, suc, _+_, _^_, _<_, _≤_}
+use Prim.Native.Nat.{ℕ, _+_, _^_, _<_}
 use mathlib.Core.Bool.{Bool, true, false, cond, _&&_, _||_, false≢true}
-use mathlib.Core.Logic.{_⊎_, inl, inr, ⊎-elim}
-use mathlib.Core.Option.{Option, none, some}
-use mathlib.Core.Path.{_≡_, refl, sym, _∙_, ap}
+use mathlib.Core.Logic.{inl, inr, ⊎-elim}
+use mathlib.Core.Option.{some}
+use mathlib.Core.Path.{_≡_, refl, sym, ap}
 use native.Mathlib.Omega.{arith}
 use borrow.Author.Tests.{ltb-true, ne-eqb, eq-eqb}
 use lib.Dec.{leb, ltb, eqb}
-use Rattle.base.proofs.Bools.{decided, and-left, or-right, or-comm}
+use Rattle.base.proofs.Bools.{decided, and-left}
 use Rattle.base.proofs.Choice.{cond-true, cond-false}
 use Rattle.base.proofs.Row.{row-of-bits, row-small}
 use Rattle.base.proofs.Sums.{sum-change}
-use Rattle.base.specs.Below.{sumBelow, one}
+use Rattle.base.specs.Below.{one}
 use Rattle.base.specs.Row.{bit, rowOf}
 use Rattle.disac4.specs.System.{System}
 use Rattle.disac4.specs.declared.Tally.{Tally}
-use Rattle.engine.specs.Layout.{WORKERS, CURSORS, BOUNDS, LOG, WORK, OUT, WANTED, DOMAIN, HEADS, HEAD, TAIL, LOGEND, SENDS, LISTS, HELD, POLLS, OUTEND, OUTREAD}
-use Rattle.engine.specs.Memory.{Mem, store}
+use Rattle.engine.specs.Layout.{WORKERS, OUT, OUTEND, OUTREAD}
+use Rattle.engine.specs.Memory.{Mem}
 use Rattle.engine.specs.Messages.{countedT, withMark, markedT, toldT, hasOut, outReadM}
 use Rattle.engine.specs.Step.{Machine, hearM}
 use Rattle.engine.specs.View.{LISTMARK}
-use Rattle.engine.proofs.Frame.{OnlyRow, Answered, Follows, row-action, follows-itself, lists-out-kept, lists-out-more}
-use Rattle.engine.proofs.Inv.{Row, Polled, Replied, Totals, Inv, listsOut}
-use Rattle.engine.proofs.Stores.{and-never, store-same, store-other, if-some, some-same}
+use Rattle.engine.proofs.Frame.{OnlyRow, Answered, Follows, row-action, replied-kept, follows-itself, lists-out-kept, lists-out-more}
+use Rattle.engine.proofs.Inv.{Row, Polled, Totals, Inv, listsOut}
+use Rattle.engine.proofs.Stores.{store-same, store-other, if-some, some-same}
 
 -- ---- marks
 
@@ -40,7 +40,7 @@ mark-small p marks i h l =
       row-of-bits p marks l,
       row-small p (λ w. eqb w i || bit marks w),
       sum-change p (λ w. cond (bit marks w) (2 ^ w) 0) (λ w. cond (eqb w i || bit marks w) (2 ^ w) 0) i h (λ w q n.
-      ap (λ b. cond (b || bit marks w) (2 ^ w) 0) (sym (ne-eqb w i n))),
+          ap (λ b. cond (b || bit marks w) (2 ^ w) 0) (sym (ne-eqb w i n))),
       ap (λ b. cond b (2 ^ i) 0) e,
       ap (λ b. cond (b || bit marks i) (2 ^ i) 0) (eq-eqb i i refl),
     ))
@@ -57,7 +57,7 @@ counted-follows m t p = record {
     rises = p .rises;
     wanted-open = λ e. absurd (false≢true e);
     wanted-ended = λ e l.
-      ⊎-elim (λ x. omega (arith, p .wanted-open x .1)) (λ x. omega (arith, p .wanted-ended x l)) (decided (t .polling));
+        ⊎-elim (λ x. omega (arith, p .wanted-open x .1)) (λ x. omega (arith, p .wanted-ended x l)) (decided (t .polling));
   };
   replied = λ i r. record {
     one-more = r .one-more;
@@ -144,33 +144,30 @@ module _ (sys : System) (m : Mem) (t t′ : Tally) (i : ℕ) (inv : Inv sys (rec
         logged = u .logged;
         all-out = u .all-out;
         heard =
-          omega (
-            arith,
-            count,
-            u .heard,
-            lists-out-more m (outReadM i m) i (m WORKERS i OUTREAD) (outReadM i m WORKERS i OUTREAD) more-read (λ e l. refl),
-            sum-change (sys .workers) (λ k. listsOut m k (m WORKERS k OUTREAD))
-            (λ k. listsOut (outReadM i m) k (outReadM i m WORKERS k OUTREAD)) i h (λ k p n.
-            sym
-            (lists-out-kept m (outReadM i m) k (m WORKERS k OUTREAD) (outReadM i m WORKERS k OUTREAD)
-            (other-rows k OUTREAD n) (λ e l. refl))),
-          );
+            omega (
+              arith,
+              count,
+              u .heard,
+              lists-out-more m (outReadM i m) i (m WORKERS i OUTREAD) (outReadM i m WORKERS i OUTREAD) more-read (λ e l. refl),
+              sum-change (sys .workers) (λ k. listsOut m k (m WORKERS k OUTREAD))
+                  (λ k. listsOut (outReadM i m) k (outReadM i m WORKERS k OUTREAD)) i h (λ k p n.
+                  sym
+                  (lists-out-kept m (outReadM i m) k (m WORKERS k OUTREAD) (outReadM i m WORKERS k OUTREAD)
+                  (other-rows k OUTREAD n) (λ e l. refl))),
+            );
       }
 
   answered : Answered (outReadM i m) t′ i
   unfolding outReadM
-  answered = ⊎-elim inl (λ r. inr (still (next .replied i r))) (inv .replied i h)
-    where
-      still : Replied m t′ i → Replied (outReadM i m) t′ i
-      still r = record {
-        one-more = r .one-more;
-        no-work = r .no-work;
-        no-send = r .no-send;
-        held-later = r .held-later;
-        polls-later = r .polls-later;
-        ended-later = r .ended-later;
-        count-low = r .count-low;
-      }
+  answered =
+      ⊎-elim inl
+      (λ r.
+      inr
+      (replied-kept m (outReadM i m) t′ i
+      (λ c n.
+      store-other m WORKERS i OUTREAD (m WORKERS i OUTREAD + 1) WORKERS i c (λ p e x. n e))
+      (λ n. refl) (λ n. refl) (next .replied i r)))
+      (inv .replied i h)
 
   told-keeps : Inv sys (record { mem = outReadM i m; tally = t′ })
   told-keeps =

@@ -1,21 +1,19 @@
 -- Every turn keeps the invariant, if treating a label does.
-use Prim.Native.Nat.{ℕ, suc, _+_, _-_, _<_, _≤_}
-use mathlib.Core.Bool.{Bool, true, false, cond, not, _&&_, _||_}
+use Prim.Native.Nat.{ℕ, suc, _-_, _<_, _≤_}
+use mathlib.Core.Bool.{true, false, not, _&&_, _||_}
 use mathlib.Core.Logic.{_⊎_, inl, inr, ⊎-elim}
-use mathlib.Core.Option.{Option, none, some}
-use mathlib.Core.Path.{_≡_, refl, sym, _∙_, ap}
+use mathlib.Core.Option.{Option, none, some, Option·getD}
+use mathlib.Core.Path.{_≡_, refl, sym, _∙_}
 use native.Mathlib.Omega.{arith}
-use borrow.Author.Tests.{leb-true, eqb-true, eqb-false, not-true, not-false}
+use borrow.Author.Tests.{leb-true, eqb-false, not-true, not-false}
 use lib.Dec.{leb, eqb}
 use Rattle.base.proofs.Bools.{and-left, and-right, or-cases, or-false-right, clash}
 use Rattle.base.proofs.Choice.{between-low, between-high, cond-true, cond-false}
 use Rattle.base.specs.Choice.{between}
 use Rattle.disac4.specs.System.{System}
 use Rattle.disac4.specs.Turn.{Turn, treatNumber, sendNumber, answerNumber, pollNumber, allowed}
-use Rattle.disac4.specs.declared.Tally.{Tally}
 use Rattle.engine.specs.Memory.{Mem}
-use Rattle.engine.specs.Messages.{sendM, answerM, readPollM, readListM}
-use Rattle.engine.specs.Step.{Machine, withMem, readM, workerM, hearM, pollM, stepM}
+use Rattle.engine.specs.Step.{Machine, withMem, readM, workerM, stepM, afterM}
 use Rattle.engine.specs.Treat.{treatM}
 use Rattle.engine.proofs.Answering.{answer-keeps}
 use Rattle.engine.proofs.Hearing.{hear-keeps}
@@ -37,17 +35,19 @@ unfolding allowed
 worker-may p t worker ok =
     let own = leb (t .action) p && not (eqb (t .action) (t .actor)) in
     let high = between treatNumber answerNumber (t .action) in
-    let both = sym (cond-false (between 1 p (t .action) || eqb (t .action) pollNumber) (leb (t .actor) p && (own || high)) worker) ∙ ok in
-    (leb-true (t .actor) p (and-left (leb (t .actor) p) (own || high) both),
+    let both = sym (cond-false (between 1 p (t .action) || eqb (t .action) pollNumber) (leb (t .actor) p && (own || high)) worker) ∙ ok in (
+      leb-true (t .actor) p (and-left (leb (t .actor) p) (own || high) both),
       ⊎-elim
-      (λ e.
-      inl
-      (leb-true (t .action) p (and-left (leb (t .action) p) (not (eqb (t .action) (t .actor))) e),
-        eqb-false (t .action) (t .actor)
-        (not-true (eqb (t .action) (t .actor)) (and-right (leb (t .action) p) (not (eqb (t .action) (t .actor))) e))))
-      (λ e.
-      inr (between-low treatNumber answerNumber (t .action) e, between-high treatNumber answerNumber (t .action) e))
-      (or-cases own high (and-right (leb (t .actor) p) (own || high) both)))
+          (λ e.
+          inl (
+            leb-true (t .action) p (and-left (leb (t .action) p) (not (eqb (t .action) (t .actor))) e),
+            eqb-false (t .action) (t .actor)
+                (not-true (eqb (t .action) (t .actor)) (and-right (leb (t .action) p) (not (eqb (t .action) (t .actor))) e)),
+          ))
+          (λ e.
+          inr (between-low treatNumber answerNumber (t .action) e, between-high treatNumber answerNumber (t .action) e))
+          (or-cases own high (and-right (leb (t .actor) p) (own || high) both)),
+    )
 
 controller-may : (p : ℕ) (t : Turn) → eqb (t .actor) 0 ≡ true → allowed p t ≡ true → eqb (t .action) pollNumber ≡ false
     → (0 < t .action) × (t .action ≤ p)
@@ -104,3 +104,12 @@ module _ (sys : System) (small : Small sys) (s : Machine) (inv : Inv sys s)
       let some-row : suc (t .actor - 1) ≡ t .actor = omega (arith, eqb-false (t .actor) 0 c) in
       beside (workerM sys (t .actor - 1) (t .action) s) s′ e₂ (λ m′.
       worker-keeps (t .actor - 1) (t .action) m′ (omega (arith, may .0)) (rw some-row (may .1))))
+
+  -- so does a turn that may be idle
+  pub after-keeps : (t : Turn) → Inv sys (afterM sys s t)
+  unfolding afterM
+  after-keeps t = go (stepM sys s t) (step-keeps t)
+    where
+      go : (o : Option Machine) → ((s′ : Machine) → o ≡ some s′ → Inv sys s′) → Inv sys (Option·getD o s)
+      go none f = inv
+      go (some s′) f = f s′ refl

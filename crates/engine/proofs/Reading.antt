@@ -1,9 +1,8 @@
 -- Reading a list message keeps the invariant: its labels join the reader's work list, and the reader counts it.
-use Prim.Native.Nat.{ℕ, suc, _+_, _-_, _<_, _≤_}
-use mathlib.Core.Bool.{Bool, true, false}
-use mathlib.Core.Logic.{_⊎_, inl, inr, ⊎-elim}
-use mathlib.Core.Option.{Option, none, some}
-use mathlib.Core.Path.{_≡_, refl, sym, _∙_, ap, subst, fun-ext}
+use Prim.Native.Nat.{ℕ, _+_, _-_, _<_, _≤_}
+use mathlib.Core.Logic.{inl, ⊎-elim}
+use mathlib.Core.Option.{some}
+use mathlib.Core.Path.{_≡_, sym, _∙_, ap, subst}
 use native.Mathlib.Decide.{ℕ-discrete, decLt}
 use native.Mathlib.Omega.{arith}
 use borrow.Author.Tests.{ltb-true}
@@ -12,7 +11,7 @@ use Rattle.base.proofs.Sums.{sum-ext, sum-change}
 use Rattle.base.specs.Below.{sumBelow}
 use Rattle.disac4.specs.System.{System}
 use Rattle.disac4.specs.declared.Tally.{Tally}
-use Rattle.engine.specs.Layout.{WORKERS, CURSORS, BOUNDS, LOG, WORK, OUT, WANTED, DOMAIN, HEADS, HEAD, TAIL, LOGEND, SENDS, LISTS, HELD, POLLS, OUTEND, OUTREAD}
+use Rattle.engine.specs.Layout.{WORKERS, CURSORS, BOUNDS, LOG, WORK, OUT, WANTED, DOMAIN, HEADS, TAIL, LOGEND, SENDS, LISTS, OUTEND, OUTREAD}
 use Rattle.engine.specs.Lists.{copyM}
 use Rattle.engine.specs.Memory.{Mem, store}
 use Rattle.engine.specs.Messages.{letterStart, letterEnd, takenM, readListM}
@@ -20,7 +19,7 @@ use Rattle.engine.specs.Step.{Machine}
 use Rattle.engine.proofs.Capacity.{tail-room, bound-logged}
 use Rattle.engine.proofs.Copied.{Joined, copy-joins}
 use Rattle.engine.proofs.Frame.{OnlyRow, Answered, row-action, row-grown, follows-itself, lists-out-kept, logged-kept, heard-kept}
-use Rattle.engine.proofs.Inv.{Code, Row, Totals, Inv, Small, listsOut}
+use Rattle.engine.proofs.Inv.{Code, Row, Totals, Inv, Small}
 use Rattle.engine.proofs.Stores.{store-same, store-other, each-row, if-some, some-same}
 
 -- how many labels the next list message of row `j` for row `i` has
@@ -137,11 +136,11 @@ module _ (sys : System) (m : Mem) (t : Tally) (j i : ℕ) (inv : Inv sys (record
           elim (decLt d (m WORKERS i TAIL)) [
             | yes l ↦ rw (old-work j i m room i d (omega arith)) (inv .rows i hi .work-codes d l)
             | no n ↦
-              let b : ℕ = d - m WORKERS i TAIL in
-              let e : m WORKERS i TAIL + b ≡ d = omega arith in
-              let g : b < letterLength j i m = omega (arith, longer j i m room) in
-              subst (λ c. Code sys (takenM j i m WORK i c)) e
-              (rw (new-work j i m room b g) (inv .rows j hj .log-codes (letterStart j i m + b) (omega arith)))
+                let b : ℕ = d - m WORKERS i TAIL in
+                let e : m WORKERS i TAIL + b ≡ d = omega arith in
+                let g : b < letterLength j i m = omega (arith, longer j i m room) in
+                subst (λ c. Code sys (takenM j i m WORK i c)) e
+                (rw (new-work j i m room b g) (inv .rows j hj .log-codes (letterStart j i m + b) (omega arith)))
           ]
 
   totals : Totals sys (takenM j i m) t
@@ -151,31 +150,31 @@ module _ (sys : System) (m : Mem) (t : Tally) (j i : ℕ) (inv : Inv sys (record
         own-cursor = λ k p. old-cursor j i m room k k (λ e q. apart (sym q ∙ e)) ∙ u .own-cursor k p;
         cursor = λ l k p q. omega (arith, cursors l k p q, column j i m room l SENDS (omega arith) (omega arith));
         pushed = λ k p.
-          total-read j i m room (sys .workers) TAIL LOGEND (m BOUNDS) hj
-          (omega (arith, longer j i m room, inv .rows j hj .bounds-rise (m CURSORS j i) unread))
-          (λ k n. column j i m room k TAIL (λ e. n) (omega arith))
-          (λ k. column j i m room k LOGEND (omega arith) (omega arith)) k (u .pushed k p)
-          ∙ ap (λ x. takenM j i m WORKERS k LOGEND + x) (bounds k);
+            total-read j i m room (sys .workers) TAIL LOGEND (m BOUNDS) hj
+            (omega (arith, longer j i m room, inv .rows j hj .bounds-rise (m CURSORS j i) unread))
+            (λ k n. column j i m room k TAIL (λ e. n) (omega arith))
+            (λ k. column j i m room k LOGEND (omega arith) (omega arith)) k (u .pushed k p)
+            ∙ ap (λ x. takenM j i m WORKERS k LOGEND + x) (bounds k);
         counted = λ k p.
-          total-read j i m room (sys .workers) LISTS SENDS (λ l c. c) hj (omega (arith, more-lists j i m room))
-          (λ k n. column j i m room k LISTS (omega arith) (λ e. n))
-          (λ k. column j i m room k SENDS (omega arith) (omega arith)) k (u .counted k p);
+            total-read j i m room (sys .workers) LISTS SENDS (λ l c. c) hj (omega (arith, more-lists j i m room))
+            (λ k n. column j i m room k LISTS (omega arith) (λ e. n))
+            (λ k. column j i m room k SENDS (omega arith) (omega arith)) k (u .counted k p);
         logged =
-          logged-kept m (takenM j i m) sys (λ k. column j i m room k LOGEND (omega arith) (omega arith))
-          (region j i m room DOMAIN (omega arith))
-          ∙ u .logged;
+            logged-kept m (takenM j i m) sys (λ k. column j i m room k LOGEND (omega arith) (omega arith))
+            (region j i m room DOMAIN (omega arith))
+            ∙ u .logged;
         all-out = λ k p.
-          lists-out-kept m (takenM j i m) k (m WORKERS k OUTEND) (takenM j i m WORKERS k OUTEND)
-          (column j i m room k OUTEND (omega arith) (omega arith)) (λ e l. region j i m room OUT (omega arith) k e)
-          ∙ u .all-out k p
-          ∙ sym (column j i m room k SENDS (omega arith) (omega arith));
+            lists-out-kept m (takenM j i m) k (m WORKERS k OUTEND) (takenM j i m WORKERS k OUTEND)
+            (column j i m room k OUTEND (omega arith) (omega arith)) (λ e l. region j i m room OUT (omega arith) k e)
+            ∙ u .all-out k p
+            ∙ sym (column j i m room k SENDS (omega arith) (omega arith));
         heard =
-          u .heard
-          ∙ sym
-          (heard-kept m (takenM j i m) (sys .workers)
-          (λ k p.
-          column j i m room k OUTREAD (omega arith) (omega arith))
-          (λ k e p l. region j i m room OUT (omega arith) k e));
+            u .heard
+            ∙ sym
+            (heard-kept m (takenM j i m) (sys .workers)
+            (λ k p.
+            column j i m room k OUTREAD (omega arith) (omega arith))
+            (λ k e p l. region j i m room OUT (omega arith) k e));
       }
     where
       cursors : (l k : ℕ) → l < sys .workers → k < sys .workers → takenM j i m CURSORS l k ≤ m WORKERS l SENDS
@@ -183,13 +182,13 @@ module _ (sys : System) (m : Mem) (t : Tally) (j i : ℕ) (inv : Inv sys (record
           elim (ℕ-discrete k i) [
             | yes e ↦ elim (ℕ-discrete l j) [
               | yes f ↦
-                omega (
-                  arith,
-                  ap (takenM j i m CURSORS l) e,
-                  ap (λ x. takenM j i m CURSORS x i) f,
-                  ap (λ x. m WORKERS x SENDS) f,
-                  new-cursor j i m room,
-                )
+                  omega (
+                    arith,
+                    ap (takenM j i m CURSORS l) e,
+                    ap (λ x. takenM j i m CURSORS x i) f,
+                    ap (λ x. m WORKERS x SENDS) f,
+                    new-cursor j i m room,
+                  )
               | no n ↦ omega (arith, old-cursor j i m room l k (λ x. n), inv .totals .cursor l k p q)
             ]
             | no n ↦ omega (arith, old-cursor j i m room l k (λ x. absurd (n x)), inv .totals .cursor l k p q)

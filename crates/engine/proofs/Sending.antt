@@ -1,25 +1,21 @@
 -- Sending keeps the invariant: the unsent end of the log becomes one more list message.
-use Prim.Native.Nat.{ℕ, suc, _+_, _-_, _<_, _≤_}
-use mathlib.Core.Bool.{Bool, true, false}
-use mathlib.Core.Logic.{_⊎_, inl, inr, ⊎-elim}
-use mathlib.Core.Option.{Option, none, some}
+use Prim.Native.Nat.{ℕ, _+_, _<_, _≤_}
+use mathlib.Core.Logic.{inl, ⊎-elim}
+use mathlib.Core.Option.{some}
 use mathlib.Core.Path.{_≡_, refl, sym, _∙_, ap}
-use native.Mathlib.Numerals.{add-one}
 use native.Mathlib.Omega.{arith}
 use borrow.Author.Tests.{eqb-false, le-leb, ne-eqb}
-use lib.Dec.{leb, ltb, eqb}
-use Rattle.base.proofs.Below.{below-cases}
+use lib.Dec.{ltb, eqb}
 use Rattle.base.proofs.Sums.{sum-ext}
 use Rattle.base.specs.Below.{sumBelow, one}
 use Rattle.disac4.specs.System.{System}
 use Rattle.disac4.specs.declared.Tally.{Tally}
-use Rattle.engine.specs.Layout.{WORKERS, CURSORS, BOUNDS, LOG, WORK, OUT, WANTED, DOMAIN, HEADS, HEAD, TAIL, LOGEND, SENDS, LISTS, HELD, POLLS, OUTEND, OUTREAD}
-use Rattle.engine.specs.Memory.{Mem, store}
+use Rattle.engine.specs.Layout.{WORKERS, CURSORS, BOUNDS, OUT, LOGEND, SENDS, LISTS, OUTEND}
+use Rattle.engine.specs.Memory.{Mem}
 use Rattle.engine.specs.Messages.{sendM, sentM}
-use Rattle.engine.specs.Step.{Machine}
 use Rattle.engine.specs.View.{LISTMARK}
-use Rattle.engine.proofs.Frame.{OnlyRow, SameRow, Answered, row-action, follows-itself}
-use Rattle.engine.proofs.Inv.{Row, Replied, Totals, Inv, listsOut}
+use Rattle.engine.proofs.Frame.{OnlyRow, Answered, row-action, follows-itself}
+use Rattle.engine.proofs.Inv.{Row, Totals, Inv}
 use Rattle.engine.proofs.Outgoing.{Put, put-lists, put-counted, put-heard}
 use Rattle.engine.proofs.Stores.{and-never, store-same, store-other, each-row, up-to, if-some, unless-some, some-same}
 
@@ -83,15 +79,15 @@ module _ (sys : System) (m : Mem) (t : Tally) (i : ℕ) (inv : Inv sys (record {
         queue = r .queue;
         first-bound = old-bound i m i 0 (omega arith) ∙ r .first-bound;
         bounds-rise = λ n l.
-          up-to (λ n. sentM i m BOUNDS i n < sentM i m BOUNDS i (n + 1)) (m WORKERS i SENDS)
-          (omega (arith, new-bound i m, old-bound i m i (m WORKERS i SENDS) (omega arith), r .last-bound, unsent))
-          (λ n g. omega (arith, old-bound i m i n (omega arith), old-bound i m i (n + 1) (omega arith), r .bounds-rise n g))
-          n (omega (arith, more-sends i m));
+            up-to (λ n. sentM i m BOUNDS i n < sentM i m BOUNDS i (n + 1)) (m WORKERS i SENDS)
+            (omega (arith, new-bound i m, old-bound i m i (m WORKERS i SENDS) (omega arith), r .last-bound, unsent))
+            (λ n g. omega (arith, old-bound i m i n (omega arith), old-bound i m i (n + 1) (omega arith), r .bounds-rise n g))
+            n (omega (arith, more-sends i m));
         last-bound = rw (more-sends i m, new-bound i m) (omega arith);
         out-read = omega (arith, put i m .more, r .out-read);
         out-list =
-          put-lists i (LISTMARK + m WORKERS i SENDS) m (sentM i m) (put i m) (omega (arith, more-sends i m))
-          (λ l. omega (arith, more-sends i m)) (r .out-list);
+            put-lists i (LISTMARK + m WORKERS i SENDS) m (sentM i m) (put i m) (omega (arith, more-sends i m))
+            (λ l. omega (arith, more-sends i m)) (r .out-list);
         polls-read = r .polls-read;
         held-read = r .held-read;
         log-codes = r .log-codes;
@@ -105,31 +101,31 @@ module _ (sys : System) (m : Mem) (t : Tally) (i : ℕ) (inv : Inv sys (record {
       record {
         own-cursor = u .own-cursor;
         cursor = λ j k p q.
-          each-row (λ j. m CURSORS j k ≤ m WORKERS j SENDS → m CURSORS j k ≤ sentM i m WORKERS j SENDS) i
-          (λ l. omega (arith, more-sends i m)) (λ j n l. omega (arith, other-rows i m j SENDS n)) j (u .cursor j k p q);
+            each-row (λ j. m CURSORS j k ≤ m WORKERS j SENDS → m CURSORS j k ≤ sentM i m WORKERS j SENDS) i
+            (λ l. omega (arith, more-sends i m)) (λ j n l. omega (arith, other-rows i m j SENDS n)) j (u .cursor j k p q);
         pushed = λ k p.
-          u .pushed k p
-          ∙ ap (λ x. m WORKERS k LOGEND + x)
-          (sum-ext (sys .workers) (λ j. m BOUNDS j (m CURSORS j k)) (λ j. sentM i m BOUNDS j (m CURSORS j k)) (λ j q.
-          sym
-          (old-bound i m j (m CURSORS j k) (λ x e.
-          omega (arith, u .cursor j k q p, ap (λ x. m WORKERS x SENDS) e)))));
+            u .pushed k p
+            ∙ ap (λ x. m WORKERS k LOGEND + x)
+            (sum-ext (sys .workers) (λ j. m BOUNDS j (m CURSORS j k)) (λ j. sentM i m BOUNDS j (m CURSORS j k)) (λ j q.
+            sym
+            (old-bound i m j (m CURSORS j k) (λ x e.
+            omega (arith, u .cursor j k q p, ap (λ x. m WORKERS x SENDS) e)))));
         counted = λ k p.
-          each-row
-          (λ k. m WORKERS k LISTS ≡ m WORKERS k SENDS + sumBelow (sys .workers) (λ j. m CURSORS j k)
-          → sentM i m WORKERS k LISTS ≡ sentM i m WORKERS k SENDS + sumBelow (sys .workers) (λ j. m CURSORS j k)) i
-          (λ e. omega (arith, more-lists i m, more-sends i m))
-          (λ k n e. omega (arith, other-rows i m k LISTS n, other-rows i m k SENDS n)) k (u .counted k p);
+            each-row
+            (λ k. m WORKERS k LISTS ≡ m WORKERS k SENDS + sumBelow (sys .workers) (λ j. m CURSORS j k)
+            → sentM i m WORKERS k LISTS ≡ sentM i m WORKERS k SENDS + sumBelow (sys .workers) (λ j. m CURSORS j k)) i
+            (λ e. omega (arith, more-lists i m, more-sends i m))
+            (λ k n e. omega (arith, other-rows i m k LISTS n, other-rows i m k SENDS n)) k (u .counted k p);
         logged = u .logged;
         all-out = λ k p.
-          put-counted i (LISTMARK + m WORKERS i SENDS) m (sentM i m) (put i m)
-          (omega (arith, more-sends i m, ap one (le-leb LISTMARK (LISTMARK + m WORKERS i SENDS) (omega arith))))
-          (λ k n. other-rows i m k SENDS n) k (u .all-out k p);
+            put-counted i (LISTMARK + m WORKERS i SENDS) m (sentM i m) (put i m)
+            (omega (arith, more-sends i m, ap one (le-leb LISTMARK (LISTMARK + m WORKERS i SENDS) (omega arith))))
+            (λ k n. other-rows i m k SENDS n) k (u .all-out k p);
         heard =
-          u .heard
-          ∙ sym
-          (put-heard i (LISTMARK + m WORKERS i SENDS) m (sentM i m) (put i m) (sys .workers) (λ k p.
-          inv .rows k p .out-read));
+            u .heard
+            ∙ sym
+            (put-heard i (LISTMARK + m WORKERS i SENDS) m (sentM i m) (put i m) (sys .workers) (λ k p.
+            inv .rows k p .out-read));
       }
 
   -- a worker that has labels to send has not replied at its present count
