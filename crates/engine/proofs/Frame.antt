@@ -209,6 +209,7 @@ pub record Follows (m : Mem) (t t′ : Tally) : Type 0 where
   pub polled : Polled m t′
   pub replied : (i : ℕ) → Replied m t i → Replied m t′ i
 
+-- an action of a worker leaves the tally as it is
 pub follows-itself : (m : Mem) (t : Tally) → Polled m t → Follows m t t
 follows-itself m t p = record { later = omega arith; polled = p; replied = λ i r. r }
 

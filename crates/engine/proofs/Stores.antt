@@ -26,6 +26,7 @@ module _ (m : Mem) (r i j v : ℕ) where
       apart (eqb-true s r (and-left (eqb s r) (eqb l j) place)) (eqb-true l j (and-right (eqb s r) (eqb l j) place))
       (eqb-true k i (and-right (eqb s r && eqb l j) (eqb k i) e))))
 
+-- a test that fails makes both fail
 pub and-never : (b : Bool) → b && false ≡ false
 and-never b = and-false-right b refl
 
