@@ -1,5 +1,16 @@
+pub mod Answering
 pub mod Behind
+pub mod Capacity
 pub mod Cleared
+pub mod Copied
+pub mod Frame
+pub mod Hearing
+pub mod Keeps
+pub mod Outgoing
+pub mod Polling
+pub mod Reading
 pub mod Regions
 pub mod RoundsLeft
 pub mod Runs
+pub mod Sending
+pub mod Stores
