@@ -6,8 +6,11 @@ pub mod Copied
 pub mod Frame
 pub mod Hearing
 pub mod Keeps
+pub mod ListLaws
+pub mod MessageLaws
 pub mod Outgoing
 pub mod Polling
+pub mod Ranges
 pub mod Reading
 pub mod Regions
 pub mod RoundsLeft
