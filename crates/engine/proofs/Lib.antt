@@ -1,2 +1,4 @@
+pub mod Between
+pub mod Capacity
 pub mod Inv
 pub mod Regions
