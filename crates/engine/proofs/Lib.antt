@@ -1,4 +1,7 @@
+pub mod Actors
 pub mod Between
 pub mod Capacity
+pub mod Grown
 pub mod Inv
 pub mod Regions
+pub mod Seen
