@@ -82,6 +82,25 @@ module _ {ℓ} {A : Type ℓ} (sys : System) where
           r (k - 1) (omega arith) (λ q. n (omega arith))
       go false p n = refl
 
+-- one list more on row `i`'s counter, beside the controller's
+pub counters-more : (sys : System) (f g : ℕ → ℕ) (c i : ℕ) → i < sys .workers → g i ≡ f i + 1
+    → ((j : ℕ) → j < sys .workers → (j ≡ i → ⊥) → g j ≡ f j) → (k : ℕ)
+    → cond (eqb k 0) c (atActor sys g 0 k)
+    ≡ update (λ k. cond (eqb k 0) c (atActor sys f 0 k)) (suc i) (suc (cond (eqb (suc i) 0) c (atActor sys f 0 (suc i)))) k
+counters-more sys f g c i h e r k =
+    elim (ℕ-discrete k 0) [
+      | yes z ↦ rw z (sym (update-other lists (suc i) (suc (lists (suc i))) 0 (λ q. omega arith)))
+      | no n ↦ cond-false c (atActor sys g 0 k) (ne-eqb k 0 n)
+      ∙ actors-update sys f g 0 i (suc (lists (suc i))) h (omega (arith, own)) r k
+      ∙ ap (λ (x : ℕ). cond (eqb k (suc i)) (suc (lists (suc i))) x) (sym (cond-false c (atActor sys f 0 k) (ne-eqb k 0 n)))
+    ]
+  where
+    lists : ℕ → ℕ
+    lists k = cond (eqb k 0) c (atActor sys f 0 k)
+
+    own : lists (suc i) ≡ f i
+    own = cond-false c (atActor sys f 0 (suc i)) (ne-eqb (suc i) 0 (λ q. omega arith)) ∙ at-worker sys f 0 i h
+
 -- ---- channels: between workers, to the controller, and from it
 
 pub record Rows : Type 0 where
@@ -158,22 +177,29 @@ module _ (sys : System) (r : Rows) where
       go false p false q c x d y true z = refl
       go false p false q c x d y false z = refl
 
--- the rows agree, but for the channel from `a` to `b`
-pub record Elsewhere (sys : System) (a b : ℕ) (r r′ : Rows) : Type 0 where
-  pub letters : (j i : ℕ) → j < sys .workers → i < sys .workers → (suc j ≡ a → suc i ≡ b → ⊥) → r′ .letters j i ≡ r .letters j i
-  pub out : (j : ℕ) → j < sys .workers → (suc j ≡ a → 0 ≡ b → ⊥) → r′ .out j ≡ r .out j
-  pub polls : (i : ℕ) → i < sys .workers → (0 ≡ a → suc i ≡ b → ⊥) → r′ .polls i ≡ r .polls i
+-- the rows agree in the channels that stay
+pub record Stays (sys : System) (N : ℕ → ℕ → Type 0) (r r′ : Rows) : Type 0 where
+  pub letters : (j i : ℕ) → j < sys .workers → i < sys .workers → N (suc j) (suc i) → r′ .letters j i ≡ r .letters j i
+  pub out : (j : ℕ) → j < sys .workers → N (suc j) 0 → r′ .out j ≡ r .out j
+  pub polls : (i : ℕ) → i < sys .workers → N 0 (suc i) → r′ .polls i ≡ r .polls i
+
+pub channels-stay : (sys : System) (N : ℕ → ℕ → Type 0) (r r′ : Rows) → Stays sys N r r′ → (j k : ℕ) → N j k
+    → atChannel sys r′ j k ≡ atChannel sys r j k
+channels-stay sys N r r′ st =
+    by-channel sys (λ j k. N j k → atChannel sys r′ j k ≡ atChannel sys r j k)
+    (λ j i hj hi n o. at-letters sys r′ j i hj hi n ∙ st .letters j i hj hi o ∙ sym (at-letters sys r j i hj hi n))
+    (λ j hj o. at-out sys r′ j hj ∙ st .out j hj o ∙ sym (at-out sys r j hj))
+    (λ i hi o. at-polls sys r′ i hi ∙ st .polls i hi o ∙ sym (at-polls sys r i hi))
+    (λ j k n o. at-none sys r′ j k n ∙ sym (at-none sys r j k n))
 
 -- one channel changes
+abbrev pub Beside : ℕ → ℕ → ℕ → ℕ → Type 0
+Beside a b j k = j ≡ a → k ≡ b → ⊥
+
 pub channels-update : (sys : System) (r r′ : Rows) (a b : ℕ) (l : List Message) → atChannel sys r′ a b ≡ l
-    → Elsewhere sys a b r r′ → (j k : ℕ) → atChannel sys r′ j k ≡ update₂ (atChannel sys r) a b l j k
-channels-update sys r r′ a b l here el =
-    update₂-each (λ j k x. atChannel sys r′ j k ≡ x) (atChannel sys r) a b l here
-    (by-channel sys (λ j k. (j ≡ a → k ≡ b → ⊥) → atChannel sys r′ j k ≡ atChannel sys r j k)
-    (λ j i hj hi n o. at-letters sys r′ j i hj hi n ∙ el .letters j i hj hi o ∙ sym (at-letters sys r j i hj hi n))
-    (λ j hj o. at-out sys r′ j hj ∙ el .out j hj o ∙ sym (at-out sys r j hj))
-    (λ i hi o. at-polls sys r′ i hi ∙ el .polls i hi o ∙ sym (at-polls sys r i hi))
-    (λ j k n o. at-none sys r′ j k n ∙ sym (at-none sys r j k n)))
+    → Stays sys (Beside a b) r r′ → (j k : ℕ) → atChannel sys r′ j k ≡ update₂ (atChannel sys r) a b l j k
+channels-update sys r r′ a b l here st =
+    update₂-each (λ j k x. atChannel sys r′ j k ≡ x) (atChannel sys r) a b l here (channels-stay sys (Beside a b) r r′ st)
 
 -- a broadcast reaches neither its sender nor whoever is no actor
 broadcast-outside : (p k : ℕ) (m : Message) (c : ℕ → ℕ → List Message) (i : ℕ) → (i ≤ p → (k ≡ i → ⊥) → ⊥)
@@ -190,12 +216,13 @@ broadcast-outside p k m c i n =
 -- actor `k` sends to every other
 pub channels-broadcast : (sys : System) (r r′ : Rows) (k : ℕ) (m : Message) → k ≤ sys .workers
     → ((i : ℕ) → i ≤ sys .workers → (i ≡ k → ⊥) → atChannel sys r′ k i ≡ atChannel sys r k i ++ (m ∷ []))
-    → ((j i : ℕ) → (j ≡ k → ⊥) → atChannel sys r′ j i ≡ atChannel sys r j i)
+    → Stays sys (λ j i. j ≡ k → ⊥) r r′
     → (j i : ℕ) → atChannel sys r′ j i ≡ broadcast (sys .workers) k m (atChannel sys r) j i
-channels-broadcast sys r r′ k m h own other j i =
+channels-broadcast sys r r′ k m h own st j i =
     elim (ℕ-discrete j k) [
       | yes e ↦ rw e (to i)
-      | no n ↦ other j i n ∙ sym (broadcast-sender (sys .workers) k m (atChannel sys r) j i n)
+      | no n ↦ channels-stay sys (λ j i. j ≡ k → ⊥) r r′ st j i n
+      ∙ sym (broadcast-sender (sys .workers) k m (atChannel sys r) j i n)
     ]
   where
     none : (i : ℕ) → (k ≤ sys .workers → i ≤ sys .workers → (k ≡ i → ⊥) → ⊥)

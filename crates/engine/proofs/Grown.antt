@@ -7,8 +7,10 @@ use mathlib.Core.Option.{Option, none, some}
 use mathlib.Core.Path.{_≡_, refl, sym, _∙_, ap, ap₂}
 use native.Mathlib.Nat.{le-refl}
 use native.Mathlib.Omega.{arith}
-use borrow.Author.Tests.{leb-true}
+use borrow.Author.Tests.{leb-true, eqb-true}
 use lib.Dec.{leb, eqb}
+use Rattle.base.proofs.Bools.{and-left, and-right, refuted}
+use Rattle.base.proofs.Choice.{cond-false}
 use Rattle.disac4.specs.State.{Message, list, poll, reply}
 use Rattle.disac4.specs.System.{System}
 use Rattle.disac4.specs.declared.Tally.{Tally}
@@ -27,6 +29,13 @@ pub record Grown (sys : System) (m : Mem) (t : Tally) (m′ : Mem) : Type 0 wher
   pub bounds : (i : ℕ) → i < sys .workers → (n : ℕ) → n ≤ m WORKERS i SENDS → m′ BOUNDS i n ≡ m BOUNDS i n
   pub outs : (i : ℕ) → i < sys .workers → (e : ℕ) → e < m WORKERS i OUTEND → m′ OUT i e ≡ m OUT i e
   pub wanted : (n : ℕ) → n ≤ t .timestamp .0 → m′ WANTED 0 n ≡ m WANTED 0 n
+
+-- a store at another place of a region leaves a place as it was
+pub behind : (f : ℕ → ℕ → ℕ) (i c v j n : ℕ) → (j ≡ i → n ≡ c → ⊥) → cond (eqb n c && eqb j i) v (f j n) ≡ f j n
+behind f i c v j n h =
+    cond-false v (f j n)
+    (refuted (eqb n c && eqb j i)
+    (λ e. h (eqb-true j i (and-right (eqb n c) (eqb j i) e)) (eqb-true n c (and-left (eqb n c) (eqb j i) e))))
 
 -- a poll by its number
 pub poll-kept : (m m′ : Mem) (n : ℕ) → m′ WANTED 0 n ≡ m WANTED 0 n → pollAt m′ n ≡ pollAt m n

@@ -5,3 +5,4 @@ pub mod Grown
 pub mod Inv
 pub mod Regions
 pub mod Seen
+pub mod Sent

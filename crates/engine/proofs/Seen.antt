@@ -1,14 +1,17 @@
 -- A machine as the state that it stands for, and a state by its parts.
-use Prim.Native.Nat.{ℕ}
+use Prim.Native.Nat.{ℕ, _+_, _-_, _<_}
 use mathlib.Core.Bool.{Bool, true, false, cond}
 use mathlib.Core.Option.{Option, none, some}
-use mathlib.Core.Path.{_≡_, refl, fun-ext}
-use Rattle.disac4.specs.State.{State}
+use mathlib.Core.Path.{_≡_, refl, _∙_, ap, fun-ext}
+use native.Mathlib.Omega.{arith}
+use borrow.Author.Tests.{le-leb, lt-leb}
+use Rattle.base.proofs.Choice.{cond-true, cond-false}
+use Rattle.disac4.specs.State.{State, list, reply}
 use Rattle.disac4.specs.System.{System}
 use Rattle.disac4.specs.declared.Tally.{Tally}
 use Rattle.engine.specs.Memory.{Mem}
 use Rattle.engine.specs.Step.{Machine}
-use Rattle.engine.specs.View.{view, viewLetters, viewOut, viewPolls}
+use Rattle.engine.specs.View.{LISTMARK, view, labelsBetween, listAt, messageOf, pollAt, counterRow, viewWork, viewSend, viewHeld, viewLists, viewLetters, viewPolls, viewOut, viewChannel, viewCounter}
 use Rattle.engine.proofs.Actors.{Rows}
 
 -- what an action gives, seen through a function
@@ -18,6 +21,11 @@ mapO f (some a) = some (f a)
 
 abbrev pub viewOf : System → Machine → State
 viewOf sys s = view sys (s .mem) (s .tally)
+
+-- Named on an `unfolding` line, this opens the view down to the channels' contents.
+unfoldable pub view-parts : Unit {0}
+unfolding view labelsBetween pollAt counterRow viewWork viewSend viewHeld viewLists viewChannel viewCounter
+view-parts = tt
 
 -- the channels that a memory and a tally stand for
 abbrev pub rowsOf : Mem → Tally → Rows
@@ -54,3 +62,28 @@ same-state s s′ e = λ i. record {
     closed = e .closed i;
   };
 }
+
+-- a choice between idle and an action
+pub mapO-cond {ℓ κ} : {A : Type ℓ} {B : Type κ} (f : A → B) (b : Bool) (a : A) (c : B) → f a ≡ c
+    → mapO f (cond b (some a) none) ≡ cond b (some c) none
+mapO-cond f true a c e = ap some e
+mapO-cond f false a c e = refl
+
+-- the other way round
+pub mapO-unless {ℓ κ} : {A : Type ℓ} {B : Type κ} (f : A → B) (b : Bool) (a : A) (c : B) → f a ≡ c
+    → mapO f (cond b none (some a)) ≡ cond b none (some c)
+mapO-unless f true a c e = refl
+mapO-unless f false a c e = ap some e
+
+-- a number from 1,024 on stands for a list message
+pub list-code : (m : Mem) (i c n : ℕ) → c ≡ LISTMARK + n → messageOf m i c ≡ list (listAt m i n)
+unfolding messageOf
+list-code m i c n e =
+    let d : c - LISTMARK ≡ n = omega arith in
+    cond-true (list (listAt m i (c - LISTMARK))) (reply (record { 0 = c })) (le-leb LISTMARK c (omega arith))
+    ∙ ap (λ (k : ℕ). list (listAt m i k)) d
+
+-- any other for a reply
+pub reply-code : (m : Mem) (i c : ℕ) → c < LISTMARK → messageOf m i c ≡ reply (record { 0 = c })
+unfolding messageOf
+reply-code m i c l = cond-false (list (listAt m i (c - LISTMARK))) (reply (record { 0 = c })) (lt-leb LISTMARK c l)
