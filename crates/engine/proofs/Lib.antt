@@ -2,7 +2,9 @@ pub mod Actors
 pub mod Between
 pub mod Capacity
 pub mod Grown
+pub mod HeldPoll
 pub mod Inv
+pub mod PollRead
 pub mod Regions
 pub mod Seen
 pub mod Sent

@@ -132,7 +132,8 @@ module _ (sys : System) (small : Small sys) (s : Machine) (inv : Inv sys s) (i :
         lt-ltb (m WORKERS i LISTS) 65535 (omega (arith, lists-few sys small s inv i h)),
       )
 
-  nothing-to-send : isEmpty (viewSend sys m (suc i)) ≡ eqb (m BOUNDS i (m WORKERS i SENDS)) (m WORKERS i LOGEND)
+  -- nothing is to be sent exactly if the last list message ends where the log does
+  pub nothing-to-send : isEmpty (viewSend sys m (suc i)) ≡ eqb (m BOUNDS i (m WORKERS i SENDS)) (m WORKERS i LOGEND)
   unfolding viewSend labelsBetween
   nothing-to-send =
       ap isEmpty
