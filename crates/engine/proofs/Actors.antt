@@ -82,6 +82,12 @@ module _ {ℓ} {A : Type ℓ} (sys : System) where
           r (k - 1) (omega arith) (λ q. n (omega arith))
       go false p n = refl
 
+-- row `i`'s counter, beside the controller's
+pub counter-worker : (sys : System) (f : ℕ → ℕ) (c i : ℕ) → i < sys .workers
+    → cond (eqb (suc i) 0) c (atActor sys f 0 (suc i)) ≡ f i
+counter-worker sys f c i h =
+    cond-false c (atActor sys f 0 (suc i)) (ne-eqb (suc i) 0 (λ q. omega arith)) ∙ at-worker sys f 0 i h
+
 -- one list more on row `i`'s counter, beside the controller's
 pub counters-more : (sys : System) (f g : ℕ → ℕ) (c i : ℕ) → i < sys .workers → g i ≡ f i + 1
     → ((j : ℕ) → j < sys .workers → (j ≡ i → ⊥) → g j ≡ f j) → (k : ℕ)
@@ -91,15 +97,12 @@ counters-more sys f g c i h e r k =
     elim (ℕ-discrete k 0) [
       | yes z ↦ rw z (sym (update-other lists (suc i) (suc (lists (suc i))) 0 (λ q. omega arith)))
       | no n ↦ cond-false c (atActor sys g 0 k) (ne-eqb k 0 n)
-      ∙ actors-update sys f g 0 i (suc (lists (suc i))) h (omega (arith, own)) r k
+      ∙ actors-update sys f g 0 i (suc (lists (suc i))) h (omega (arith, counter-worker sys f c i h)) r k
       ∙ ap (λ (x : ℕ). cond (eqb k (suc i)) (suc (lists (suc i))) x) (sym (cond-false c (atActor sys f 0 k) (ne-eqb k 0 n)))
     ]
   where
     lists : ℕ → ℕ
     lists k = cond (eqb k 0) c (atActor sys f 0 k)
-
-    own : lists (suc i) ≡ f i
-    own = cond-false c (atActor sys f 0 (suc i)) (ne-eqb (suc i) 0 (λ q. omega arith)) ∙ at-worker sys f 0 i h
 
 -- ---- channels: between workers, to the controller, and from it
 

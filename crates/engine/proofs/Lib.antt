@@ -1,4 +1,6 @@
 pub mod Actors
+pub mod Answered
+pub mod Asked
 pub mod Between
 pub mod Capacity
 pub mod Grown
