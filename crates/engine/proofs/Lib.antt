@@ -4,8 +4,10 @@ pub mod Asked
 pub mod Between
 pub mod Capacity
 pub mod Grown
+pub mod Heard
 pub mod HeldPoll
 pub mod Inv
+pub mod Marks
 pub mod PollRead
 pub mod Regions
 pub mod Seen
