@@ -3,6 +3,7 @@ pub mod Answered
 pub mod Asked
 pub mod Between
 pub mod Capacity
+pub mod Copied
 pub mod Grown
 pub mod Heard
 pub mod HeldPoll
