@@ -13,3 +13,4 @@ pub mod PollRead
 pub mod Regions
 pub mod Seen
 pub mod Sent
+pub mod Taken
