@@ -13,4 +13,5 @@ pub mod PollRead
 pub mod Regions
 pub mod Seen
 pub mod Sent
+pub mod Stepped
 pub mod Taken
