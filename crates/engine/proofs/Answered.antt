@@ -2,27 +2,28 @@
 use Prim.Native.Nat.{ℕ, suc, _+_, _<_}
 use mathlib.Core.Bool.{Bool, true, false, cond, _&&_}
 use mathlib.Core.List.{List, [], _∷_, _++_}
-use mathlib.Core.Option.{Option, none, some}
+use mathlib.Core.Option.{none, some}
 use mathlib.Core.Path.{_≡_, refl, sym, _∙_, ap, ap₂}
 use native.Mathlib.Omega.{arith}
-use borrow.Author.Tests.{lt-ltb, ne-eqb}
+use borrow.Author.Tests.{lt-ltb}
 use lib.Dec.{eqb}
-use Rattle.base.proofs.Choice.{cond-true, cond-false, update-same, update-other, update₂-same}
+use Rattle.base.proofs.Choice.{update-same, update-other, update₂-same}
 use Rattle.disac4.specs.Action.{isEmpty, pollOf, afterAnswer, ready, answerTo, answer}
-use Rattle.disac4.specs.State.{State, Poll, Message, reply}
+use Rattle.disac4.specs.State.{Poll, Message, reply}
 use Rattle.disac4.specs.System.{System}
 use Rattle.disac4.specs.declared.Tally.{Tally}
 use Rattle.engine.specs.Layout.{WORKERS, BOUNDS, WORK, OUT, WANTED, HEAD, TAIL, LOGEND, SENDS, LISTS, HELD, OUTEND}
 use Rattle.engine.specs.Memory.{Mem}
 use Rattle.engine.specs.Messages.{answeredM, answerM}
 use Rattle.engine.specs.Step.{Machine}
-use Rattle.engine.specs.View.{labelOf, labelsBetween, messageOf, pollAt, view, viewWork, viewSend, viewLists, viewOut, viewHeld}
-use Rattle.engine.proofs.Actors.{at-worker, counter-worker, at-out, Stays, Beside, channels-update}
-use Rattle.engine.proofs.Between.{between-empty}
+use Rattle.engine.specs.View.{labelOf, labelsBetween, messageOf, pollAt, view, viewWork, viewLists, viewOut}
+use Rattle.engine.proofs.Actors.{at-worker, counter-worker}
 use Rattle.engine.proofs.Capacity.{sends-few, outend-few, held-few, timestamp-few}
-use Rattle.engine.proofs.Grown.{Grown, behind, letters-same, out-same, out-put, polls-same}
+use Rattle.engine.proofs.ChannelRows.{at-out, Stays, Beside, channels-update}
+use Rattle.engine.proofs.Grown.{Grown, behind, outQueue, out-kept, channels-kept}
 use Rattle.engine.proofs.HeldPoll.{heldAt, held-worker, held-update}
 use Rattle.engine.proofs.Inv.{Small, Inv}
+use Rattle.engine.proofs.Queue.{queue, queue-put, queue-empty}
 use Rattle.engine.proofs.Seen.{mapO, mapO-cond, viewOf, view-parts, rowsOf, reply-code, same-state}
 use Rattle.engine.proofs.Sent.{nothing-to-send}
 
@@ -54,24 +55,27 @@ module _ (sys : System) (small : Small sys) (s : Machine) (inv : Inv sys s) (i :
     logs = λ j hj d l. refl;
     bounds = λ j hj n l. refl;
     outs = λ j hj n l. behind (m OUT) i (m WORKERS i OUTEND) (m WORKERS i HELD) j n
-    (λ e f. omega (arith, ap (λ (k : ℕ). m WORKERS k OUTEND) e));
+        (λ e f. omega (arith, ap (λ (k : ℕ). m WORKERS k OUTEND) e));
     wanted = λ n l. refl;
   }
 
   other-channels : Stays sys (Beside (suc i) 0) (rowsOf m t) (rowsOf m′ t)
   unfolding answeredM
-  other-channels = record {
-    letters = λ j k hj hk n. letters-same sys small s inv m′ answer-grown j k hj refl refl;
-    out = λ j hj n. out-same sys small s inv m′ answer-grown j hj refl
-    (update-other (λ j. m WORKERS j OUTEND) i (m WORKERS i OUTEND + 1) j (λ e. n (ap suc e) refl));
-    polls = λ k hk n. polls-same sys small s inv m′ answer-grown t k hk refl refl;
-  }
+  other-channels = channels-kept sys small s inv m′ answer-grown t (Beside (suc i) 0) (record {
+    cursors = λ j k hj hk n. refl;
+    sends = λ j k hj hk n. refl;
+    out-read = λ j hj n. refl;
+    out-end = λ j hj n. update-other (λ j. m WORKERS j OUTEND) i (m WORKERS i OUTEND + 1) j (λ e. n (ap suc e) refl);
+    polls = λ k hk n. refl;
+    timestamp = λ k hk n. refl;
+  })
 
   -- the reply is the newest message to the controller
   replied : viewOut m′ i ≡ viewOut m i ++ (reply (held .number) ∷ [])
-  unfolding answeredM held pollAt pollOf
+  unfolding answeredM held pollAt pollOf viewOut
   replied =
-      out-put sys small s inv m′ answer-grown i h refl (update-same (λ j. m WORKERS j OUTEND) i (m WORKERS i OUTEND + 1))
+      queue-put (outQueue m i) (outQueue m′ i) (out-kept sys small s inv m′ answer-grown i h) (inv .rows i h .out-read) refl
+      (update-same (λ j. m WORKERS j OUTEND) i (m WORKERS i OUTEND + 1))
       ∙ ap (λ (a : Message). viewOut m i ++ (a ∷ []))
       (ap (messageOf m′ i) (update₂-same (λ n j. m OUT j n) (m WORKERS i OUTEND) i (m WORKERS i HELD))
       ∙ reply-code m′ i (m WORKERS i HELD) (omega (arith, held-small)))
@@ -86,10 +90,10 @@ module _ (sys : System) (small : Small sys) (s : Machine) (inv : Inv sys s) (i :
     held = held-update sys m m′ i none h here there;
     listCounter = λ k. refl;
     channel = channels-update sys (rowsOf m t) (rowsOf m′ t) (suc i) 0 _
-    (at-out sys (rowsOf m′ t) i h
-    ∙ replied
-    ∙ ap (λ (l : List Message). l ++ (reply (held .number) ∷ [])) (sym (at-out sys (rowsOf m t) i h)))
-    other-channels;
+        (at-out sys (rowsOf m′ t) i h
+        ∙ replied
+        ∙ ap (λ (l : List Message). l ++ (reply (held .number) ∷ [])) (sym (at-out sys (rowsOf m t) i h)))
+        other-channels;
     timestamp = refl;
     pollOpen = refl;
     marked = λ k. refl;
@@ -123,7 +127,7 @@ module _ (sys : System) (small : Small sys) (s : Machine) (inv : Inv sys s) (i :
           unfold viewWork labelsBetween in
           ap isEmpty
           (at-worker sys (λ j. labelsBetween m WORK j (m WORKERS j HEAD) (m WORKERS j TAIL)) [] i h)
-          ∙ between-empty (m WORKERS i HEAD) (m WORKERS i TAIL) (λ d. labelOf (m WORK i d)) (inv .rows i h .queue)
+          ∙ queue-empty (queue (m WORKERS i HEAD) (m WORKERS i TAIL) (λ d. labelOf (m WORK i d))) (inv .rows i h .queue)
 
       count : viewLists sys m t (suc i) ≡ m WORKERS i LISTS
       count = unfold viewLists in counter-worker sys (λ j. m WORKERS j LISTS) (t .lists .0) i h

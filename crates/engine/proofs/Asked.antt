@@ -2,30 +2,30 @@
 use Prim.Native.Nat.{ℕ, zero, suc, _+_, _-_, _≤_, _<_}
 use mathlib.Core.Bool.{Bool, true, false, cond, _&&_, not}
 use mathlib.Core.List.{List, [], _∷_, _++_}
-use mathlib.Core.Option.{Option, none, some}
+use mathlib.Core.Option.{none, some}
 use mathlib.Core.Path.{_≡_, refl, sym, _∙_, ap, ap₂}
 use native.Mathlib.Numerals.{add-one}
 use native.Mathlib.Omega.{arith}
 use borrow.Author.Tests.{lt-ltb}
-use lib.Dec.{ltb, eqb}
+use lib.Dec.{eqb}
 use Rattle.base.proofs.Bools.{and-false-right}
 use Rattle.base.proofs.Choice.{update₂-same}
 use Rattle.base.proofs.Row.{bit-past}
-use Rattle.base.specs.Row.{bit}
 use Rattle.disac4.specs.Action.{pollOf, afterAsk, ask}
-use Rattle.disac4.specs.State.{State, Poll, Message, poll}
+use Rattle.disac4.specs.State.{Poll, Message, poll}
 use Rattle.disac4.specs.System.{System}
 use Rattle.disac4.specs.declared.Tally.{Tally}
-use Rattle.engine.specs.Layout.{WORKERS, WANTED, HELD, POLLS}
+use Rattle.engine.specs.Layout.{WORKERS, WANTED, HELD}
 use Rattle.engine.specs.Memory.{Mem}
 use Rattle.engine.specs.Messages.{askM, askedT, asksT}
 use Rattle.engine.specs.Step.{Machine, pollM}
-use Rattle.engine.specs.View.{isWorker, pollAt, view, viewLists}
-use Rattle.engine.proofs.Actors.{atChannel, at-polls, Stays, channels-broadcast}
+use Rattle.engine.specs.View.{isWorker, pollAt, view, viewLists, viewPolls}
 use Rattle.engine.proofs.Capacity.{held-few, timestamp-few}
-use Rattle.engine.proofs.Grown.{Grown, behind, poll-kept, letters-same, out-same, polls-put}
+use Rattle.engine.proofs.ChannelRows.{atChannel, at-polls, Stays, channels-broadcast}
+use Rattle.engine.proofs.Grown.{Grown, behind, poll-kept, pollsQueue, polls-kept, channels-kept}
 use Rattle.engine.proofs.HeldPoll.{heldAt, held-same}
 use Rattle.engine.proofs.Inv.{Small, Inv}
+use Rattle.engine.proofs.Queue.{queue-put}
 use Rattle.engine.proofs.Seen.{mapO, mapO-unless, viewOf, view-parts, rowsOf, same-state}
 
 module _ (sys : System) (small : Small sys) (s : Machine) (inv : Inv sys s) where
@@ -60,7 +60,7 @@ module _ (sys : System) (small : Small sys) (s : Machine) (inv : Inv sys s) wher
       ap₂ pollOf (add-one (t .timestamp .0)) (update₂-same (λ n j. m WANTED j n) (t .timestamp .0 + 1) 0 (t .lists .0))
 
   asked-view : view sys m′ t′ ≡ afterAsk sys (view sys m t)
-  unfolding view-parts askM askedT afterAsk
+  unfolding view-parts viewPolls askM askedT afterAsk
   asked-view = same-state _ _ (record {
     domain = λ x v. refl;
     counter = λ x v y. refl;
@@ -86,15 +86,19 @@ module _ (sys : System) (small : Small sys) (s : Machine) (inv : Inv sys s) wher
       to zero l n = absurd (n refl)
       to (suc i) l n =
           at-polls sys (rowsOf m′ t′) i l
-          ∙ polls-put sys small s inv m′ asked-grown t′ i l refl refl
+          ∙ queue-put (pollsQueue m t i) (pollsQueue m′ t′ i) (polls-kept sys small s inv m′ asked-grown t′ i)
+          (omega (arith, inv .rows i l .polls-read)) refl refl
           ∙ ap₂ (λ (l : List Message) (q : Poll). l ++ (poll q ∷ [])) (sym (at-polls sys (rowsOf m t) i l)) asked
 
       stays : Stays sys (λ j k. j ≡ 0 → ⊥) (rowsOf m t) (rowsOf m′ t′)
-      stays = record {
-        letters = λ j k hj hk n. letters-same sys small s inv m′ asked-grown j k hj refl refl;
-        out = λ j hj n. out-same sys small s inv m′ asked-grown j hj refl refl;
-        polls = λ k hk n. absurd (n refl);
-      }
+      stays = channels-kept sys small s inv m′ asked-grown t′ (λ j k. j ≡ 0 → ⊥) (record {
+        cursors = λ j k hj hk n. refl;
+        sends = λ j k hj hk n. refl;
+        out-read = λ j hj n. refl;
+        out-end = λ j hj n. refl;
+        polls = λ k hk n. refl;
+        timestamp = λ k hk n. absurd (n refl);
+      })
 
   -- a poll finds room
   ask-room : pollM s ≡ cond (t .polling) none (some after)

@@ -1,34 +1,33 @@
 -- The controller's read in memory is the controller's read.
-use Prim.Native.Nat.{ℕ, zero, suc, _+_, _-_, _^_, _≤_, _<_}
-use mathlib.Core.Bool.{Bool, true, false, cond, _&&_, not}
-use mathlib.Core.List.{List, [], _∷_, _++_}
-use mathlib.Core.Option.{Option, none, some}
-use mathlib.Core.Path.{_≡_, refl, sym, _∙_, ap, ap₂}
-use native.Mathlib.Decide.{ℕ-discrete}
+use Prim.Native.Nat.{ℕ, suc, _+_, _-_, _^_, _<_}
+use mathlib.Core.Bool.{Bool, true, false, cond, _&&_}
+use mathlib.Core.List.{_∷_}
+use mathlib.Core.Option.{none, some}
+use mathlib.Core.Path.{_≡_, refl, sym, _∙_, ap}
 use native.Mathlib.Numerals.{add-one}
 use native.Mathlib.Omega.{arith}
-use borrow.Author.Tests.{lt-ltb, ltb-true, ltb-false, leb-true, leb-false, eq-eqb, ne-eqb}
+use borrow.Author.Tests.{lt-ltb, ltb-true, ltb-false}
 use lib.Dec.{leb, ltb, eqb}
 use Rattle.base.proofs.Choice.{cond-true, cond-false, update-same, update-other}
-use Rattle.base.specs.Below.{allBelow}
 use Rattle.base.specs.Choice.{update, update₂}
 use Rattle.base.specs.Row.{bit}
 use Rattle.disac4.specs.Action.{afterCount, afterMark, afterDrop, allMarked, current, controllerFrom, readController}
-use Rattle.disac4.specs.State.{State, Controller, Message, list, reply}
+use Rattle.disac4.specs.State.{State, Controller, list, reply}
 use Rattle.disac4.specs.System.{System}
 use Rattle.disac4.specs.declared.Tally.{Tally}
 use Rattle.engine.specs.Layout.{WORKERS, OUT, LISTS, OUTEND, OUTREAD}
 use Rattle.engine.specs.Memory.{Mem}
 use Rattle.engine.specs.Messages.{countedT, markedT, toldT, withMark, hasOut, outReadM}
 use Rattle.engine.specs.Step.{Machine, hearM}
-use Rattle.engine.specs.View.{LISTMARK, isWorker, listAt, messageOf, view, viewLists, viewOut, viewChannel}
-use Rattle.engine.proofs.Actors.{atActor, at-worker, actors-update, at-out, Stays, Beside, channels-update}
-use Rattle.engine.proofs.Between.{between-none}
+use Rattle.engine.specs.View.{LISTMARK, isWorker, listAt, messageOf, view, viewLists, viewOut}
+use Rattle.engine.proofs.Actors.{atActor, at-worker, actors-update}
 use Rattle.engine.proofs.Capacity.{heard-few, outend-few}
-use Rattle.engine.proofs.Grown.{Grown, letters-same, out-same, out-taken, polls-same}
+use Rattle.engine.proofs.ChannelRows.{at-out, Stays, Beside, channels-update}
+use Rattle.engine.proofs.Grown.{Grown, outQueue, out-kept, channels-kept}
 use Rattle.engine.proofs.Inv.{Small, Inv}
 use Rattle.engine.proofs.Marks.{all-ext, mark-small, mark-bit, marks-full}
-use Rattle.engine.proofs.Seen.{mapO, viewOf, view-parts, rowsOf, same-state}
+use Rattle.engine.proofs.Queue.{queue-taken, queue-none}
+use Rattle.engine.proofs.Seen.{mapO, viewOf, view-parts, rowsOf, channel-rows, same-state}
 
 module _ (sys : System) (small : Small sys) (s : Machine) (inv : Inv sys s) (i : ℕ) (h : i < sys .workers) where
   abbrev m : Mem
@@ -52,12 +51,14 @@ module _ (sys : System) (small : Small sys) (s : Machine) (inv : Inv sys s) (i :
   -- the channel from worker `i + 1` loses its oldest message, whatever the tally makes of that
   other-channels : (t′ : Tally) → t′ .timestamp .0 ≡ t .timestamp .0 → Stays sys (Beside (suc i) 0) (rowsOf m t) (rowsOf m′ t′)
   unfolding outReadM
-  other-channels t′ e = record {
-    letters = λ j k hj hk n. letters-same sys small s inv m′ heard-grown j k hj refl refl;
-    out = λ j hj n. out-same sys small s inv m′ heard-grown j hj
-    (update-other (λ j. m WORKERS j OUTREAD) i (m WORKERS i OUTREAD + 1) j (λ e. n (ap suc e) refl)) refl;
-    polls = λ k hk n. polls-same sys small s inv m′ heard-grown t′ k hk refl e;
-  }
+  other-channels t′ e = channels-kept sys small s inv m′ heard-grown t′ (Beside (suc i) 0) (record {
+    cursors = λ j k hj hk n. refl;
+    sends = λ j k hj hk n. refl;
+    out-read = λ j hj n. update-other (λ j. m WORKERS j OUTREAD) i (m WORKERS i OUTREAD + 1) j (λ e. n (ap suc e) refl);
+    out-end = λ j hj n. refl;
+    polls = λ k hk n. refl;
+    timestamp = λ k hk n. e;
+  })
 
   -- what the controller makes of the message: its count and the rest of its part
   record Told (t′ : Tally) (lists : ℕ → ℕ) (c : Controller) : Type 0 where
@@ -90,7 +91,7 @@ module _ (sys : System) (small : Small sys) (s : Machine) (inv : Inv sys s) (i :
     held = λ k. refl;
     listCounter = told .listCounter;
     channel = channels-update sys (rowsOf m t) (rowsOf m′ t′) (suc i) 0 (viewOut m′ i)
-    (at-out sys (rowsOf m′ t′) i h) (other-channels t′ (told .timestamp));
+        (at-out sys (rowsOf m′ t′) i h) (other-channels t′ (told .timestamp));
     timestamp = told .timestamp ∙ sym (told .unchanged);
     pollOpen = told .pollOpen;
     marked = told .marked;
@@ -197,7 +198,7 @@ module _ (sys : System) (small : Small sys) (s : Machine) (inv : Inv sys s) (i :
   hear-room =
       rw (
         lt-ltb (m WORKERS i OUTREAD) 520
-        (omega (arith, inv .rows i h .out-read, outend-few sys small s inv i h)),
+            (omega (arith, inv .rows i h .out-read, outend-few sys small s inv i h)),
         lt-ltb (t .lists .0) 65535 (omega (arith, heard-few sys small s inv)),
       )
       (go (ltb (m WORKERS i OUTREAD) (m WORKERS i OUTEND)))
@@ -211,18 +212,13 @@ module _ (sys : System) (small : Small sys) (s : Machine) (inv : Inv sys s) (i :
 
   -- the controller's read in memory is its read
   pub hear-refines : mapO (viewOf sys) (hearM sys i s) ≡ readController sys (suc i) (viewOf sys s)
-  unfolding hearM readController
+  unfolding hearM readController viewOut outReadM
   hear-refines =
       ap (λ (b : Bool). mapO (viewOf sys) (cond b (some heard) none)) hear-room
       ∙ go (ltb (m WORKERS i OUTREAD) (m WORKERS i OUTEND)) refl
     where
-      read : (l : List Message) → viewOut m i ≡ l
-          → controllerFrom sys (suc i) (viewOf sys s) (viewOf sys s .channel (suc i) 0)
-          ≡ controllerFrom sys (suc i) (viewOf sys s) l
-      read l e = ap (controllerFrom sys (suc i) (viewOf sys s)) (channel ∙ e)
-        where
-          channel : viewOf sys s .channel (suc i) 0 ≡ viewOut m i
-          channel = unfold view viewChannel in at-out sys (rowsOf m t) i h
+      channel : viewOf sys s .channel (suc i) 0 ≡ viewOut m i
+      channel = channel-rows sys s (suc i) 0 ∙ at-out sys (rowsOf m t) i h
 
       go : (b : Bool) → ltb (m WORKERS i OUTREAD) (m WORKERS i OUTEND) ≡ b
           → mapO (viewOf sys) (cond b (some heard) none)
@@ -230,13 +226,12 @@ module _ (sys : System) (small : Small sys) (s : Machine) (inv : Inv sys s) (i :
       go true p =
           told-view oldest
           ∙ sym
-          (read (messageOf m i oldest ∷ viewOut m′ i)
-          (unfold outReadM in
-          out-taken sys small s inv m′ heard-grown i h (ltb-true (m WORKERS i OUTREAD) (m WORKERS i OUTEND) p)
+          (ap (controllerFrom sys (suc i) (viewOf sys s))
+          (channel
+          ∙ queue-taken (outQueue m i) (outQueue m′ i) (out-kept sys small s inv m′ heard-grown i h)
+          (ltb-true (m WORKERS i OUTREAD) (m WORKERS i OUTEND) p)
           (update-same (λ j. m WORKERS j OUTREAD) i (m WORKERS i OUTREAD + 1)) refl))
       go false p =
           sym
-          (read []
-          (unfold viewOut in
-          between-none (m WORKERS i OUTREAD) (m WORKERS i OUTEND) (λ e. messageOf m i (m OUT i e))
-          (ltb-false (m WORKERS i OUTREAD) (m WORKERS i OUTEND) p)))
+          (ap (controllerFrom sys (suc i) (viewOf sys s))
+          (channel ∙ queue-none (outQueue m i) (ltb-false (m WORKERS i OUTREAD) (m WORKERS i OUTEND) p)))

@@ -1,8 +1,8 @@
 pub mod Actors
 pub mod Answered
 pub mod Asked
-pub mod Between
 pub mod Capacity
+pub mod ChannelRows
 pub mod Copied
 pub mod Grown
 pub mod Heard
@@ -10,6 +10,7 @@ pub mod HeldPoll
 pub mod Inv
 pub mod Marks
 pub mod PollRead
+pub mod Queue
 pub mod Regions
 pub mod Seen
 pub mod Sent

@@ -1,28 +1,27 @@
 -- Reading a poll in memory is reading from the controller.
 use Prim.Native.Nat.{ℕ, suc, _+_, _<_}
 use mathlib.Core.Bool.{Bool, true, false, cond}
-use mathlib.Core.List.{List, [], _∷_}
-use mathlib.Core.Option.{Option, none, some}
+use mathlib.Core.Option.{none, some}
 use mathlib.Core.Path.{_≡_, refl, sym, _∙_, ap}
 use native.Mathlib.Omega.{arith}
 use borrow.Author.Tests.{ltb-true, ltb-false, ne-eqb}
 use lib.Dec.{ltb, eqb}
 use Rattle.base.proofs.Choice.{cond-false, update-same, update-other}
 use Rattle.disac4.specs.Action.{afterPoll, readFrom, readWorker}
-use Rattle.disac4.specs.State.{State, Poll, Message, poll}
+use Rattle.disac4.specs.State.{Poll}
 use Rattle.disac4.specs.System.{System}
 use Rattle.disac4.specs.declared.Tally.{Tally}
 use Rattle.engine.specs.Layout.{WORKERS, HELD, POLLS}
 use Rattle.engine.specs.Memory.{Mem, store}
 use Rattle.engine.specs.Messages.{readPollM}
 use Rattle.engine.specs.Step.{Machine}
-use Rattle.engine.specs.View.{pollAt, view, viewPolls, viewChannel}
-use Rattle.engine.proofs.Actors.{at-polls, Stays, Beside, channels-update}
-use Rattle.engine.proofs.Between.{between-none}
-use Rattle.engine.proofs.Grown.{Grown, letters-same, out-same, polls-same, polls-taken}
+use Rattle.engine.specs.View.{pollAt, view, viewPolls}
+use Rattle.engine.proofs.ChannelRows.{at-polls, Stays, Beside, channels-update}
+use Rattle.engine.proofs.Grown.{Grown, pollsQueue, polls-kept, channels-kept}
 use Rattle.engine.proofs.HeldPoll.{heldAt, held-update}
 use Rattle.engine.proofs.Inv.{Small, Inv}
-use Rattle.engine.proofs.Seen.{mapO, viewOf, view-parts, rowsOf, same-state}
+use Rattle.engine.proofs.Queue.{queue-taken, queue-none}
+use Rattle.engine.proofs.Seen.{mapO, viewOf, view-parts, rowsOf, channel-rows, same-state}
 
 module _ (sys : System) (small : Small sys) (s : Machine) (inv : Inv sys s) (i : ℕ) (h : i < sys .workers) where
   abbrev m : Mem
@@ -47,12 +46,14 @@ module _ (sys : System) (small : Small sys) (s : Machine) (inv : Inv sys s) (i :
   }
 
   other-channels : Stays sys (Beside 0 (suc i)) (rowsOf m t) (rowsOf m′ t)
-  other-channels = record {
-    letters = λ j k hj hk n. letters-same sys small s inv m′ poll-grown j k hj refl refl;
-    out = λ j hj n. out-same sys small s inv m′ poll-grown j hj refl refl;
-    polls = λ k hk n. polls-same sys small s inv m′ poll-grown t k hk
-    (update-other (λ j. m WORKERS j POLLS) i (m WORKERS i POLLS + 1) k (λ e. n refl (ap suc e))) refl;
-  }
+  other-channels = channels-kept sys small s inv m′ poll-grown t (Beside 0 (suc i)) (record {
+    cursors = λ j k hj hk n. refl;
+    sends = λ j k hj hk n. refl;
+    out-read = λ j hj n. refl;
+    out-end = λ j hj n. refl;
+    polls = λ k hk n. update-other (λ j. m WORKERS j POLLS) i (m WORKERS i POLLS + 1) k (λ e. n refl (ap suc e));
+    timestamp = λ k hk n. refl;
+  })
 
   poll-view : view sys m′ t ≡ afterPoll 0 (suc i) newest (viewPolls m′ t i) (view sys m t)
   unfolding view-parts afterPoll newest
@@ -64,7 +65,7 @@ module _ (sys : System) (small : Small sys) (s : Machine) (inv : Inv sys s) (i :
     held = held-update sys m m′ i (some newest) h here there;
     listCounter = λ k. refl;
     channel = channels-update sys (rowsOf m t) (rowsOf m′ t) 0 (suc i) (viewPolls m′ t i)
-    (at-polls sys (rowsOf m′ t) i h) other-channels;
+        (at-polls sys (rowsOf m′ t) i h) other-channels;
     timestamp = refl;
     pollOpen = refl;
     marked = λ k. refl;
@@ -86,15 +87,11 @@ module _ (sys : System) (small : Small sys) (s : Machine) (inv : Inv sys s) (i :
 
   -- reading a poll in memory is reading from the controller
   pub poll-refines : mapO (λ m′. view sys m′ t) (readPollM i (t .timestamp .0) m) ≡ readWorker 0 (suc i) (viewOf sys s)
-  unfolding readPollM readWorker
+  unfolding readPollM readWorker viewPolls newest
   poll-refines = go (ltb (m WORKERS i POLLS) (t .timestamp .0)) refl
     where
       channel : viewOf sys s .channel 0 (suc i) ≡ viewPolls m t i
-      channel = unfold view viewChannel in at-polls sys (rowsOf m t) i h
-
-      read : (l : List Message) → viewPolls m t i ≡ l
-          → readFrom 0 (suc i) (viewOf sys s) (viewOf sys s .channel 0 (suc i)) ≡ readFrom 0 (suc i) (viewOf sys s) l
-      read l e = ap (readFrom 0 (suc i) (viewOf sys s)) (channel ∙ e)
+      channel = channel-rows sys s 0 (suc i) ∙ at-polls sys (rowsOf m t) i h
 
       go : (b : Bool) → ltb (m WORKERS i POLLS) (t .timestamp .0) ≡ b
           → mapO (λ m′. view sys m′ t) (cond b (some m′) none)
@@ -102,13 +99,13 @@ module _ (sys : System) (small : Small sys) (s : Machine) (inv : Inv sys s) (i :
       go true p =
           ap some poll-view
           ∙ sym
-          (read (poll newest ∷ viewPolls m′ t i)
-          (unfold newest in
-          polls-taken sys small s inv m′ poll-grown t i h (ltb-true (m WORKERS i POLLS) (t .timestamp .0) p)
-          (update-same (λ j. m WORKERS j POLLS) i (m WORKERS i POLLS + 1)) refl))
+          (ap (readFrom 0 (suc i) (viewOf sys s))
+          (channel
+          ∙ queue-taken (pollsQueue m t i) (pollsQueue m′ t i) (polls-kept sys small s inv m′ poll-grown t i)
+          (omega (arith, ltb-true (m WORKERS i POLLS) (t .timestamp .0) p))
+          (ap (λ (n : ℕ). n + 1) (update-same (λ j. m WORKERS j POLLS) i (m WORKERS i POLLS + 1))) refl))
       go false p =
           sym
-          (read []
-          (unfold viewPolls in
-          between-none (m WORKERS i POLLS + 1) (t .timestamp .0 + 1) (λ n. poll (pollAt m n))
-          (omega (arith, ltb-false (m WORKERS i POLLS) (t .timestamp .0) p))))
+          (ap (readFrom 0 (suc i) (viewOf sys s))
+          (channel
+          ∙ queue-none (pollsQueue m t i) (omega (arith, ltb-false (m WORKERS i POLLS) (t .timestamp .0) p))))

@@ -12,13 +12,14 @@ use Rattle.disac4.specs.declared.Tally.{Tally}
 use Rattle.engine.specs.Memory.{Mem}
 use Rattle.engine.specs.Step.{Machine}
 use Rattle.engine.specs.View.{LISTMARK, view, labelsBetween, listAt, messageOf, pollAt, counterRow, viewWork, viewSend, viewHeld, viewLists, viewLetters, viewPolls, viewOut, viewChannel, viewCounter}
-use Rattle.engine.proofs.Actors.{Rows}
+use Rattle.engine.proofs.ChannelRows.{Rows, atChannel}
 
 -- what an action gives, seen through a function
 abbrev pub mapO {ℓ κ} : {A : Type ℓ} {B : Type κ} → (A → B) → Option A → Option B
 mapO f none = none
 mapO f (some a) = some (f a)
 
+-- the state that a machine stands for
 abbrev pub viewOf : System → Machine → State
 viewOf sys s = view sys (s .mem) (s .tally)
 
@@ -30,6 +31,12 @@ view-parts = tt
 -- the channels that a memory and a tally stand for
 abbrev pub rowsOf : Mem → Tally → Rows
 rowsOf m t = record { letters = viewLetters m; out = viewOut m; polls = viewPolls m t }
+
+-- the channels of the state, by rows
+pub channel-rows : (sys : System) (s : Machine) (j k : ℕ)
+    → viewOf sys s .channel j k ≡ atChannel sys (rowsOf (s .mem) (s .tally)) j k
+unfolding view viewChannel
+channel-rows sys s j k = refl
 
 -- two states that agree in every part
 pub record Same (s s′ : State) : Type 0 where

@@ -1,30 +1,30 @@
 -- Send in memory is send.
-use Prim.Native.Nat.{ℕ, zero, suc, _+_, _-_, _<_, _≤_}
-use mathlib.Core.Bool.{Bool, true, false, cond}
+use Prim.Native.Nat.{ℕ, zero, suc, _+_, _<_, _≤_}
+use mathlib.Core.Bool.{Bool, cond}
 use mathlib.Core.List.{List, [], _∷_, _++_}
-use mathlib.Core.Option.{Option, none, some}
+use mathlib.Core.Option.{none, some}
 use mathlib.Core.Path.{_≡_, refl, sym, _∙_, ap, ap₂}
 use native.Mathlib.Nat.{le-refl}
 use native.Mathlib.Omega.{arith}
-use borrow.Author.Tests.{lt-ltb, le-leb}
-use lib.Dec.{leb, ltb, eqb}
-use Rattle.base.proofs.Choice.{cond-true, update-same, update-other, update₂-same}
+use borrow.Author.Tests.{lt-ltb}
+use lib.Dec.{eqb}
+use Rattle.base.proofs.Choice.{update-same, update-other, update₂-same}
 use Rattle.disac4.specs.Action.{isEmpty, afterSend, send}
-use Rattle.disac4.specs.State.{State, Message, list, reply}
+use Rattle.disac4.specs.State.{Message, list}
 use Rattle.disac4.specs.System.{System}
 use Rattle.disac4.specs.declared.Tally.{Tally}
-use Rattle.network.specs.Network.{Label}
-use Rattle.engine.specs.Layout.{WORKERS, CURSORS, BOUNDS, LOG, OUT, LOGEND, SENDS, LISTS, OUTEND}
+use Rattle.engine.specs.Layout.{WORKERS, BOUNDS, LOG, OUT, LOGEND, SENDS, LISTS, OUTEND}
 use Rattle.engine.specs.Memory.{Mem}
 use Rattle.engine.specs.Messages.{sentM, sendM}
 use Rattle.engine.specs.Step.{Machine}
-use Rattle.engine.specs.View.{LISTMARK, labelOf, labelsBetween, listAt, messageOf, view, viewSend, viewLetters, viewOut, viewPolls, viewChannel}
-use Rattle.engine.proofs.Actors.{at-worker, actors-update, counters-more, atChannel, at-letters, at-out, Stays, channels-broadcast}
-use Rattle.engine.proofs.Between.{between-same, between-none, between-empty}
+use Rattle.engine.specs.View.{LISTMARK, labelOf, labelsBetween, listAt, messageOf, view, viewSend, viewLetters, viewOut}
+use Rattle.engine.proofs.Actors.{at-worker, actors-update, counters-more}
 use Rattle.engine.proofs.Capacity.{sends-few, outend-few, lists-few}
-use Rattle.engine.proofs.Grown.{Grown, behind, send-kept, letters-same, letters-put, out-same, out-put, polls-same}
+use Rattle.engine.proofs.ChannelRows.{atChannel, at-letters, at-out, Stays, channels-broadcast}
+use Rattle.engine.proofs.Grown.{Grown, behind, send-kept, lettersQueue, letters-kept, outQueue, out-kept, channels-kept}
 use Rattle.engine.proofs.Inv.{Small, Inv}
-use Rattle.engine.proofs.Seen.{mapO, mapO-unless, viewOf, view-parts, rowsOf, list-code, Same, same-state}
+use Rattle.engine.proofs.Queue.{queue, queue-same, queue-put, queue-none, queue-empty}
+use Rattle.engine.proofs.Seen.{mapO, mapO-unless, viewOf, view-parts, rowsOf, list-code, same-state}
 
 module _ (sys : System) (small : Small sys) (s : Machine) (inv : Inv sys s) (i : ℕ) (h : i < sys .workers) where
   abbrev m : Mem
@@ -38,9 +38,9 @@ module _ (sys : System) (small : Small sys) (s : Machine) (inv : Inv sys s) (i :
   sent-grown = record {
     logs = λ j hj d l. refl;
     bounds = λ j hj n l. behind (m BOUNDS) i (m WORKERS i SENDS + 1) (m WORKERS i LOGEND) j n
-    (λ e f. omega (arith, ap (λ (k : ℕ). m WORKERS k SENDS) e));
+        (λ e f. omega (arith, ap (λ (k : ℕ). m WORKERS k SENDS) e));
     outs = λ j hj n l. behind (m OUT) i (m WORKERS i OUTEND) (LISTMARK + m WORKERS i SENDS) j n
-    (λ e f. omega (arith, ap (λ (k : ℕ). m WORKERS k OUTEND) e));
+        (λ e f. omega (arith, ap (λ (k : ℕ). m WORKERS k OUTEND) e));
     wanted = λ n l. refl;
   }
 
@@ -48,11 +48,10 @@ module _ (sys : System) (small : Small sys) (s : Machine) (inv : Inv sys s) (i :
   newest : listAt (sentM i m) i (m WORKERS i SENDS) ≡ viewSend sys m (suc i)
   unfolding sentM listAt view-parts
   newest =
-      between-same (m BOUNDS i (m WORKERS i SENDS)) (m WORKERS i LOGEND) _ _
-      (λ d. labelOf (m LOG i d)) (λ d. labelOf (m LOG i d))
+      queue-same (queue (m BOUNDS i (m WORKERS i SENDS)) (m WORKERS i LOGEND) (λ d. labelOf (m LOG i d)))
+      (queue _ _ (λ d. labelOf (m LOG i d))) (λ d p q. refl)
       (sent-grown .bounds i h (m WORKERS i SENDS) (le-refl _))
       (update₂-same (λ n j. m BOUNDS j n) (m WORKERS i SENDS + 1) i (m WORKERS i LOGEND))
-      (λ d p q. refl)
       ∙ sym (at-worker sys (λ j. labelsBetween m LOG j (m BOUNDS j (m WORKERS j SENDS)) (m WORKERS j LOGEND)) [] i h)
 
   newest-out : messageOf (sentM i m) i (sentM i m OUT i (m WORKERS i OUTEND)) ≡ list (viewSend sys m (suc i))
@@ -65,25 +64,31 @@ module _ (sys : System) (small : Small sys) (s : Machine) (inv : Inv sys s) (i :
   sent-to : (k : ℕ) → k ≤ sys .workers → (k ≡ suc i → ⊥)
       → atChannel sys (rowsOf (sentM i m) t) (suc i) k
       ≡ atChannel sys (rowsOf m t) (suc i) k ++ (list (viewSend sys m (suc i)) ∷ [])
-  unfolding sentM
+  unfolding sentM viewLetters viewOut
   sent-to zero l n =
       at-out sys (rowsOf (sentM i m) t) i h
-      ∙ out-put sys small s inv (sentM i m) sent-grown i h refl (update-same (λ j. m WORKERS j OUTEND) i _)
+      ∙ queue-put (outQueue m i) (outQueue (sentM i m) i) (out-kept sys small s inv (sentM i m) sent-grown i h)
+      (inv .rows i h .out-read) refl (update-same (λ j. m WORKERS j OUTEND) i (m WORKERS i OUTEND + 1))
       ∙ ap₂ (λ (l : List Message) (a : Message). l ++ (a ∷ [])) (sym (at-out sys (rowsOf m t) i h)) newest-out
   sent-to (suc k) l n =
       let d : i ≡ k → ⊥ = λ e. n (ap suc (sym e)) in
       at-letters sys (rowsOf (sentM i m) t) i k h l d
-      ∙ letters-put sys small s inv (sentM i m) sent-grown i k h l refl (update-same (λ j. m WORKERS j SENDS) i _)
+      ∙ queue-put (lettersQueue m i k) (lettersQueue (sentM i m) i k)
+      (letters-kept sys small s inv (sentM i m) sent-grown i k h)
+      (inv .totals .cursor i k h l) refl (update-same (λ j. m WORKERS j SENDS) i (m WORKERS i SENDS + 1))
       ∙ ap₂ (λ (l : List Message) (a : Message). l ++ (a ∷ [])) (sym (at-letters sys (rowsOf m t) i k h l d)) (ap list newest)
 
   -- nobody else sends
   not-sent : Stays sys (λ j k. j ≡ suc i → ⊥) (rowsOf m t) (rowsOf (sentM i m) t)
   unfolding sentM
-  not-sent = record {
-    letters = λ j k hj hk n. letters-same sys small s inv (sentM i m) sent-grown j k hj refl (other SENDS j n);
-    out = λ j hj n. out-same sys small s inv (sentM i m) sent-grown j hj refl (other OUTEND j n);
-    polls = λ k hk n. polls-same sys small s inv (sentM i m) sent-grown t k hk refl refl;
-  }
+  not-sent = channels-kept sys small s inv (sentM i m) sent-grown t (λ j k. j ≡ suc i → ⊥) (record {
+    cursors = λ j k hj hk n. refl;
+    sends = λ j k hj hk n. other SENDS j n;
+    out-read = λ j hj n. refl;
+    out-end = λ j hj n. other OUTEND j n;
+    polls = λ k hk n. refl;
+    timestamp = λ k hk n. refl;
+  })
     where
       other : (c : ℕ) (j : ℕ) → (suc j ≡ suc i → ⊥)
           → cond (eqb j i) (m WORKERS i c + 1) (m WORKERS j c) ≡ m WORKERS j c
@@ -96,17 +101,17 @@ module _ (sys : System) (small : Small sys) (s : Machine) (inv : Inv sys s) (i :
     counter = λ x v y. refl;
     workList = λ k. refl;
     toSend = actors-update sys
-    (λ j. labelsBetween m LOG j (m BOUNDS j (m WORKERS j SENDS)) (m WORKERS j LOGEND))
-    (λ j. labelsBetween (sentM i m) LOG j (sentM i m BOUNDS j (sentM i m WORKERS j SENDS)) (m WORKERS j LOGEND))
-    [] i [] h all-sent
-    (λ j hj n. send-kept sys small s inv (sentM i m) sent-grown j hj
-    (update-other (λ j. m WORKERS j SENDS) i (m WORKERS i SENDS + 1) j n) refl);
+        (λ j. labelsBetween m LOG j (m BOUNDS j (m WORKERS j SENDS)) (m WORKERS j LOGEND))
+        (λ j. labelsBetween (sentM i m) LOG j (sentM i m BOUNDS j (sentM i m WORKERS j SENDS)) (m WORKERS j LOGEND))
+        [] i [] h all-sent
+        (λ j hj n. send-kept sys small s inv (sentM i m) sent-grown j hj
+        (update-other (λ j. m WORKERS j SENDS) i (m WORKERS i SENDS + 1) j n) refl);
     held = λ k. refl;
     listCounter = counters-more sys (λ j. m WORKERS j LISTS) (λ j. sentM i m WORKERS j LISTS) (t .lists .0) i h
-    (update-same (λ j. m WORKERS j LISTS) i (m WORKERS i LISTS + 1))
-    (λ j hj n. update-other (λ j. m WORKERS j LISTS) i (m WORKERS i LISTS + 1) j n);
+        (update-same (λ j. m WORKERS j LISTS) i (m WORKERS i LISTS + 1))
+        (λ j hj n. update-other (λ j. m WORKERS j LISTS) i (m WORKERS i LISTS + 1) j n);
     channel = channels-broadcast sys (rowsOf m t) (rowsOf (sentM i m) t) (suc i) (list (viewSend sys m (suc i))) h
-    sent-to not-sent;
+        sent-to not-sent;
     timestamp = refl;
     pollOpen = refl;
     marked = λ k. refl;
@@ -115,7 +120,8 @@ module _ (sys : System) (small : Small sys) (s : Machine) (inv : Inv sys s) (i :
     where
       all-sent : labelsBetween (sentM i m) LOG i (sentM i m BOUNDS i (sentM i m WORKERS i SENDS)) (m WORKERS i LOGEND) ≡ []
       all-sent =
-          between-none (sentM i m BOUNDS i (sentM i m WORKERS i SENDS)) (m WORKERS i LOGEND) (λ d. labelOf (m LOG i d))
+          queue-none
+          (queue (sentM i m BOUNDS i (sentM i m WORKERS i SENDS)) (m WORKERS i LOGEND) (λ d. labelOf (m LOG i d)))
           (omega (
             arith,
             ap (sentM i m BOUNDS i) (update-same (λ j. m WORKERS j SENDS) i (m WORKERS i SENDS + 1)),
@@ -138,7 +144,7 @@ module _ (sys : System) (small : Small sys) (s : Machine) (inv : Inv sys s) (i :
   nothing-to-send =
       ap isEmpty
       (at-worker sys (λ j. labelsBetween m LOG j (m BOUNDS j (m WORKERS j SENDS)) (m WORKERS j LOGEND)) [] i h)
-      ∙ between-empty (m BOUNDS i (m WORKERS i SENDS)) (m WORKERS i LOGEND) (λ d. labelOf (m LOG i d))
+      ∙ queue-empty (queue (m BOUNDS i (m WORKERS i SENDS)) (m WORKERS i LOGEND) (λ d. labelOf (m LOG i d)))
       (inv .rows i h .last-bound)
 
   -- sending in memory is sending

@@ -1,22 +1,21 @@
 -- A turn in memory is a turn: the actions' equations put together.
-use Prim.Native.Nat.{ℕ, zero, suc, _+_, _-_, _<_, _≤_}
+use Prim.Native.Nat.{ℕ, zero, suc, _-_, _<_, _≤_}
 use mathlib.Core.Bool.{Bool, true, false, cond, _&&_, _||_, not}
-use mathlib.Core.Logic.{_⊎_, inl, inr, ⊎-elim}
+use mathlib.Core.Logic.{⊎-elim}
 use mathlib.Core.Option.{Option, none, some}
-use mathlib.Core.Path.{_≡_, refl, sym, _∙_, ap, ap₂}
+use mathlib.Core.Path.{_≡_, refl, _∙_, ap}
 use native.Mathlib.Omega.{arith}
-use borrow.Author.Tests.{leb-true, eqb-true, eqb-false, ne-eqb, not-true, not-false}
+use borrow.Author.Tests.{leb-true, eqb-false, ne-eqb, not-true, not-false}
 use lib.Dec.{leb, eqb}
 use Rattle.base.proofs.Bools.{and-left, and-right, or-cases, or-false-right, clash}
-use Rattle.base.proofs.Choice.{cond-true, cond-false, between-low, between-high}
+use Rattle.base.proofs.Choice.{cond-false, between-low, between-high}
 use Rattle.base.specs.Choice.{between}
-use Rattle.disac4.specs.Action.{treat, send, answer, readWorker, ask, readController}
+use Rattle.disac4.specs.Action.{treat, readWorker, ask, readController}
 use Rattle.disac4.specs.State.{State}
 use Rattle.disac4.specs.System.{System}
 use Rattle.disac4.specs.Turn.{Turn, treatNumber, sendNumber, answerNumber, pollNumber, allowed, workerStep, controllerStep, step}
-use Rattle.disac4.specs.declared.Tally.{Tally}
 use Rattle.engine.specs.Memory.{Mem}
-use Rattle.engine.specs.Messages.{sendM, answerM, readPollM, readListM}
+use Rattle.engine.specs.Messages.{readPollM, readListM}
 use Rattle.engine.specs.Step.{Machine, withMem, readM, workerM, hearM, pollM, stepM}
 use Rattle.engine.specs.Treat.{treatM}
 use Rattle.engine.specs.View.{view}

@@ -1,31 +1,31 @@
 -- Reading a list message in memory is reading from a worker.
-use Prim.Native.Nat.{ℕ, suc, _+_, _-_, _<_, _≤_}
-use mathlib.Core.Bool.{Bool, true, false, cond, _&&_}
-use mathlib.Core.List.{List, [], _∷_, _++_}
-use mathlib.Core.Option.{Option, none, some}
+use Prim.Native.Nat.{ℕ, suc, _+_, _-_, _<_}
+use mathlib.Core.Bool.{Bool, true, false}
+use mathlib.Core.List.{List, [], _++_}
+use mathlib.Core.Option.{none, some}
 use mathlib.Core.Path.{_≡_, refl, sym, _∙_, ap, ap₂}
 use native.Mathlib.Omega.{arith}
 use borrow.Author.Tests.{ltb-true, ltb-false, lt-ltb, le-leb, lt-leb, eq-eqb, ne-eqb}
-use lib.Dec.{leb, ltb, eqb}
+use lib.Dec.{ltb, eqb}
 use Rattle.base.proofs.Bools.{and-intro, and-false-left, and-false-right}
 use Rattle.base.proofs.Choice.{cond-true, cond-false, update-same, update-other, update₂-same}
 use Rattle.disac4.specs.Action.{afterList, readFrom, readWorker}
-use Rattle.disac4.specs.State.{State, Message, list}
 use Rattle.disac4.specs.System.{System}
 use Rattle.disac4.specs.declared.Tally.{Tally}
 use Rattle.network.specs.Network.{Label}
-use Rattle.engine.specs.Layout.{WORKERS, CURSORS, BOUNDS, LOG, WORK, HEAD, TAIL, SENDS, LISTS}
+use Rattle.engine.specs.Layout.{WORKERS, CURSORS, LOG, WORK, HEAD, TAIL, SENDS, LISTS}
 use Rattle.engine.specs.Memory.{Mem, store}
 use Rattle.engine.specs.Messages.{letterStart, letterEnd, takenM, readListM}
 use Rattle.engine.specs.Step.{Machine}
-use Rattle.engine.specs.View.{labelOf, labelsBetween, listBetween, listAt, view, viewLetters, viewChannel}
-use Rattle.engine.proofs.Actors.{at-worker, actors-update, counters-more, at-letters, Stays, Beside, channels-update}
-use Rattle.engine.proofs.Between.{between-none, between-same, between-shift, between-append}
-use Rattle.engine.proofs.Capacity.{bounds-apart, bound-logged, logend-small, sends-few, lists-few, tail-room}
+use Rattle.engine.specs.View.{labelOf, labelsBetween, listBetween, listAt, view, viewLetters}
+use Rattle.engine.proofs.Actors.{at-worker, actors-update, counters-more}
+use Rattle.engine.proofs.Capacity.{bound-logged, logend-small, sends-few, lists-few, letter-room}
+use Rattle.engine.proofs.ChannelRows.{at-letters, Stays, Beside, channels-update}
 use Rattle.engine.proofs.Copied.{isBehind, filled, copy-filled}
-use Rattle.engine.proofs.Grown.{Grown, behind, letters-same, letters-taken, out-same, polls-same}
+use Rattle.engine.proofs.Grown.{Grown, behind, lettersQueue, letters-kept, channels-kept}
 use Rattle.engine.proofs.Inv.{Small, Inv}
-use Rattle.engine.proofs.Seen.{mapO, viewOf, view-parts, rowsOf, same-state}
+use Rattle.engine.proofs.Queue.{queue, queue-taken, queue-none, queue-same, queue-shift, queue-append}
+use Rattle.engine.proofs.Seen.{mapO, viewOf, view-parts, rowsOf, channel-rows, same-state}
 
 module _ (sys : System) (small : Small sys) (s : Machine) (inv : Inv sys s) (j i : ℕ) (hj : j < sys .workers)
     (hi : i < sys .workers) (apart : j ≡ i → ⊥) where
@@ -57,33 +57,27 @@ module _ (sys : System) (small : Small sys) (s : Machine) (inv : Inv sys s) (j i
   }
 
   other-channels : Stays sys (Beside (suc j) (suc i)) (rowsOf m t) (rowsOf m′ t)
-  other-channels = record {
-    letters = λ a b ha hb n. letters-same sys small s inv m′ taken-grown a b ha
-    (behind (m CURSORS) j i (m CURSORS j i + 1) a b (λ p q. n (ap suc p) (ap suc q))) refl;
-    out = λ a ha n. out-same sys small s inv m′ taken-grown a ha refl refl;
-    polls = λ b hb n. polls-same sys small s inv m′ taken-grown t b hb refl refl;
-  }
+  other-channels = channels-kept sys small s inv m′ taken-grown t (Beside (suc j) (suc i)) (record {
+    cursors = λ a b ha hb n. behind (m CURSORS) j i (m CURSORS j i + 1) a b (λ p q. n (ap suc p) (ap suc q));
+    sends = λ a b ha hb n. refl;
+    out-read = λ a ha n. refl;
+    out-end = λ a ha n. refl;
+    polls = λ b hb n. refl;
+    timestamp = λ b hb n. refl;
+  })
 
   module _ (l : m CURSORS j i < m WORKERS j SENDS) where
-    in-order : letterStart j i m ≤ letterEnd j i m
-    in-order =
-        omega (
-          arith,
-          bounds-apart sys small s inv j hj (m CURSORS j i) (m CURSORS j i + 1) (omega arith) (omega arith),
-        )
-
-    -- ---- the work list
-
     work-here : labelsBetween m′ WORK i (m′ WORKERS i HEAD) (m′ WORKERS i TAIL)
         ≡ labelsBetween m WORK i (m WORKERS i HEAD) tail ++ listAt m j (m CURSORS j i)
     unfolding labelsBetween listAt
     work-here =
         ap (λ (n : ℕ). listBetween (m WORKERS i HEAD) n after) (update-same (λ k. m WORKERS k TAIL) i (tail + size))
-        ∙ between-append (m WORKERS i HEAD) tail size after (inv .rows i hi .queue)
+        ∙ queue-append (m WORKERS i HEAD) tail size after (inv .rows i hi .queue)
         ∙ ap₂ (λ (x y : List Label). x ++ y)
-        (between-same (m WORKERS i HEAD) tail (m WORKERS i HEAD) tail (λ d. labelOf (m WORK i d)) after refl refl
-        (λ d p q. ap labelOf (before d q)))
-        (between-shift tail (tail + size) (letterStart j i m) (letterEnd j i m) after (λ d. labelOf (m LOG j d))
+        (queue-same (queue (m WORKERS i HEAD) tail (λ d. labelOf (m WORK i d))) (queue (m WORKERS i HEAD) tail after)
+        (λ d p q. ap labelOf (before d q)) refl refl)
+        (queue-shift (queue tail (tail + size) after)
+        (queue (letterStart j i m) (letterEnd j i m) (λ d. labelOf (m LOG j d)))
         (omega arith) (λ d p. ap labelOf (new d (omega arith))))
       where
         after : ℕ → Label
@@ -108,13 +102,13 @@ module _ (sys : System) (small : Small sys) (s : Machine) (inv : Inv sys s) (j i
         ≡ labelsBetween m WORK k (m WORKERS k HEAD) (m WORKERS k TAIL)
     unfolding labelsBetween
     work-there k hk n =
-        between-same (m WORKERS k HEAD) (m WORKERS k TAIL) (m WORKERS k HEAD) (m′ WORKERS k TAIL)
-        (λ d. labelOf (m WORK k d)) (λ d. labelOf (m′ WORK k d)) refl
-        (update-other (λ k. m WORKERS k TAIL) i (tail + size) k n)
+        queue-same (queue (m WORKERS k HEAD) (m WORKERS k TAIL) (λ d. labelOf (m WORK k d)))
+        (queue (m WORKERS k HEAD) (m′ WORKERS k TAIL) (λ d. labelOf (m′ WORK k d)))
         (λ d p q.
         ap labelOf
         (cond-false (m LOG j (letterStart j i m + (d - tail))) (m WORK k d)
         (and-false-right (isBehind tail size d) (ne-eqb k i n))))
+        refl (update-other (λ k. m WORKERS k TAIL) i (tail + size) k n)
 
     taken-view : view sys m′ t ≡ afterList (suc j) (suc i) (listAt m j (m CURSORS j i)) (viewLetters m′ j i) (view sys m t)
     unfolding view-parts afterList
@@ -122,15 +116,15 @@ module _ (sys : System) (small : Small sys) (s : Machine) (inv : Inv sys s) (j i
       domain = λ x v. refl;
       counter = λ x v y. refl;
       workList = actors-update sys work (λ k. labelsBetween m′ WORK k (m′ WORKERS k HEAD) (m′ WORKERS k TAIL)) [] i _ hi
-      (work-here
-      ∙ ap (λ (x : List Label). x ++ listAt m j (m CURSORS j i)) (sym (at-worker sys work [] i hi))) work-there;
+          (work-here
+          ∙ ap (λ (x : List Label). x ++ listAt m j (m CURSORS j i)) (sym (at-worker sys work [] i hi))) work-there;
       toSend = λ k. refl;
       held = λ k. refl;
       listCounter = counters-more sys (λ k. m WORKERS k LISTS) (λ k. m′ WORKERS k LISTS) (t .lists .0) i hi
-      (update-same (λ k. m WORKERS k LISTS) i (m WORKERS i LISTS + 1))
-      (λ k hk n. update-other (λ k. m WORKERS k LISTS) i (m WORKERS i LISTS + 1) k n);
+          (update-same (λ k. m WORKERS k LISTS) i (m WORKERS i LISTS + 1))
+          (λ k hk n. update-other (λ k. m WORKERS k LISTS) i (m WORKERS i LISTS + 1) k n);
       channel = channels-update sys (rowsOf m t) (rowsOf m′ t) (suc j) (suc i) (viewLetters m′ j i)
-      (at-letters sys (rowsOf m′ t) j i hj hi apart) other-channels;
+          (at-letters sys (rowsOf m′ t) j i hj hi apart) other-channels;
       timestamp = refl;
       pollOpen = refl;
       marked = λ k. refl;
@@ -146,7 +140,7 @@ module _ (sys : System) (small : Small sys) (s : Machine) (inv : Inv sys s) (j i
     taken-room =
         ap
         (λ (x : Mem). store (store x CURSORS j i (m CURSORS j i + 1)) WORKERS i LISTS (m WORKERS i LISTS + 1))
-        (copy-filled j i (letterStart j i m) m size (tail-room sys small s inv j i hj hi apart l))
+        (copy-filled j i (letterStart j i m) m size (letter-room sys small s inv j i hj hi apart l))
 
     read-room : readListM j i m ≡ some m′
     unfolding readListM
@@ -155,27 +149,22 @@ module _ (sys : System) (small : Small sys) (s : Machine) (inv : Inv sys s) (j i
           lt-ltb (m CURSORS j i) (m WORKERS j SENDS) l,
           lt-ltb (m CURSORS j i) 519 (omega (arith, sends-few sys small s inv j hj)),
           le-leb (letterEnd j i m) 512
-          (omega (
-            arith,
-            bound-logged sys small s inv j hj (m CURSORS j i + 1) (omega arith),
-            logend-small sys small s inv j hj,
-          )),
+              (omega (
+                arith,
+                bound-logged sys small s inv j hj (m CURSORS j i + 1) (omega arith),
+                logend-small sys small s inv j hj,
+              )),
           lt-ltb (m WORKERS i LISTS) 65535 (omega (arith, lists-few sys small s inv i hi)),
         )
         (ap some taken-room)
 
   -- reading a list message in memory is reading from a worker
   pub list-refines : mapO (λ m′. view sys m′ t) (readListM j i m) ≡ readWorker (suc j) (suc i) (viewOf sys s)
-  unfolding readWorker
+  unfolding readWorker viewLetters
   list-refines = go (ltb (m CURSORS j i) (m WORKERS j SENDS)) refl
     where
-      read : (l : List Message) → viewLetters m j i ≡ l
-          → readFrom (suc j) (suc i) (viewOf sys s) (viewOf sys s .channel (suc j) (suc i))
-          ≡ readFrom (suc j) (suc i) (viewOf sys s) l
-      read l e = ap (readFrom (suc j) (suc i) (viewOf sys s)) (channel ∙ e)
-        where
-          channel : viewOf sys s .channel (suc j) (suc i) ≡ viewLetters m j i
-          channel = unfold view viewChannel in at-letters sys (rowsOf m t) j i hj hi apart
+      channel : viewOf sys s .channel (suc j) (suc i) ≡ viewLetters m j i
+      channel = channel-rows sys s (suc j) (suc i) ∙ at-letters sys (rowsOf m t) j i hj hi apart
 
       idle : ltb (m CURSORS j i) (m WORKERS j SENDS) ≡ false → readListM j i m ≡ none
       idle p = unfold readListM in cond-false _ none p
@@ -188,13 +177,12 @@ module _ (sys : System) (small : Small sys) (s : Machine) (inv : Inv sys s) (j i
           ap (mapO (λ m′. view sys m′ t)) (read-room l)
           ∙ ap some (taken-view l)
           ∙ sym
-          (read (list (listAt m j (m CURSORS j i)) ∷ viewLetters m′ j i)
-          (letters-taken sys small s inv m′ taken-grown j i hj l
+          (ap (readFrom (suc j) (suc i) (viewOf sys s))
+          (channel
+          ∙ queue-taken (lettersQueue m j i) (lettersQueue m′ j i) (letters-kept sys small s inv m′ taken-grown j i hj) l
           (update₂-same (λ b a. m CURSORS a b) i j (m CURSORS j i + 1)) refl))
       go false p =
           ap (mapO (λ m′. view sys m′ t)) (idle p)
           ∙ sym
-          (read []
-          (unfold viewLetters in
-          between-none (m CURSORS j i) (m WORKERS j SENDS) (λ n. list (listAt m j n))
-          (ltb-false (m CURSORS j i) (m WORKERS j SENDS) p)))
+          (ap (readFrom (suc j) (suc i) (viewOf sys s))
+          (channel ∙ queue-none (lettersQueue m j i) (ltb-false (m CURSORS j i) (m WORKERS j SENDS) p)))
