@@ -1,24 +1,25 @@
 -- Nothing overflows: every queue fits its row, because each label is deleted once and each list message holds one.
 use Prim.Native.Nat.{ℕ, zero, suc, _+_, _-_, _<_, _≤_}
-use mathlib.Core.Bool.{Bool, true, false}
-use mathlib.Core.Logic.{_⊎_, inl, inr, ⊎-elim}
-use mathlib.Core.Path.{_≡_, refl, sym, _∙_, ap}
+use mathlib.Core.Bool.{Bool}
+use mathlib.Core.Logic.{⊎-elim}
+use mathlib.Core.Path.{_≡_, sym, _∙_, ap}
 use native.Mathlib.Decide.{ℕ-discrete}
 use native.Mathlib.Nat.{le-refl}
-use native.Mathlib.Numerals.{add-one}
 use native.Mathlib.Omega.{arith}
-use lib.Dec.{leb}
+use lib.Dec.{leb, eqb}
 use Rattle.base.proofs.Bools.{decided}
 use Rattle.base.proofs.Choice.{update-same, update-other}
-use Rattle.base.proofs.Sums.{sum-change, sum-le, sum-part, sum-ext}
-use Rattle.base.specs.Below.{sumBelow, one, countBelow}
+use Rattle.base.proofs.Sums.{sum-change, sum-le, sum-part}
+use Rattle.base.specs.Below.{sumBelow, countBelow}
 use Rattle.base.specs.Choice.{update}
+use Rattle.network.proofs.DomainSize.{domainSize}
+use Rattle.disac4.proofs.Pointwise.{update-each}
 use Rattle.disac4.specs.System.{System}
-use Rattle.engine.specs.Layout.{WORKERS, CURSORS, BOUNDS, OUT, WANTED, TAIL, LOGEND, SENDS, LISTS, HELD, POLLS, OUTEND, OUTREAD}
+use Rattle.engine.specs.Layout.{WORKERS, CURSORS, BOUNDS, OUT, WANTED, DOMAIN, TAIL, LOGEND, SENDS, LISTS, HELD, OUTEND, OUTREAD}
 use Rattle.engine.specs.Memory.{Mem}
 use Rattle.engine.specs.Step.{Machine}
-use Rattle.engine.specs.View.{LISTMARK}
-use Rattle.engine.specs.Inv.{Small, Inv, Row, Totals, Polled, Replied, listsOut}
+use Rattle.engine.specs.View.{LISTED, LISTMARK}
+use Rattle.engine.specs.Inv.{Small, Inv, listsOut}
 
 -- what the others have, and one's own in full, is at most all of it
 beside-own : (n : ℕ) (f g : ℕ → ℕ) (i : ℕ) → i < n → f i ≡ 0 → ((j : ℕ) → j < n → (j ≡ i → ⊥) → f j ≤ g j)
@@ -53,6 +54,10 @@ risen f from (suc d) h =
     let e : from + suc d ≡ from + d + 1 = omega arith in
     omega (arith, ap f e, h (from + d) (omega arith) (omega arith), risen f from d (λ n p q. h n p (omega arith)))
 
+-- the labels not deleted
+abbrev pub remaining : System → Mem → ℕ
+remaining sys m = domainSize (sys .net) (λ x v. eqb (m DOMAIN x v) LISTED)
+
 module _ (sys : System) (small : Small sys) (s : Machine) (inv : Inv sys s) where
   abbrev m : Mem
   m = s .mem
@@ -80,8 +85,8 @@ module _ (sys : System) (small : Small sys) (s : Machine) (inv : Inv sys s) wher
   sends-bound i h =
       omega (arith, bounds-apart i h 0 (m WORKERS i SENDS) (omega arith) (le-refl _), inv .rows i h .first-bound)
 
-  logs-small : sumBelow (sys .workers) (λ i. m WORKERS i LOGEND) ≤ 512
-  logs-small = omega (arith, inv .totals .logged, small .few-labels)
+  logs-room : sumBelow (sys .workers) (λ i. m WORKERS i LOGEND) + remaining sys m ≤ 512
+  logs-room = omega (arith, inv .totals .logged, small .few-labels)
 
   sends-logged : (i : ℕ) → i < sys .workers → m WORKERS i SENDS ≤ m WORKERS i LOGEND
   sends-logged i h = omega (arith, sends-bound i h, inv .rows i h .last-bound)
@@ -90,13 +95,17 @@ module _ (sys : System) (small : Small sys) (s : Machine) (inv : Inv sys s) wher
   sends-small =
       omega (
         arith,
-        logs-small,
+        logs-room,
         sum-le (sys .workers) (λ i. m WORKERS i SENDS) (λ i. m WORKERS i LOGEND) sends-logged,
       )
 
+  -- the log has room for every label not deleted
+  pub log-room : (i : ℕ) → i < sys .workers → m WORKERS i LOGEND + remaining sys m ≤ 512
+  log-room i h = omega (arith, logs-room, sum-part (sys .workers) (λ i. m WORKERS i LOGEND) i h)
+
   -- the log fits its row
   pub logend-small : (i : ℕ) → i < sys .workers → m WORKERS i LOGEND ≤ 512
-  logend-small i h = omega (arith, logs-small, sum-part (sys .workers) (λ i. m WORKERS i LOGEND) i h)
+  logend-small i h = omega (arith, log-room i h)
 
   -- so do the list messages' bounds
   pub sends-few : (i : ℕ) → i < sys .workers → m WORKERS i SENDS ≤ 512
@@ -104,63 +113,58 @@ module _ (sys : System) (small : Small sys) (s : Machine) (inv : Inv sys s) wher
 
   -- ---- the work list
 
-  -- the work list fits its row, also after the next list message of another row
-  pub tail-room : (j i : ℕ) → j < sys .workers → i < sys .workers → (j ≡ i → ⊥)
-      → m CURSORS j i < m WORKERS j SENDS
-      → m WORKERS i TAIL + (m BOUNDS j (m CURSORS j i + 1) - m BOUNDS j (m CURSORS j i)) ≤ 512
-  tail-room j i hj hi n l =
+  -- how far row `i` has read the log of row `k`
+  abbrev read : ℕ → ℕ → ℕ
+  read i k = m BOUNDS k (m CURSORS k i)
+
+  read-own : (i : ℕ) → i < sys .workers → read i i ≡ 0
+  read-own i h = ap (m BOUNDS i) (inv .totals .own-cursor i h) ∙ inv .rows i h .first-bound
+
+  read-logged : (i k : ℕ) → i < sys .workers → k < sys .workers → read i k ≤ m WORKERS k LOGEND
+  read-logged i k h l = bound-logged k l (m CURSORS k i) (inv .totals .cursor k i l h)
+
+  -- the work list has room for every label not deleted
+  pub tail-room : (i : ℕ) → i < sys .workers → m WORKERS i TAIL + remaining sys m ≤ 512
+  tail-room i h =
       omega (
         arith,
-        logs-small,
-        inv .totals .pushed i hi,
-        sum-change (sys .workers) read next j hj (λ k p q. sym (update-other read j (m BOUNDS j (m CURSORS j i + 1)) k q)),
-        update-same read j (m BOUNDS j (m CURSORS j i + 1)),
-        bounds-apart j hj (m CURSORS j i) (m CURSORS j i + 1) (omega arith) (omega arith),
-        beside-own (sys .workers) next (λ k. m WORKERS k LOGEND) i hi own within,
+        logs-room,
+        inv .totals .pushed i h,
+        beside-own (sys .workers) (read i) (λ k. m WORKERS k LOGEND) i h (read-own i h) (λ k l n. read-logged i k h l),
       )
-    where
-      read : ℕ → ℕ
-      read k = m BOUNDS k (m CURSORS k i)
-
-      next : ℕ → ℕ
-      next = update read j (m BOUNDS j (m CURSORS j i + 1))
-
-      own : next i ≡ 0
-      own =
-          update-other read j (m BOUNDS j (m CURSORS j i + 1)) i (λ e. n (sym e))
-          ∙ ap (m BOUNDS i) (inv .totals .own-cursor i hi)
-          ∙ inv .rows i hi .first-bound
-
-      within : (k : ℕ) → k < sys .workers → (k ≡ i → ⊥) → next k ≤ m WORKERS k LOGEND
-      within k p q =
-          elim (ℕ-discrete k j) [
-            | yes e ↦
-                omega (
-                  arith,
-                  ap next e,
-                  update-same read j (m BOUNDS j (m CURSORS j i + 1)),
-                  bound-logged j hj (m CURSORS j i + 1) (omega arith),
-                  ap (λ (k : ℕ). m WORKERS k LOGEND) e,
-                )
-            | no d ↦
-                omega (
-                  arith,
-                  update-other read j (m BOUNDS j (m CURSORS j i + 1)) k d,
-                  bound-logged k p (m CURSORS k i) (inv .totals .cursor k i p hi),
-                )
-          ]
 
   -- the work list fits its row
   pub tail-small : (i : ℕ) → i < sys .workers → m WORKERS i TAIL ≤ 512
-  tail-small i h =
+  tail-small i h = omega (arith, tail-room i h)
+
+  -- and has room for the next list message of another row
+  pub letter-room : (j i : ℕ) → j < sys .workers → i < sys .workers → (j ≡ i → ⊥)
+      → m CURSORS j i < m WORKERS j SENDS
+      → m WORKERS i TAIL + (m BOUNDS j (m CURSORS j i + 1) - m BOUNDS j (m CURSORS j i)) ≤ 512
+  letter-room j i hj hi n l =
       omega (
         arith,
-        logs-small,
-        inv .totals .pushed i h,
-        beside-own (sys .workers) (λ j. m BOUNDS j (m CURSORS j i)) (λ j. m WORKERS j LOGEND) i h
-            (ap (m BOUNDS i) (inv .totals .own-cursor i h) ∙ inv .rows i h .first-bound)
-            (λ j p q. bound-logged j p (m CURSORS j i) (inv .totals .cursor j i p h)),
+        logs-room,
+        inv .totals .pushed i hi,
+        sum-change (sys .workers) (read i) next j hj (λ k p q. sym (update-other (read i) j end k q)),
+        update-same (read i) j end,
+        bounds-apart j hj (m CURSORS j i) (m CURSORS j i + 1) (omega arith) (omega arith),
+        beside-own (sys .workers) next (λ k. m WORKERS k LOGEND) i hi
+            (update-other (read i) j end i (λ e. n (sym e)) ∙ read-own i hi)
+            (λ k p q. within k p),
       )
+    where
+      end : ℕ
+      end = m BOUNDS j (m CURSORS j i + 1)
+
+      next : ℕ → ℕ
+      next = update (read i) j end
+
+      within : (k : ℕ) → k < sys .workers → next k ≤ m WORKERS k LOGEND
+      within k p =
+          update-each (λ k n. k < sys .workers → n ≤ m WORKERS k LOGEND) (read i) j end
+          (λ a. bound-logged j hj (m CURSORS j i + 1) (omega arith))
+          (λ k d a. read-logged i k hi a) k p
 
   -- ---- counts of lists
 
