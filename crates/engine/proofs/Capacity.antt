@@ -13,7 +13,7 @@ use Rattle.base.proofs.Sums.{sum-change, sum-le, sum-part}
 use Rattle.base.specs.Below.{sumBelow, countBelow}
 use Rattle.base.specs.Choice.{update}
 use Rattle.network.proofs.DomainSize.{domainSize}
-use Rattle.disac4.proofs.Pointwise.{update-each}
+use Rattle.base.proofs.Choice.{update-each}
 use Rattle.disac4.specs.System.{System}
 use Rattle.engine.specs.Layout.{WORKERS, CURSORS, BOUNDS, OUT, WANTED, DOMAIN, TAIL, LOGEND, SENDS, LISTS, HELD, OUTEND, OUTREAD}
 use Rattle.engine.specs.Memory.{Mem}

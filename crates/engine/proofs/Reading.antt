@@ -16,7 +16,7 @@ use Rattle.engine.specs.Lists.{copyM}
 use Rattle.engine.specs.Memory.{Mem, store}
 use Rattle.engine.specs.Messages.{letterStart, letterEnd, takenM, readListM}
 use Rattle.engine.specs.Step.{Machine}
-use Rattle.engine.proofs.Capacity.{tail-room, bound-logged}
+use Rattle.engine.proofs.Capacity.{letter-room, bound-logged}
 use Rattle.engine.proofs.Copied.{Joined, copy-joins}
 use Rattle.engine.proofs.Frame.{OnlyRow, Answered, row-action, row-grown, follows-itself, lists-out-kept, logged-kept, heard-kept}
 use Rattle.engine.specs.Inv.{Code, Row, Totals, Inv, Small}
@@ -229,5 +229,5 @@ read-list-keeps sys small m m′ t j i inv hj hi apart e =
     let unread : m CURSORS j i < m WORKERS j SENDS = ltb-true (m CURSORS j i) (m WORKERS j SENDS) (e₁ .0) in
     let s : Machine = record { mem = m; tally = t } in
     some-same (λ x. Inv sys (record { mem = x; tally = t })) (e₄ .1)
-    (taken-keeps sys m t j i inv hj hi apart unread (tail-room sys small s inv j i hj hi apart unread)
+    (taken-keeps sys m t j i inv hj hi apart unread (letter-room sys small s inv j i hj hi apart unread)
     (bound-logged sys small s inv j hj (m CURSORS j i + 1) (omega arith)))

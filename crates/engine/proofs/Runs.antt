@@ -9,13 +9,10 @@ use Rattle.base.specs.Below.{one}
 use Rattle.disac4.specs.State.{State}
 use Rattle.disac4.specs.System.{System}
 use Rattle.disac4.specs.Turn.{Turn, isSome, step, after, play, changes, changesWhere}
+use Rattle.engine.proofs.Seen.{mapO}
 use Rattle.engine.specs.Inv.{Inv}
 use Rattle.engine.specs.Run.{viewOf, playM, countM}
 use Rattle.engine.specs.Step.{Machine, stepM, afterM}
-
-abbrev pub mapO : {A B : Type 0} → (A → B) → Option A → Option B
-mapO f none = none
-mapO f (some a) = some (f a)
 
 -- ---- joining lists of turns
 

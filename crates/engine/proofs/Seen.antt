@@ -10,6 +10,7 @@ use Rattle.disac4.specs.State.{State, list, reply}
 use Rattle.disac4.specs.System.{System}
 use Rattle.disac4.specs.declared.Tally.{Tally}
 use Rattle.engine.specs.Memory.{Mem}
+pub use Rattle.engine.specs.Run.{viewOf}
 use Rattle.engine.specs.Step.{Machine}
 use Rattle.engine.specs.View.{LISTMARK, view, labelsBetween, listAt, messageOf, pollAt, counterRow, viewWork, viewSend, viewHeld, viewLists, viewLetters, viewPolls, viewOut, viewChannel, viewCounter}
 use Rattle.engine.proofs.ChannelRows.{Rows, atChannel}
@@ -18,10 +19,6 @@ use Rattle.engine.proofs.ChannelRows.{Rows, atChannel}
 abbrev pub mapO {ℓ κ} : {A : Type ℓ} {B : Type κ} → (A → B) → Option A → Option B
 mapO f none = none
 mapO f (some a) = some (f a)
-
--- the state that a machine stands for
-abbrev pub viewOf : System → Machine → State
-viewOf sys s = view sys (s .mem) (s .tally)
 
 -- Named on an `unfolding` line, this opens the view down to the channels' contents.
 unfoldable pub view-parts : Unit {0}

@@ -12,7 +12,7 @@ use Rattle.engine.specs.Step.{Machine, stepM, afterM}
 use Rattle.engine.specs.View.{view}
 
 -- the state that a machine stands for
-unfoldable pub viewOf : System → Machine → State
+abbrev pub viewOf : System → Machine → State
 viewOf sys s = view sys (s .mem) (s .tally)
 
 -- the tally as loaded
