@@ -1,2 +1,5 @@
+pub mod Frames
+pub mod Growing
 pub mod Inv
 pub mod Regions
+pub mod Walking
