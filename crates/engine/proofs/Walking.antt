@@ -46,6 +46,10 @@ module _ {A : Type 0} where
 abbrev pub walk : {A : Type 0} → Network → (ℕ → ℕ → A → A) → ℕ → A → A
 walk net f n a = loop (λ x b. loop (f x) (net .size x) b) n a
 
+-- what is appended for each value of each variable
+abbrev pub gathered : Network → (ℕ → ℕ → List Label) → List Label
+gathered net g = gatherBelow (net .variables) (λ x. gatherBelow (net .size x) (g x))
+
 module _ {A : Type 0} (net : Network) (f : ℕ → ℕ → A → A) where
   -- a step at a loaded label keeps a statement
   abbrev pub Keeps : (A → Type 0) → ℕ → ℕ → Type 0
@@ -90,7 +94,7 @@ module _ {A : Type 0} (net : Network) (f : ℕ → ℕ → A → A) where
         → ((x v : ℕ) → x < net .variables → v < net .size x → (l : List Label) (a : A) → Q x v a → J l a
         → J (l ++ g x v) (f x v a))
         → (a : A) → ((x v : ℕ) → x < net .variables → v < net .size x → Q x v a) → J [] a
-        → J (gatherBelow (net .variables) (λ x. gatherBelow (net .size x) (g x))) (walk net f (net .variables) a)
+        → J (gathered net g) (walk net f (net .variables) a)
     walk-gather J g s a q p =
         loop-gather J (λ x b. loop (f x) (net .size x) b) (λ x. gatherBelow (net .size x) (g x)) (net .variables) [] a
         (λ x h l j.
