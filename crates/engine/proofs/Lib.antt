@@ -3,5 +3,8 @@ pub mod Growing
 pub mod Inv
 pub mod Labelwise
 pub mod Regions
+pub mod Room
 pub mod Touching
+pub mod Treating
+pub mod Unmoved
 pub mod Walking
