@@ -65,6 +65,11 @@ labels-first m r i from to h =
     start : from + 0 ≡ from
     start = omega arith
 
+-- no labels
+pub labels-none : (m : Mem) (r i from to : ℕ) → to ≤ from → labelsBetween m r i from to ≡ []
+unfolding labelsBetween
+labels-none m r i from to h = ap (λ n. listBelow n (λ d. labelOf (m r i (from + d)))) (let z : to - from ≡ 0 = omega arith in z)
+
 -- one more label at the end
 pub labels-last : (m : Mem) (r i from to : ℕ) → from ≤ to
     → labelsBetween m r i from (to + 1) ≡ labelsBetween m r i from to ++ (labelOf (m r i to) ∷ [])

@@ -2,6 +2,7 @@ pub mod Frames
 pub mod Growing
 pub mod Inv
 pub mod Labelwise
+pub mod Queues
 pub mod Regions
 pub mod Room
 pub mod Touching
