@@ -5,7 +5,9 @@ pub mod Labelwise
 pub mod Queues
 pub mod Regions
 pub mod Room
+pub mod RowsKept
 pub mod Touching
 pub mod Treating
+pub mod TreatKeeps
 pub mod Unmoved
 pub mod Walking

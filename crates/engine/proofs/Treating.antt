@@ -151,7 +151,8 @@ module _ (sys : System) (small : Small sys) (s : Machine) (inv : Inv sys s) (i :
 
   -- ---- the view, field by field
 
-  domain-after : (x v : ℕ) → eqb (treatedM DOMAIN x v) LISTED ≡ st .domain x v && not (deletes sys (suc i) a st x v)
+  -- the deleted labels are out of their domains
+  pub domain-after : (x v : ℕ) → eqb (treatedM DOMAIN x v) LISTED ≡ st .domain x v && not (deletes sys (suc i) a st x v)
   unfolding view
   domain-after x v = go (loaded (sys .net) x v) refl
     where
@@ -183,7 +184,8 @@ module _ (sys : System) (small : Small sys) (s : Machine) (inv : Inv sys s) (i :
           ∙ out
           ∙ sym (and-false-left (not (deletes sys (suc i) a st x v)) out)
 
-  heads-after : (b c : ℕ) → treatedM HEADS b c ≡ m HEADS b c
+  -- the index stays
+  pub heads-after : (b c : ℕ) → treatedM HEADS b c ≡ m HEADS b c
   heads-after b c = treated-apart HEADS b c (λ x v k l. omega arith)
 
   no-counter : (x v y : ℕ) → loaded (sys .net) x v && sys .net .linked x y ≡ false → lowered sys (suc i) a st x v y ≡ 0
@@ -213,11 +215,13 @@ module _ (sys : System) (small : Small sys) (s : Machine) (inv : Inv sys s) (i :
   abbrev rest : List Label
   rest = labelsBetween m WORK i (head + 1) (m WORKERS i TAIL)
 
-  head-after : treatedM WORKERS i HEAD ≡ head + 1
+  -- the label is no longer on the work list
+  pub head-after : treatedM WORKERS i HEAD ≡ head + 1
   head-after = treated-apart WORKERS i HEAD (λ x v k l. omega arith) ∙ store-same m WORKERS i HEAD (head + 1)
 
-  other-head : (j b : ℕ) → (j ≡ i → ⊥) → treatedM WORKERS j b ≡ m WORKERS j b
-  other-head j b n =
+  -- the other rows stay
+  pub other-row : (j b : ℕ) → (j ≡ i → ⊥) → treatedM WORKERS j b ≡ m WORKERS j b
+  other-row j b n =
       treated-apart WORKERS j b (λ x v k l. omega arith)
       ∙ store-other m WORKERS i HEAD (head + 1) WORKERS j b (λ e f g. n f)
 
@@ -229,9 +233,10 @@ module _ (sys : System) (small : Small sys) (s : Machine) (inv : Inv sys s) (i :
       ∙ treated-both .work .new (head + 1) (omega arith)
       ∙ ap (λ (l : List Label). l ++ deletions sys (suc i) a st)
       (labels-ext m taken WORK i (head + 1) (m WORKERS i TAIL) (λ d p q. refl)))
-      (λ j n. (other-head j HEAD n, other-head j TAIL n, λ d. treated-apart WORK j d (λ x v k l. omega arith)))
+      (λ j n. (other-row j HEAD n, other-row j TAIL n, λ d. treated-apart WORK j d (λ x v k l. omega arith)))
 
-  sends-after : (j : ℕ) → treatedM BOUNDS j (treatedM WORKERS j SENDS) ≡ m BOUNDS j (m WORKERS j SENDS)
+  -- what is sent stays
+  pub sends-after : (j : ℕ) → treatedM BOUNDS j (treatedM WORKERS j SENDS) ≡ m BOUNDS j (m WORKERS j SENDS)
   sends-after j =
       ap (treatedM BOUNDS j)
       (treated-unmoved .column j SENDS (λ e. omega arith) (λ e. omega arith) (λ e. omega arith))
@@ -247,7 +252,7 @@ module _ (sys : System) (small : Small sys) (s : Machine) (inv : Inv sys s) (i :
       ∙ ap (λ (l : List Label). l ++ deletions sys (suc i) a st)
       (labels-ext m taken LOG i (m BOUNDS i (m WORKERS i SENDS)) (m WORKERS i LOGEND) (λ d p q. refl)
       ∙ sym (queue-at sys LOG LOGEND sendFrom m i h)))
-      (λ j n. (sends-after j, other-head j LOGEND n, λ d. treated-apart LOG j d (λ x v k l. omega arith)))
+      (λ j n. (sends-after j, other-row j LOGEND n, λ d. treated-apart LOG j d (λ x v k l. omega arith)))
 
   -- the state that the memory stands for is the one after the treatment
   pub treated-view : view sys treatedM t ≡ afterTreat sys (suc i) a rest st
