@@ -168,11 +168,9 @@ module _ (sys : System) (small : Small sys) (f : ℕ → ℕ → Mem → Mem) (r
             both-more sys i m₀ m (f x v m) l (g x v) so-far
             (s x v h k m q (omega (arith, so-far .log .end)) (omega (arith, so-far .work .end)))
 
--- a step leaves the lists of another row alone
-pub both-other : (sys : System) (small : Small sys) (f : ℕ → ℕ → Mem → Mem) (row : ℕ → ℕ) → Local sys small f row
-    → (x v : ℕ) → x < sys .net .variables → v < sys .net .size x → (i : ℕ) → (i ≡ row x → ⊥) → (m : Mem)
-    → Both sys i m (f x v m) []
-both-other sys small f row local x v h l i n m =
-    both-none sys i m (f x v m) (local x v h l m WORKERS i LOGEND (omega arith))
-    (local x v h l m WORKERS i TAIL (omega arith))
-    (λ d. local x v h l m LOG i d (omega arith)) (λ d. local x v h l m WORK i d (omega arith))
+-- a step at a label whose row is `j` leaves the lists of another row alone
+pub both-other : (sys : System) (m n : Mem) (i j x v : ℕ)
+    → ((r a b : ℕ) → Apart sys m j x v r a b → n r a b ≡ m r a b) → (i ≡ j → ⊥) → Both sys i m n []
+both-other sys m n i j x v same d =
+    both-none sys i m n (same WORKERS i LOGEND (omega arith)) (same WORKERS i TAIL (omega arith))
+    (λ c. same LOG i c (omega arith)) (λ c. same WORK i c (omega arith))

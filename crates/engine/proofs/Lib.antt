@@ -1,6 +1,7 @@
 pub mod Frames
 pub mod Growing
 pub mod Inv
+pub mod LabelLoad
 pub mod Labelwise
 pub mod Queues
 pub mod Regions
