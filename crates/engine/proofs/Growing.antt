@@ -41,6 +41,11 @@ module _ {A : Type 0} where
   between-ext from to f g h =
       list-ext (to - from) (λ d. f (from + d)) (λ d. g (from + d)) (λ d p. h (from + d) (omega arith) (omega arith))
 
+  -- no members
+  pub between-none : (from to : ℕ) (f : ℕ → A) → to ≤ from → listBetween from to f ≡ []
+  between-none from to f h =
+      ap (λ (n : ℕ). listBelow n (λ d. f (from + d))) (let e : to - from ≡ 0 = omega arith in e)
+
 -- labels of a row that agree
 pub labels-ext : (m n : Mem) (r i from to : ℕ) → ((d : ℕ) → from ≤ d → d < to → n r i d ≡ m r i d)
     → labelsBetween n r i from to ≡ labelsBetween m r i from to
@@ -68,7 +73,7 @@ labels-first m r i from to h =
 -- no labels
 pub labels-none : (m : Mem) (r i from to : ℕ) → to ≤ from → labelsBetween m r i from to ≡ []
 unfolding labelsBetween
-labels-none m r i from to h = ap (λ n. listBelow n (λ d. labelOf (m r i (from + d)))) (let z : to - from ≡ 0 = omega arith in z)
+labels-none m r i from to h = between-none from to (λ d. labelOf (m r i d)) h
 
 -- one more label at the end
 pub labels-last : (m : Mem) (r i from to : ℕ) → from ≤ to

@@ -28,6 +28,11 @@ pub cond-ext {ℓ} : {A : Type ℓ} (b : Bool) (x x′ y y′ : A) → (b ≡ tr
 cond-ext true x x′ y y′ f g = f refl
 cond-ext false x x′ y y′ f g = g refl
 
+-- a choice between equals
+pub cond-same {ℓ} : {A : Type ℓ} (b : Bool) (x y a : A) → x ≡ a → y ≡ a → cond b x y ≡ a
+cond-same true x y a p q = p
+cond-same false x y a p q = q
+
 -- a worker's row
 pub worker-row : (sys : System) (k : ℕ) → isWorker sys k ≡ true → (k - 1 < sys .workers) × (k ≡ suc (k - 1))
 worker-row sys k e =
