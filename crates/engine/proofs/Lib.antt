@@ -3,6 +3,7 @@ pub mod Growing
 pub mod Inv
 pub mod LabelLoad
 pub mod Labelwise
+pub mod LoadKeeps
 pub mod Loading
 pub mod Queues
 pub mod Regions

@@ -199,7 +199,7 @@ module _ (sys : System) (small : Small sys) (z : Mem) (paired : Paired sys z) (b
               (le-leb k (sys .workers) (omega (arith, small .sound .owned x h .within)))
 
   -- a column other than the ends of the lists
-  column-loaded : (i b : ℕ) → (b ≡ TAIL → ⊥) → (b ≡ LOGEND → ⊥) → n WORKERS i b ≡ 0
+  pub column-loaded : (i b : ℕ) → (b ≡ TAIL → ⊥) → (b ≡ LOGEND → ⊥) → n WORKERS i b ≡ 0
   column-loaded i b p q = loaded-apart WORKERS i b (λ x v k l. omega arith) ∙ blank WORKERS i b (omega arith)
 
   held-loaded : (k : ℕ) → viewHeld sys n k ≡ none
