@@ -1,5 +1,6 @@
 pub mod Frames
 pub mod Growing
+pub mod IndexKept
 pub mod Inv
 pub mod LabelLoad
 pub mod Labelwise
