@@ -1,13 +1,11 @@
 -- A row's log or work list that has grown: its end, the labels before it, and the new ones behind them.
-use Prim.Native.Nat.{ℕ, zero, suc, _+_, _-_, _*_, _/_, _%_, _<_, _≤_}
+use Prim.Native.Nat.{ℕ, zero, suc, _+_, _-_, _/_, _%_, _<_, _≤_}
 use mathlib.Core.List.{List, [], _∷_, _++_, append-assoc, append-nil}
-use mathlib.Core.Logic.{⊎-elim}
 use mathlib.Core.Path.{_≡_, refl, sym, _∙_, ap, ap₂, subst}
 use native.Mathlib.Decide.{ℕ-discrete}
 use native.Mathlib.Nat.{le-step, le-refl}
 use native.Mathlib.Omega.{arith}
 use lib.ListN.{length, length-append}
-use Rattle.base.proofs.Below.{below-cases}
 use Rattle.base.specs.Below.{gatherBelow, listBelow}
 use Rattle.disac4.specs.System.{System}
 use Rattle.network.specs.Network.{Label, label}
@@ -15,7 +13,7 @@ use Rattle.engine.specs.Layout.{WORKERS, LOG, WORK, DOMAIN, TAIL, LOGEND
 use Rattle.engine.specs.Lists.{pushM, deleteM}
 use Rattle.engine.specs.Memory.{Mem, store}
 use Rattle.engine.specs.View.{codeOf, labelOf, listBetween, labelsBetween}
-use Rattle.engine.proofs.Frames.{store-same, store-other, push-stores, push-other}
+use Rattle.engine.proofs.Frames.{store-same, store-other, Beside, push-stores, push-other}
 use Rattle.engine.proofs.Inv.{Code}
 
 -- ---- lists below a bound
@@ -188,6 +186,7 @@ pub record Both (sys : System) (i : ℕ) (m n : Mem) (l : List Label) : Type 0 w
   pub work : Grown sys WORK TAIL i m n l
 
 module _ (sys : System) (i : ℕ) where
+  -- lists that stay
   pub both-none : (m n : Mem) → n WORKERS i LOGEND ≡ m WORKERS i LOGEND → n WORKERS i TAIL ≡ m WORKERS i TAIL
       → ((d : ℕ) → n LOG i d ≡ m LOG i d) → ((d : ℕ) → n WORK i d ≡ m WORK i d) → Both sys i m n []
   both-none m n e f g h = record {
@@ -195,6 +194,7 @@ module _ (sys : System) (i : ℕ) where
     work = grown-none sys WORK TAIL i m n f h;
   }
 
+  -- first by some labels, then by others
   pub both-more : (m n o : Mem) (l k : List Label) → Both sys i m n l → Both sys i n o k → Both sys i m o (l ++ k)
   both-more m n o l k g h = record {
     log = grown-more sys LOG LOGEND i m n o l k (g .log) (h .log);
@@ -212,13 +212,13 @@ module _ (sys : System) (i : ℕ) where
             (grown-more sys LOG LOGEND i m out logged [] (labelOf c ∷ []) (grown-none sys LOG LOGEND i m out refl (λ d. refl))
             (grown-push sys LOG LOGEND i out c (λ e. omega arith) room code))
             (grown-none sys LOG LOGEND i logged (deleteM i x v m)
-            (worked-other WORKERS LOGEND (λ e. omega arith) (λ e f. omega arith))
-            (λ d. worked-other LOG d (λ e. omega arith) (λ e. omega arith)));
+            (worked-other WORKERS LOGEND (omega arith))
+            (λ d. worked-other LOG d (omega arith)));
         work = grown-more sys WORK TAIL i m logged (deleteM i x v m) [] (labelOf c ∷ [])
-            (grown-none sys WORK TAIL i m logged (logged-other WORKERS TAIL (λ e. omega arith) (λ e f. omega arith))
-            (λ d. logged-other WORK d (λ e. omega arith) (λ e. omega arith)))
+            (grown-none sys WORK TAIL i m logged (logged-other WORKERS TAIL (omega arith))
+            (λ d. logged-other WORK d (omega arith)))
             (grown-push sys WORK TAIL i logged c (λ e. omega arith)
-            (omega (arith, logged-other WORKERS TAIL (λ e. omega arith) (λ e f. omega arith))) code);
+            (omega (arith, logged-other WORKERS TAIL (omega arith))) code);
       })
     where
       c : ℕ
@@ -233,9 +233,8 @@ module _ (sys : System) (i : ℕ) where
       logged : Mem
       logged = pushM LOG LOGEND i c out
 
-      logged-other : (r b : ℕ) → (r ≡ LOG → i ≡ i → ⊥) → (r ≡ WORKERS → i ≡ i → b ≡ LOGEND → ⊥) → logged r i b ≡ out r i b
-      logged-other r b e f = push-other LOG LOGEND i c out r i b e f
+      logged-other : (r b : ℕ) → Beside LOG LOGEND i r i b → logged r i b ≡ out r i b
+      logged-other r b e = push-other LOG LOGEND i c out r i b e
 
-      worked-other : (r b : ℕ) → (r ≡ WORK → i ≡ i → ⊥) → (r ≡ WORKERS → i ≡ i → b ≡ TAIL → ⊥)
-          → pushM WORK TAIL i c logged r i b ≡ logged r i b
-      worked-other r b e f = push-other WORK TAIL i c logged r i b e f
+      worked-other : (r b : ℕ) → Beside WORK TAIL i r i b → pushM WORK TAIL i c logged r i b ≡ logged r i b
+      worked-other r b e = push-other WORK TAIL i c logged r i b e

@@ -163,18 +163,18 @@ module _ (sys : System) where
       load-both i m room room′ =
           elim (ℕ-discrete (sys .owner x) (suc i)) [
             | yes e ↦
-              let own : eqb (sys .owner x) (suc i) ≡ true = eq-eqb (sys .owner x) (suc i) e in
-              let row : sys .owner x - 1 ≡ i = omega arith in
-              subst (λ b. Both sys i m (loadLabelM sys x v m) (appended (b && unsupported (sys .net) x v))) (sym own)
-              (subst (λ (j : ℕ). Both sys i m (step j (unsupported (sys .net) x v)) (appended (unsupported (sys .net) x v))) (sym row)
-              (go (unsupported (sys .net) x v)
-              (subst (λ b. m WORKERS i LOGEND + length (appended (b && unsupported (sys .net) x v)) ≤ 512) own room)
-              (subst (λ b. m WORKERS i TAIL + length (appended (b && unsupported (sys .net) x v)) ≤ 512) own room′)))
+                let own : eqb (sys .owner x) (suc i) ≡ true = eq-eqb (sys .owner x) (suc i) e in
+                let row : sys .owner x - 1 ≡ i = omega arith in
+                subst (λ b. Both sys i m (loadLabelM sys x v m) (appended (b && unsupported (sys .net) x v))) (sym own)
+                (subst (λ (j : ℕ). Both sys i m (step j (unsupported (sys .net) x v)) (appended (unsupported (sys .net) x v))) (sym row)
+                (go (unsupported (sys .net) x v)
+                (subst (λ b. m WORKERS i LOGEND + length (appended (b && unsupported (sys .net) x v)) ≤ 512) own room)
+                (subst (λ b. m WORKERS i TAIL + length (appended (b && unsupported (sys .net) x v)) ≤ 512) own room′)))
             | no d ↦
-              subst (λ b. Both sys i m (loadLabelM sys x v m) (appended b))
-              (sym (and-false-left (unsupported (sys .net) x v) (ne-eqb (sys .owner x) (suc i) d)))
-              (both-other sys m (loadLabelM sys x v m) i (sys .owner x - 1) x v (load-apart m)
-              (λ e. d (omega (arith, small .sound .owned x h .above))))
+                subst (λ b. Both sys i m (loadLabelM sys x v m) (appended b))
+                (sym (and-false-left (unsupported (sys .net) x v) (ne-eqb (sys .owner x) (suc i) d)))
+                (both-other sys m (loadLabelM sys x v m) i (sys .owner x - 1) x v (load-apart m)
+                (λ e. d (omega (arith, small .sound .owned x h .above))))
           ]
         where
           appended : Bool → List Label
@@ -183,22 +183,22 @@ module _ (sys : System) where
           step : ℕ → Bool → Mem
           step j b = cond b (deleteM j x v (listed m)) (listed m)
 
-          put : (r b : ℕ) → (r ≡ COUNTERS → ⊥) → (r ≡ DOMAIN → ⊥) → listed m r i b ≡ m r i b
-          put r b p q =
-              count-apart (sys .net .variables) (store m DOMAIN x v LISTED) r i b (λ y k e. absurd (p e))
-              ∙ store-other m DOMAIN x v LISTED r i b (λ e. absurd (q e))
+          put : (r b : ℕ) → (r ≡ COUNTERS → ⊥) × (r ≡ DOMAIN → ⊥) → listed m r i b ≡ m r i b
+          put r b p =
+              count-apart (sys .net .variables) (store m DOMAIN x v LISTED) r i b (λ y k e. absurd (p .0 e))
+              ∙ store-other m DOMAIN x v LISTED r i b (λ e. absurd (p .1 e))
 
           kept : Both sys i m (listed m) []
           kept =
-              both-none sys i m (listed m) (put WORKERS LOGEND (λ e. omega arith) (λ e. omega arith))
-              (put WORKERS TAIL (λ e. omega arith) (λ e. omega arith))
-              (λ d. put LOG d (λ e. omega arith) (λ e. omega arith)) (λ d. put WORK d (λ e. omega arith) (λ e. omega arith))
+              both-none sys i m (listed m) (put WORKERS LOGEND (omega arith))
+              (put WORKERS TAIL (omega arith))
+              (λ d. put LOG d (omega arith)) (λ d. put WORK d (omega arith))
 
           go : (z : Bool) → m WORKERS i LOGEND + length (appended z) ≤ 512 → m WORKERS i TAIL + length (appended z) ≤ 512
               → Both sys i m (step i z) (appended z)
           go true room room′ =
               both-more sys i m (listed m) (deleteM i x v (listed m)) [] (label x v ∷ []) kept
               (both-delete sys i (listed m) x v h l (omega (arith, small .few-values x h))
-              (omega (arith, put WORKERS LOGEND (λ e. omega arith) (λ e. omega arith)))
-              (omega (arith, put WORKERS TAIL (λ e. omega arith) (λ e. omega arith))))
+              (omega (arith, put WORKERS LOGEND (omega arith)))
+              (omega (arith, put WORKERS TAIL (omega arith))))
           go false room room′ = kept

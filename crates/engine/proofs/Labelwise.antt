@@ -1,23 +1,25 @@
 -- A walk over the labels in memory whose steps each change what is their label's own and the lists of one row: the labels
 -- don't disturb one another.
-use Prim.Native.Nat.{ℕ, suc, _+_, _-_, _*_, _<_, _≤_}
-use mathlib.Core.Bool.{Bool, true, false}
+use Prim.Native.Nat.{ℕ, _+_, _-_, _*_, _<_, _≤_}
+use mathlib.Core.Bool.{true, false}
 use mathlib.Core.List.{List, [], _++_}
-use mathlib.Core.Logic.{_⊎_, inl, inr, ⊎-elim}
-use mathlib.Core.Path.{_≡_, refl, sym, _∙_, ap, subst}
+use mathlib.Core.Logic.{_⊎_, inl, inr}
+use mathlib.Core.Path.{_≡_, refl, sym, _∙_, ap}
 use native.Mathlib.Decide.{decLt}
 use native.Mathlib.Omega.{arith}
 use borrow.Author.Tests.{lt-ltb, le-ltb}
 use lib.Dec.{ltb}
 use lib.ListN.{length, length-append}
+use Rattle.base.proofs.Bools.{clash}
 use Rattle.base.proofs.Sums.{one-le}
 use Rattle.base.specs.Below.{one}
 use Rattle.disac4.specs.System.{System}
-use Rattle.network.specs.Network.{Label}
+use Rattle.network.proofs.Loaded.{loaded-intro}
+use Rattle.network.specs.Network.{Label, loaded}
 use Rattle.engine.specs.Layout.{WORKERS, LOG, WORK, DOMAIN, COUNTERS, HEADS, TAIL, LOGEND}
 use Rattle.engine.specs.Memory.{Mem}
 use Rattle.engine.specs.View.{counterRow}
-use Rattle.engine.proofs.Frames.{Apart}
+use Rattle.engine.proofs.Frames.{Apart, domain-apart}
 use Rattle.engine.proofs.Growing.{Both, both-none, both-more}
 use Rattle.engine.proofs.Inv.{Small, Paired}
 use Rattle.engine.proofs.Walking.{walk, gathered, Others, walk-keeps, walk-at, walk-gather}
@@ -28,6 +30,14 @@ use Rattle.engine.proofs.Walking.{walk, gathered, Others, walk-keeps, w
 pub row-heads : (m n : Mem) (x y : ℕ) → n HEADS x y ≡ m HEADS x y → counterRow n x y ≡ counterRow m x y
 unfolding counterRow
 row-heads m n x y e = ap (λ (h : ℕ). 2 * h - 1 + one (ltb y x)) e
+
+-- the same index pairs alike
+pub paired-heads : (sys : System) (m n : Mem) → ((a b : ℕ) → n HEADS a b ≡ m HEADS a b) → Paired sys m → Paired sys n
+paired-heads sys m n e p = record {
+  low = λ x y l. omega (arith, e x y, p .low x y l);
+  high = λ x y l. omega (arith, e x y, p .high x y l);
+  own = λ x y x′ y′ l l′ q. p .own x y x′ y′ l l′ (sym (e x y) ∙ q ∙ e x′ y′);
+}
 
 one-side : (x y : ℕ) → (x ≡ y → ⊥) → one (ltb y x) ≡ one (ltb x y) → ⊥
 one-side x y n e =
@@ -110,14 +120,7 @@ module _ (sys : System) (small : Small sys) (f : ℕ → ℕ → Mem → Mem) (r
     shows-others : (x v d : ℕ) (c : ℕ → ℕ) → Others (sys .net) f (Shows sys m₀ x v d c) x v
     shows-others x v d c x′ v′ n h l m s = record {
       heads = keeps-heads x′ v′ h l m (s .heads);
-      domain = local x′ v′ h l m DOMAIN x v (record {
-        domain = λ e p q. n (sym p) (sym q);
-        counter = λ y k e. omega arith;
-        log = λ e. omega arith;
-        work = λ e. omega arith;
-        log-end = λ e. omega arith;
-        work-end = λ e. omega arith;
-      }) ∙ s .domain;
+      domain = local x′ v′ h l m DOMAIN x v (domain-apart sys m (row x′) x v x′ v′ (λ p q. n (sym p) (sym q))) ∙ s .domain;
       counter = λ y k. local x′ v′ h l m COUNTERS (counterRow m₀ x y) v (record {
         domain = λ e. omega arith;
         counter = λ y′ k′ e p q.
@@ -174,3 +177,10 @@ pub both-other : (sys : System) (m n : Mem) (i j x v : ℕ)
 both-other sys m n i j x v same d =
     both-none sys i m n (same WORKERS i LOGEND (omega arith)) (same WORKERS i TAIL (omega arith))
     (λ c. same LOG i c (omega arith)) (λ c. same WORK i c (omega arith))
+
+-- the domain cell of a label that was not loaded stands apart from all labels
+pub unloaded-apart : (sys : System) (m : Mem) (i x v : ℕ) → loaded (sys .net) x v ≡ false → (x′ v′ : ℕ)
+    → x′ < sys .net .variables → v′ < sys .net .size x′ → Apart sys m i x′ v′ DOMAIN x v
+unloaded-apart sys m i x v e x′ v′ h l =
+    domain-apart sys m i x v x′ v′
+    (λ p q. clash (loaded-intro (sys .net) x v (omega arith) (omega (arith, ap (sys .net .size) p))) e)

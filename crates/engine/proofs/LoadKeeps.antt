@@ -1,29 +1,25 @@
 -- What holds of the memory in every run holds of the loaded memory.
-use Prim.Native.Nat.{ℕ, suc, _+_, _^_, _<_, _≤_}
-use mathlib.Core.Bool.{Bool, true, false, _&&_, not}
+use Prim.Native.Nat.{ℕ, suc, _<_}
+use mathlib.Core.Bool.{not}
 use mathlib.Core.Logic.{inl}
 use mathlib.Core.Path.{_≡_, refl, sym, _∙_, ap, fun-ext}
 use native.Mathlib.Nat.{not-suc-le-zero}
 use native.Mathlib.Omega.{arith}
-use lib.Dec.{eqb}
 use lib.ListN.{length}
 use lib.Pow.{pow-pos}
 use Rattle.base.proofs.Bools.{clash, and-left}
 use Rattle.base.proofs.Sums.{sum-ext, sum-zero}
-use Rattle.base.specs.Below.{sumBelow}
 use Rattle.disac4.proofs.DomainSize.{domainSize, load-size, deletions-loaded}
 use Rattle.disac4.specs.Loading.{unsupported, loadedDeletions, load}
 use Rattle.disac4.specs.System.{System}
-use Rattle.network.specs.Network.{loaded, labelCount}
-use Rattle.engine.specs.Layout.{WORKERS, CURSORS, BOUNDS, DOMAIN, HEADS, HEAD, TAIL, LOGEND, SENDS, LISTS, HELD, POLLS, OUTEND, OUTREAD}
+use Rattle.network.specs.Network.{loaded}
+use Rattle.engine.specs.Layout.{WORKERS, CURSORS, BOUNDS, HEAD, TAIL, LOGEND, SENDS, LISTS, HELD, POLLS, OUTEND, OUTREAD}
 use Rattle.engine.specs.Load.{loadM}
 use Rattle.engine.specs.Memory.{Mem}
-use Rattle.engine.specs.Step.{Machine}
-use Rattle.engine.specs.View.{LISTED}
-use Rattle.engine.proofs.Inv.{Small, Paired, Row, Totals, Polled, Inv, listsOut}
-use Rattle.engine.proofs.Loading.{Blank, startTally, loaded-apart, loaded-both, loaded-unmoved, column-loaded, domain-loaded, heads-loaded}
+use Rattle.engine.proofs.Inv.{Small, Paired, Row, Totals, Inv, listsOut}
+use Rattle.engine.proofs.Labelwise.{paired-heads}
+use Rattle.engine.proofs.Loading.{Blank, startTally, loaded-both, loaded-unmoved, column-loaded, domain-loaded, heads-loaded}
 use Rattle.engine.proofs.RowsKept.{row-kept}
-use Rattle.engine.proofs.Treating.{paired-heads}
 
 module _ (sys : System) (small : Small sys) (z : Mem) (paired : Paired sys z) (blank : Blank z) where
   abbrev n : Mem
@@ -45,7 +41,7 @@ module _ (sys : System) (small : Small sys) (z : Mem) (paired : Paired sys z) (b
   }
 
   -- a column other than the ends of the lists
-  column : (i b : ℕ) → (b ≡ TAIL → ⊥) → (b ≡ LOGEND → ⊥) → n WORKERS i b ≡ 0
+  column : (i b : ℕ) → (b ≡ TAIL → ⊥) × (b ≡ LOGEND → ⊥) → n WORKERS i b ≡ 0
   column = column-loaded sys small z paired blank
 
   cursor : (j i : ℕ) → n CURSORS j i ≡ 0
@@ -73,14 +69,14 @@ module _ (sys : System) (small : Small sys) (z : Mem) (paired : Paired sys z) (b
           log-end i h,
           work-end i h,
           sum-zero (sys .workers) (λ j. n BOUNDS j (n CURSORS j i))
-          (λ j k.
-          loaded-unmoved sys small z paired blank .bounds j (n CURSORS j i) ∙ blank BOUNDS j (n CURSORS j i) (omega arith)),
+              (λ j k.
+              loaded-unmoved sys small z paired blank .bounds j (n CURSORS j i) ∙ blank BOUNDS j (n CURSORS j i) (omega arith)),
         );
     counted = λ i h.
         omega (
           arith,
-          column i LISTS (λ e. omega arith) (λ e. omega arith),
-          column i SENDS (λ e. omega arith) (λ e. omega arith),
+          column i LISTS (omega arith),
+          column i SENDS (omega arith),
           sum-zero (sys .workers) (λ j. n CURSORS j i) (λ j k. cursor j i),
         );
     logged = omega (
@@ -91,10 +87,10 @@ module _ (sys : System) (small : Small sys) (z : Mem) (paired : Paired sys z) (b
       load-size sys,
     );
     all-out = λ i h.
-        no-lists i (n WORKERS i OUTEND) (column i OUTEND (λ e. omega arith) (λ e. omega arith))
-        ∙ sym (column i SENDS (λ e. omega arith) (λ e. omega arith));
+        no-lists i (n WORKERS i OUTEND) (column i OUTEND (omega arith))
+        ∙ sym (column i SENDS (omega arith));
     heard = sym (sum-zero (sys .workers) (λ i. listsOut n i (n WORKERS i OUTREAD))
-        (λ i h. no-lists i (n WORKERS i OUTREAD) (column i OUTREAD (λ e. omega arith) (λ e. omega arith))));
+        (λ i h. no-lists i (n WORKERS i OUTREAD) (column i OUTREAD (omega arith))));
   }
 
   -- the invariant holds of the loaded memory
@@ -103,7 +99,7 @@ module _ (sys : System) (small : Small sys) (z : Mem) (paired : Paired sys z) (b
     rows = λ i h.
         row-kept sys z n startTally (loaded-unmoved sys small z paired blank) i (loadedDeletions sys (suc i))
         (loaded-both sys small z paired blank i h)
-        (omega (arith, column i HEAD (λ e. omega arith) (λ e. omega arith)))
+        (omega (arith, column i HEAD (omega arith)))
         (blank-row i);
     totals = totals;
     polled = record {
@@ -111,7 +107,7 @@ module _ (sys : System) (small : Small sys) (z : Mem) (paired : Paired sys z) (b
       wanted-open = λ e. clash e refl;
       wanted-ended = λ e p. absurd (not-suc-le-zero p);
     };
-    replied = λ i h. inl (omega (arith, column i OUTEND (λ e. omega arith) (λ e. omega arith)));
+    replied = λ i h. inl (omega (arith, column i OUTEND (omega arith)));
     paired = paired-heads sys z n (heads-loaded sys small z paired blank) paired;
     listed = λ x v e.
         and-left (loaded (sys .net) x v) (not (unsupported (sys .net) x v))

@@ -1,42 +1,38 @@
 -- Loading in memory is loading, from a memory that holds the plan's index and is 0 elsewhere.
-use Prim.Native.Nat.{ℕ, zero, suc, _+_, _-_, _^_, _<_, _≤_}
+use Prim.Native.Nat.{ℕ, zero, suc, _+_, _-_, _<_, _≤_}
 use mathlib.Core.Bool.{Bool, true, false, cond, _&&_, not}
 use mathlib.Core.List.{List, [], _∷_, _++_}
-use mathlib.Core.Logic.{_⊎_, inl, inr, ⊎-elim}
-use mathlib.Core.Option.{Option, none, some}
-use mathlib.Core.Path.{_≡_, refl, sym, _∙_, ap, ap₂, subst, fun-ext}
-use native.Mathlib.Nat.{le-refl}
+use mathlib.Core.Option.{none}
+use mathlib.Core.Path.{_≡_, refl, sym, _∙_, ap, subst}
 use native.Mathlib.Omega.{arith}
 use borrow.Author.Tests.{eqb-true, le-leb}
-use lib.Dec.{leb, eqb}
+use lib.Dec.{eqb}
 use lib.ListN.{length}
-use Rattle.base.proofs.Bools.{clash, refuted, and-left, and-right, and-intro, and-false-left, and-false-right}
-use Rattle.base.proofs.Choice.{cond-true, cond-false}
+use Rattle.base.proofs.Bools.{clash, refuted, and-intro, and-false-left, and-false-right}
+use Rattle.base.proofs.Choice.{cond-false}
 use Rattle.base.proofs.Row.{bit-past}
 use Rattle.base.proofs.Sums.{sum-part, sum-zero}
-use Rattle.base.specs.Below.{sumBelow, one, gatherBelow}
+use Rattle.base.specs.Below.{one, gatherBelow}
 use Rattle.base.specs.Row.{bit}
-use Rattle.disac4.proofs.DomainSize.{domainSize, load-size, deletions-loaded}
-use Rattle.disac4.proofs.Workers.{overWorkers}
+use Rattle.disac4.proofs.DomainSize.{load-size, deletions-loaded}
 use Rattle.disac4.specs.Loading.{loadedCounter, unsupported, loadedDeletions, load}
-use Rattle.disac4.specs.State.{Message, list, poll}
+use Rattle.disac4.specs.State.{list, poll}
 use Rattle.disac4.specs.System.{System}
 use Rattle.disac4.specs.declared.Tally.{Tally}
-use Rattle.network.proofs.Loaded.{loaded-intro, loaded-variable, loaded-value}
+use Rattle.network.proofs.Loaded.{loaded-variable, loaded-value}
 use Rattle.network.proofs.Supports.{support-count}
-use Rattle.network.specs.Network.{Label, label, loaded, labelCount, labelsWhere, supports, supportCount}
+use Rattle.network.specs.Network.{Label, label, loaded, labelsWhere, supports, supportCount}
 use Rattle.engine.specs.Layout.{WORKERS, CURSORS, BOUNDS, LOG, WORK, OUT, WANTED, DOMAIN, COUNTERS, HEADS, HEAD, TAIL, LOGEND, SENDS, LISTS, HELD, POLLS, OUTEND, OUTREAD}
 use Rattle.engine.specs.Load.{loadLabelM, loadM}
 use Rattle.engine.specs.Memory.{Mem}
-use Rattle.engine.specs.View.{LISTED, isWorker, listBetween, labelsBetween, listAt, messageOf, pollAt, counterRow, viewCounter, viewWork, viewSend, viewHeld, viewLists, viewLetters, viewPolls, viewOut, viewChannel, view}
+use Rattle.engine.specs.View.{LISTED, isWorker, labelsBetween, listAt, messageOf, pollAt, counterRow, viewCounter, viewWork, viewSend, viewHeld, viewLists, viewLetters, viewPolls, viewOut, viewChannel, view}
 use Rattle.engine.proofs.Frames.{Apart}
 use Rattle.engine.proofs.Growing.{gather-ext, between-none, labels-none, Grown, Both}
 use Rattle.engine.proofs.Inv.{Small, Paired}
 use Rattle.engine.proofs.LabelLoad.{load-walk, load-apart, load-shows, load-both}
-use Rattle.engine.proofs.Labelwise.{row-heads, Shows, shows-start, walk-apart, walk-shows, walk-both}
-use Rattle.engine.proofs.Queues.{queue, workFrom, sendFrom, queue-at}
+use Rattle.engine.proofs.Labelwise.{row-heads, unloaded-apart, Shows, shows-start, walk-apart, walk-shows, walk-both}
+use Rattle.engine.proofs.Queues.{queue, workFrom, sendFrom}
 use Rattle.engine.proofs.Unmoved.{cond-same, worker-row, Unmoved}
-use Rattle.engine.proofs.Walking.{walk, gathered}
 
 -- the regions before the index are 0
 abbrev pub Blank : Mem → Type 0
@@ -113,7 +109,7 @@ module _ (sys : System) (small : Small sys) (z : Mem) (paired : Paired sys z) (b
   -- what else the view shows stays
   pub loaded-unmoved : Unmoved z (loadM sys z)
   loaded-unmoved = record {
-    column = λ i b p q u. loaded-apart WORKERS i b (λ x v k l. omega arith);
+    column = λ i b p. loaded-apart WORKERS i b (λ x v k l. omega arith);
     cursors = λ i b. loaded-apart CURSORS i b (λ x v k l. omega arith);
     bounds = λ i b. loaded-apart BOUNDS i b (λ x v k l. omega arith);
     out = λ i b. loaded-apart OUT i b (λ x v k l. omega arith);
@@ -139,14 +135,7 @@ module _ (sys : System) (small : Small sys) (z : Mem) (paired : Paired sys z) (b
           ∙ put (unsupported (sys .net) x v)
       go false e =
           ap (λ (d : ℕ). eqb d LISTED)
-          (loaded-apart DOMAIN x v (λ x′ v′ k l. record {
-            domain = λ p q r. clash (loaded-intro (sys .net) x v (omega arith) (omega (arith, ap (sys .net .size) q))) e;
-            counter = λ y w p. omega arith;
-            log = λ p. omega arith;
-            work = λ p. omega arith;
-            log-end = λ p. omega arith;
-            work-end = λ p. omega arith;
-          })
+          (loaded-apart DOMAIN x v (λ x′. unloaded-apart sys z (sys .owner x′ - 1) x v e x′)
           ∙ blank DOMAIN x v (omega arith))
 
   -- the index stays
@@ -199,33 +188,33 @@ module _ (sys : System) (small : Small sys) (z : Mem) (paired : Paired sys z) (b
               (le-leb k (sys .workers) (omega (arith, small .sound .owned x h .within)))
 
   -- a column other than the ends of the lists
-  pub column-loaded : (i b : ℕ) → (b ≡ TAIL → ⊥) → (b ≡ LOGEND → ⊥) → n WORKERS i b ≡ 0
-  column-loaded i b p q = loaded-apart WORKERS i b (λ x v k l. omega arith) ∙ blank WORKERS i b (omega arith)
+  pub column-loaded : (i b : ℕ) → (b ≡ TAIL → ⊥) × (b ≡ LOGEND → ⊥) → n WORKERS i b ≡ 0
+  column-loaded i b p = loaded-apart WORKERS i b (λ x v k l. omega arith) ∙ blank WORKERS i b (omega arith)
 
   held-loaded : (k : ℕ) → viewHeld sys n k ≡ none
   unfolding viewHeld
   held-loaded k =
       cond-false _ none
       (and-false-right (isWorker sys k)
-      (ap (λ (c : ℕ). not (eqb c 0)) (column-loaded (k - 1) HELD (λ e. omega arith) (λ e. omega arith))))
+      (ap (λ (c : ℕ). not (eqb c 0)) (column-loaded (k - 1) HELD (omega arith))))
 
   lists-loaded : (k : ℕ) → viewLists sys n startTally k ≡ 0
   unfolding viewLists
   lists-loaded k =
       cond-same (eqb k 0) _ _ 0 refl
-      (cond-same (isWorker sys k) _ _ 0 (column-loaded (k - 1) LISTS (λ e. omega arith) (λ e. omega arith)) refl)
+      (cond-same (isWorker sys k) _ _ 0 (column-loaded (k - 1) LISTS (omega arith)) refl)
 
   no-letters : (i k : ℕ) → viewLetters n i k ≡ []
   unfolding viewLetters
   no-letters i k =
       between-none (n CURSORS i k) (n WORKERS i SENDS) (λ c. list (listAt n i c))
-      (omega (arith, column-loaded i SENDS (λ e. omega arith) (λ e. omega arith)))
+      (omega (arith, column-loaded i SENDS (omega arith)))
 
   no-out : (i : ℕ) → viewOut n i ≡ []
   unfolding viewOut
   no-out i =
       between-none (n WORKERS i OUTREAD) (n WORKERS i OUTEND) (λ e. messageOf n i (n OUT i e))
-      (omega (arith, column-loaded i OUTEND (λ e. omega arith) (λ e. omega arith)))
+      (omega (arith, column-loaded i OUTEND (omega arith)))
 
   no-polls : (i : ℕ) → viewPolls n startTally i ≡ []
   unfolding viewPolls
@@ -249,7 +238,7 @@ module _ (sys : System) (small : Small sys) (z : Mem) (paired : Paired sys z) (b
     domain = λ x v. domain-loaded x v ι;
     counter = λ x v y. counter-loaded x v y ι;
     workList = λ k. queue-loaded WORK TAIL workFrom
-        (λ i. column-loaded i HEAD (λ e. omega arith) (λ e. omega arith)) (λ i. blank WORKERS i TAIL (omega arith))
+        (λ i. column-loaded i HEAD (omega arith)) (λ i. blank WORKERS i TAIL (omega arith))
         (λ i h. loaded-both i h .work) k ι;
     toSend = λ k. queue-loaded LOG LOGEND sendFrom
         (λ i. loaded-unmoved .bounds i (n WORKERS i SENDS) ∙ blank BOUNDS i (n WORKERS i SENDS) (omega arith))

@@ -1,5 +1,5 @@
 -- Work lists and to-send lists as parts of a worker's row.
-use Prim.Native.Nat.{ℕ, suc, _-_, _<_, _≤_}
+use Prim.Native.Nat.{ℕ, suc, _-_, _<_}
 use mathlib.Core.Bool.{true, cond}
 use mathlib.Core.List.{List, []}
 use mathlib.Core.Path.{_≡_, refl, sym, _∙_, ap, ap₂}
@@ -11,9 +11,9 @@ use Rattle.base.proofs.Choice.{cond-true, update-same, update-other}
 use Rattle.base.specs.Choice.{update}
 use Rattle.disac4.specs.System.{System}
 use Rattle.network.specs.Network.{Label}
-use Rattle.engine.specs.Layout.{WORKERS, BOUNDS, LOG, WORK, HEAD, TAIL, LOGEND, SENDS}
+use Rattle.engine.specs.Layout.{WORKERS, BOUNDS, HEAD, SENDS}
 use Rattle.engine.specs.Memory.{Mem}
-use Rattle.engine.specs.View.{isWorker, labelsBetween, viewWork, viewSend}
+use Rattle.engine.specs.View.{isWorker, labelsBetween}
 use Rattle.engine.proofs.Growing.{labels-ext}
 use Rattle.engine.proofs.Unmoved.{cond-ext, worker-row}
 
@@ -28,16 +28,6 @@ workFrom m i = m WORKERS i HEAD
 -- where to-send lists begin
 abbrev pub sendFrom : Mem → ℕ → ℕ
 sendFrom m i = m BOUNDS i (m WORKERS i SENDS)
-
--- the work lists
-pub work-queue : (sys : System) (m : Mem) → viewWork sys m ≡ queue sys WORK TAIL workFrom m
-unfolding viewWork
-work-queue sys m = refl
-
--- the to-send lists
-pub send-queue : (sys : System) (m : Mem) → viewSend sys m ≡ queue sys LOG LOGEND sendFrom m
-unfolding viewSend
-send-queue sys m = refl
 
 -- an actor with a row is a worker
 pub row-worker : (sys : System) (i : ℕ) → i < sys .workers → isWorker sys (suc i) ≡ true
@@ -61,16 +51,16 @@ module _ (sys : System) (q col : ℕ) (from : Mem → ℕ → ℕ) where
   queue-after m n i h l e same k =
       elim (ℕ-discrete k (suc i)) [
         | yes p ↦
-          ap (queue sys q col from n) p
-          ∙ queue-at n i h
-          ∙ e
-          ∙ sym (update-same (queue sys q col from m) (suc i) l)
-          ∙ ap (update (queue sys q col from m) (suc i) l) (sym p)
+            ap (queue sys q col from n) p
+            ∙ queue-at n i h
+            ∙ e
+            ∙ sym (update-same (queue sys q col from m) (suc i) l)
+            ∙ ap (update (queue sys q col from m) (suc i) l) (sym p)
         | no p ↦
-          cond-ext (isWorker sys k) _ _ _ _
-          (λ w. other (k - 1) (λ z. p (worker-row sys k w .1 ∙ ap suc z)))
-          (λ w. refl)
-          ∙ sym (update-other (queue sys q col from m) (suc i) l k p)
+            cond-ext (isWorker sys k) _ _ _ _
+            (λ w. other (k - 1) (λ z. p (worker-row sys k w .1 ∙ ap suc z)))
+            (λ w. refl)
+            ∙ sym (update-other (queue sys q col from m) (suc i) l k p)
       ]
     where
       other : (j : ℕ) → (j ≡ i → ⊥) → part n j ≡ part m j

@@ -1,12 +1,11 @@
 -- Room on the lists: what a row has logged or pushed, and what may still be deleted, is at most the number of labels.
 use Prim.Native.Nat.{ℕ, _+_, _<_, _≤_}
-use mathlib.Core.Path.{_≡_, refl, sym, _∙_, ap}
+use mathlib.Core.Path.{_≡_, sym, _∙_, ap}
 use native.Mathlib.Decide.{ℕ-discrete}
 use native.Mathlib.Omega.{arith}
 use lib.Dec.{eqb}
 use Rattle.base.proofs.Choice.{update-same, update-other}
 use Rattle.base.proofs.Sums.{sum-le, sum-part, sum-change}
-use Rattle.base.specs.Below.{sumBelow}
 use Rattle.base.specs.Choice.{update}
 use Rattle.disac4.proofs.DomainSize.{domainSize}
 use Rattle.disac4.specs.System.{System}
@@ -18,9 +17,6 @@ use Rattle.engine.proofs.Inv.{Inv}
 use Rattle.engine.proofs.Unmoved.{bound-logged}
 
 module _ (sys : System) (s : Machine) (inv : Inv sys s) (i : ℕ) (h : i < sys .workers) where
-  abbrev remaining : ℕ
-  remaining = domainSize (sys .net) (λ x v. eqb (s .mem DOMAIN x v) LISTED)
-
   -- the log
   pub log-room : s .mem WORKERS i LOGEND + domainSize (sys .net) (λ x v. eqb (s .mem DOMAIN x v) LISTED) ≤ labelCount (sys .net)
   log-room =

@@ -8,7 +8,7 @@ use native.Mathlib.Omega.{arith}
 use borrow.Author.Tests.{eq-eqb, ne-eqb}
 use lib.Dec.{eqb}
 use lib.ListN.{length}
-use Rattle.base.proofs.Bools.{and-left, and-right, and-intro, and-false-left, and-false-right}
+use Rattle.base.proofs.Bools.{and-left, and-right, and-intro}
 use Rattle.base.proofs.Choice.{cond-true, cond-false}
 use Rattle.disac4.specs.Action.{loses, lowered, deletes}
 use Rattle.disac4.specs.State.{State}
@@ -198,15 +198,15 @@ module _ (sys : System) (i y w : ℕ) where
           low-counter k y′ k′ =
               elim (ℕ-discrete y′ y) [
                 | yes e ↦
-                  ap (λ (a : ℕ). low COUNTERS (counterRow m₀ x a) v) e
-                  ∙ store-same m COUNTERS (counterRow m₀ x y) v lowered-to
-                  ∙ sym (cond-true (counterOf y - 1) (counterOf y) (eq-eqb y y refl))
-                  ∙ ap (λ (a : ℕ). cond (eqb a y) (counterOf a - 1) (counterOf a)) (sym e)
+                    ap (λ (a : ℕ). low COUNTERS (counterRow m₀ x a) v) e
+                    ∙ store-same m COUNTERS (counterRow m₀ x y) v lowered-to
+                    ∙ sym (cond-true (counterOf y - 1) (counterOf y) (eq-eqb y y refl))
+                    ∙ ap (λ (a : ℕ). cond (eqb a y) (counterOf a - 1) (counterOf a)) (sym e)
                 | no e ↦
-                  store-other m COUNTERS (counterRow m₀ x y) v lowered-to COUNTERS (counterRow m₀ x y′) v
-                  (λ p q r. e (own-row sys small m₀ paired x y′ x y k′ k q .1))
-                  ∙ s .counter y′ k′
-                  ∙ sym (cond-false (counterOf y′ - 1) (counterOf y′) (ne-eqb y′ y e))
+                    store-other m COUNTERS (counterRow m₀ x y) v lowered-to COUNTERS (counterRow m₀ x y′) v
+                    (λ p q r. e (own-row sys small m₀ paired x y′ x y k′ k q .1))
+                    ∙ s .counter y′ k′
+                    ∙ sym (cond-false (counterOf y′ - 1) (counterOf y′) (ne-eqb y′ y e))
               ]
 
           Goal : Mem → Type 0

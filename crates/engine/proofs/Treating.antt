@@ -1,47 +1,39 @@
 -- Treating in memory is treating: the state that the memory stands for afterwards is the one of document 01.
-use Prim.Native.Nat.{ℕ, zero, suc, _+_, _-_, _/_, _%_, _<_, _≤_}
+use Prim.Native.Nat.{ℕ, suc, _+_, _-_, _<_, _≤_}
 use mathlib.Core.Bool.{Bool, true, false, cond, _&&_, not}
 use mathlib.Core.List.{List, [], _∷_, _++_}
-use mathlib.Core.Logic.{⊎-elim}
-use mathlib.Core.Option.{Option, none, some, Option·map}
-use mathlib.Core.Path.{_≡_, refl, sym, _∙_, ap, ap₂, subst, fun-ext}
+use mathlib.Core.Option.{none, some, Option·map}
+use mathlib.Core.Path.{_≡_, refl, sym, _∙_, ap, subst}
 use native.Mathlib.Decide.{ℕ-discrete, decLt}
 use native.Mathlib.Omega.{arith}
 use borrow.Author.Tests.{lt-ltb, le-ltb}
-use lib.Dec.{ltb, eqb}
+use lib.Dec.{eqb}
 use lib.ListN.{length}
-use Rattle.base.proofs.Bools.{decided, clash, refuted, and-left, and-right, and-intro, and-false-left, and-false-right}
-use Rattle.base.proofs.Choice.{cond-true, cond-false, update-same, update-other}
+use Rattle.base.proofs.Bools.{clash, refuted, and-left, and-right, and-false-left, and-false-right}
+use Rattle.base.proofs.Choice.{cond-true, cond-false}
 use Rattle.base.specs.Choice.{update}
 use Rattle.disac4.proofs.DomainSize.{domainSize, treat-size}
 use Rattle.disac4.specs.Action.{loses, lowered, deletes, deletions, afterTreat, treat, treatFrom}
 use Rattle.disac4.specs.State.{State}
 use Rattle.disac4.specs.System.{System}
 use Rattle.disac4.specs.declared.Tally.{Tally}
-use Rattle.network.proofs.Loaded.{loaded-intro, loaded-variable, loaded-value}
+use Rattle.network.proofs.Loaded.{loaded-variable, loaded-value}
 use Rattle.network.specs.Network.{Label, label, loaded, labelsWhere}
 use Rattle.engine.specs.Layout.{WORKERS, CURSORS, BOUNDS, LOG, WORK, OUT, WANTED, DOMAIN, COUNTERS, HEADS, HEAD, TAIL, LOGEND, SENDS}
 use Rattle.engine.specs.Memory.{Mem, store}
 use Rattle.engine.specs.Step.{Machine}
 use Rattle.engine.specs.Treat.{touchVariablesM, treatM}
-use Rattle.engine.specs.View.{LISTED, isWorker, labelOf, labelsBetween, counterRow, viewCounter, viewWork, viewSend, view}
+use Rattle.engine.specs.View.{LISTED, labelOf, labelsBetween, counterRow, viewCounter, viewWork, viewSend, view}
 use Rattle.engine.proofs.Frames.{store-same, store-other, Apart}
 use Rattle.engine.proofs.Growing.{labels-ext, labels-first, labels-none, Both}
 use Rattle.engine.proofs.Inv.{Small, Inv, Paired}
-use Rattle.engine.proofs.Labelwise.{row-heads, Shows, shows-start, walk-apart, walk-shows, walk-both}
-use Rattle.engine.proofs.Queues.{queue, workFrom, sendFrom, work-queue, send-queue, queue-at, queue-after}
+use Rattle.engine.proofs.Labelwise.{row-heads, paired-heads, unloaded-apart, Shows, shows-start, walk-apart, walk-shows, walk-both}
+use Rattle.engine.proofs.Queues.{workFrom, sendFrom, queue-at, queue-after}
 use Rattle.engine.proofs.Room.{log-room, work-room}
+use Rattle.engine.proofs.RowsKept.{same-bound}
 use Rattle.engine.proofs.Touching.{touchLabelM, touch-walk, touch-apart, touch-shows, touch-both}
-use Rattle.engine.proofs.Unmoved.{cond-ext, worker-row, Unmoved, held-kept, lists-kept, channel-kept}
-use Rattle.engine.proofs.Walking.{walk, gathered}
-
--- the same index pairs alike
-pub paired-heads : (sys : System) (m n : Mem) → ((a b : ℕ) → n HEADS a b ≡ m HEADS a b) → Paired sys m → Paired sys n
-paired-heads sys m n e p = record {
-  low = λ x y l. omega (arith, e x y, p .low x y l);
-  high = λ x y l. omega (arith, e x y, p .high x y l);
-  own = λ x y x′ y′ l l′ q. p .own x y x′ y′ l l′ (sym (e x y) ∙ q ∙ e x′ y′);
-}
+use Rattle.engine.proofs.Unmoved.{Unmoved, held-kept, lists-kept, channel-kept}
+use Rattle.engine.proofs.Walking.{walk}
 
 module _ (sys : System) (small : Small sys) (s : Machine) (inv : Inv sys s) (i : ℕ) (h : i < sys .workers)
     (busy : s .mem WORKERS i HEAD < s .mem WORKERS i TAIL) where
@@ -67,8 +59,7 @@ module _ (sys : System) (small : Small sys) (s : Machine) (inv : Inv sys s) (i :
   -- and treated
   abbrev pub treatedM : Mem
   treatedM =
-      touchVariablesM sys i (s .mem WORK i (s .mem WORKERS i HEAD) / 16) (s .mem WORK i (s .mem WORKERS i HEAD) % 16)
-      (sys .net .variables) (store (s .mem) WORKERS i HEAD (s .mem WORKERS i HEAD + 1))
+      touchVariablesM sys i (a .variable) (a .value) (sys .net .variables) taken
 
   step : ℕ → ℕ → Mem → Mem
   step = touchLabelM sys i (a .variable) (a .value)
@@ -91,14 +82,6 @@ module _ (sys : System) (small : Small sys) (s : Machine) (inv : Inv sys s) (i :
       → treatedM r b c ≡ taken r b c
   treated-apart r b c p =
       ap (λ (n : Mem). n r b c) walked ∙ walk-apart sys small step (λ x. i) local taken paired r b c p
-
-  same-deletes : (x v : ℕ) → deletes sys (suc i) a (view sys taken t) x v ≡ deletes sys (suc i) a st x v
-  unfolding deletes lowered loses view viewCounter counterRow
-  same-deletes x v = refl
-
-  same-lowered : (x v y : ℕ) → lowered sys (suc i) a (view sys taken t) x v y ≡ lowered sys (suc i) a st x v y
-  unfolding lowered loses view viewCounter counterRow
-  same-lowered x v y = refl
 
   -- each label's own cells
   pub treated-shows : (x v : ℕ) → x < sys .net .variables → v < sys .net .size x
@@ -134,8 +117,9 @@ module _ (sys : System) (small : Small sys) (s : Machine) (inv : Inv sys s) (i :
   -- nothing else that the view shows has changed
   pub treated-unmoved : Unmoved m treatedM
   treated-unmoved = record {
-    column = λ r b p q u. treated-apart WORKERS r b (λ x v k l. omega arith)
-        ∙ store-other m WORKERS i HEAD (head + 1) WORKERS r b (λ e f. p);
+    column = λ r b p.
+        treated-apart WORKERS r b (λ x v k l. omega arith)
+        ∙ store-other m WORKERS i HEAD (head + 1) WORKERS r b (λ e f. p .0);
     cursors = λ r b. treated-apart CURSORS r b (λ x v k l. omega arith);
     bounds = λ r b. treated-apart BOUNDS r b (λ x v k l. omega arith);
     out = λ r b. treated-apart OUT r b (λ x v k l. omega arith);
@@ -143,8 +127,8 @@ module _ (sys : System) (small : Small sys) (s : Machine) (inv : Inv sys s) (i :
     logs = λ r d p.
         elim (ℕ-discrete r i) [
           | yes e ↦
-            subst (λ (r : ℕ). treatedM LOG r d ≡ m LOG r d) (sym e)
-            (treated-both .log .old d (subst (λ (r : ℕ). d < m WORKERS r LOGEND) e p))
+              subst (λ (r : ℕ). treatedM LOG r d ≡ m LOG r d) (sym e)
+              (treated-both .log .old d (subst (λ (r : ℕ). d < m WORKERS r LOGEND) e p))
           | no n ↦ treated-apart LOG r d (λ x v k l. omega arith)
         ];
   }
@@ -173,14 +157,7 @@ module _ (sys : System) (small : Small sys) (s : Machine) (inv : Inv sys s) (i :
       go false e =
           let out : eqb (m DOMAIN x v) LISTED ≡ false = refuted (eqb (m DOMAIN x v) LISTED) (λ p. clash (inv .listed x v p) e) in
           ap (λ (d : ℕ). eqb d LISTED)
-          (treated-apart DOMAIN x v (λ x′ v′ k l. record {
-            domain = λ p q r. clash (loaded-intro (sys .net) x v (omega arith) (omega (arith, ap (sys .net .size) q))) e;
-            counter = λ y z p. omega arith;
-            log = λ p. omega arith;
-            work = λ p. omega arith;
-            log-end = λ p. omega arith;
-            work-end = λ p. omega arith;
-          }))
+          (treated-apart DOMAIN x v (unloaded-apart sys taken i x v e))
           ∙ out
           ∙ sym (and-false-left (not (deletes sys (suc i) a st x v)) out)
 
@@ -235,24 +212,17 @@ module _ (sys : System) (small : Small sys) (s : Machine) (inv : Inv sys s) (i :
       (labels-ext m taken WORK i (head + 1) (m WORKERS i TAIL) (λ d p q. refl)))
       (λ j n. (other-row j HEAD n, other-row j TAIL n, λ d. treated-apart WORK j d (λ x v k l. omega arith)))
 
-  -- what is sent stays
-  pub sends-after : (j : ℕ) → treatedM BOUNDS j (treatedM WORKERS j SENDS) ≡ m BOUNDS j (m WORKERS j SENDS)
-  sends-after j =
-      ap (treatedM BOUNDS j)
-      (treated-unmoved .column j SENDS (λ e. omega arith) (λ e. omega arith) (λ e. omega arith))
-      ∙ treated-unmoved .bounds j (m WORKERS j SENDS)
-
   send-after : (k : ℕ)
       → viewSend sys treatedM k ≡ update (viewSend sys m) (suc i) (viewSend sys m (suc i) ++ deletions sys (suc i) a st) k
   unfolding viewSend
   send-after =
       queue-after sys LOG LOGEND sendFrom m treatedM i h (viewSend sys m (suc i) ++ deletions sys (suc i) a st)
-      (ap (λ (b : ℕ). labelsBetween treatedM LOG i b (treatedM WORKERS i LOGEND)) (sends-after i)
+      (ap (λ (b : ℕ). labelsBetween treatedM LOG i b (treatedM WORKERS i LOGEND)) (same-bound sys m treatedM t treated-unmoved i)
       ∙ treated-both .log .new (m BOUNDS i (m WORKERS i SENDS)) (inv .rows i h .last-bound)
       ∙ ap (λ (l : List Label). l ++ deletions sys (suc i) a st)
       (labels-ext m taken LOG i (m BOUNDS i (m WORKERS i SENDS)) (m WORKERS i LOGEND) (λ d p q. refl)
       ∙ sym (queue-at sys LOG LOGEND sendFrom m i h)))
-      (λ j n. (sends-after j, other-row j LOGEND n, λ d. treated-apart LOG j d (λ x v k l. omega arith)))
+      (λ j n. (same-bound sys m treatedM t treated-unmoved j, other-row j LOGEND n, λ d. treated-apart LOG j d (λ x v k l. omega arith)))
 
   -- the state that the memory stands for is the one after the treatment
   pub treated-view : view sys treatedM t ≡ afterTreat sys (suc i) a rest st
@@ -294,14 +264,14 @@ unfolding treat
 treat-refines sys small s inv i h =
     elim (decLt (s .mem WORKERS i HEAD) (s .mem WORKERS i TAIL)) [
       | yes busy ↦
-        ap (Option·map (λ m′. view sys m′ (s .tally))) (treat-busy sys small s inv i h busy)
-        ∙ ap some (treated-view sys small s inv i h busy)
-        ∙ ap (treatFrom sys (suc i) (view sys (s .mem) (s .tally)))
-        (sym (work-list sys (s .mem) (s .tally) i h
-        ∙ labels-first (s .mem) WORK i (s .mem WORKERS i HEAD) (s .mem WORKERS i TAIL) busy))
+          ap (Option·map (λ m′. view sys m′ (s .tally))) (treat-busy sys small s inv i h busy)
+          ∙ ap some (treated-view sys small s inv i h busy)
+          ∙ ap (treatFrom sys (suc i) (view sys (s .mem) (s .tally)))
+          (sym (work-list sys (s .mem) (s .tally) i h
+          ∙ labels-first (s .mem) WORK i (s .mem WORKERS i HEAD) (s .mem WORKERS i TAIL) busy))
       | no idle ↦
-        ap (Option·map (λ m′. view sys m′ (s .tally))) (treat-idle sys (s .mem) i (omega arith))
-        ∙ ap (treatFrom sys (suc i) (view sys (s .mem) (s .tally)))
-        (sym (work-list sys (s .mem) (s .tally) i h
-        ∙ labels-none (s .mem) WORK i (s .mem WORKERS i HEAD) (s .mem WORKERS i TAIL) (omega arith)))
+          ap (Option·map (λ m′. view sys m′ (s .tally))) (treat-idle sys (s .mem) i (omega arith))
+          ∙ ap (treatFrom sys (suc i) (view sys (s .mem) (s .tally)))
+          (sym (work-list sys (s .mem) (s .tally) i h
+          ∙ labels-none (s .mem) WORK i (s .mem WORKERS i HEAD) (s .mem WORKERS i TAIL) (omega arith)))
     ]

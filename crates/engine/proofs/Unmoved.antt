@@ -1,24 +1,20 @@
 -- The part of a view that a memory action leaves alone when it only deletes labels: polls, counts of lists and channels.
 use Prim.Native.Nat.{ℕ, zero, suc, _+_, _-_, _<_, _≤_}
 use mathlib.Core.Bool.{Bool, true, false, cond, _&&_, not}
-use mathlib.Core.List.{List, []}
-use mathlib.Core.Logic.{⊎-elim}
-use mathlib.Core.Option.{Option, none, some}
-use mathlib.Core.Path.{_≡_, refl, sym, _∙_, ap, ap₂, subst}
+use mathlib.Core.Option.{none, some}
+use mathlib.Core.Path.{_≡_, refl, _∙_, ap}
 use native.Mathlib.Decide.{decLt}
 use native.Mathlib.Nat.{le-step, le-refl}
 use native.Mathlib.Omega.{arith}
 use borrow.Author.Tests.{leb-true}
 use lib.Dec.{leb, eqb}
-use Rattle.base.proofs.Bools.{decided}
 use Rattle.base.proofs.Choice.{between-low, between-high}
-use Rattle.disac4.specs.State.{State, Message, list, reply, poll, Poll}
+use Rattle.disac4.specs.State.{list, poll}
 use Rattle.disac4.specs.System.{System}
 use Rattle.disac4.specs.declared.Tally.{Tally}
-use Rattle.network.specs.Network.{Label}
 use Rattle.engine.specs.Layout.{WORKERS, CURSORS, BOUNDS, LOG, OUT, WANTED, HEAD, TAIL, LOGEND, SENDS, LISTS, HELD, POLLS, OUTEND, OUTREAD}
 use Rattle.engine.specs.Memory.{Mem}
-use Rattle.engine.specs.View.{LISTMARK, isWorker, listBetween, labelsBetween, listAt, messageOf, pollAt, viewHeld, viewLists, viewLetters, viewPolls, viewOut, viewChannel}
+use Rattle.engine.specs.View.{LISTMARK, isWorker, listAt, messageOf, pollAt, viewHeld, viewLists, viewLetters, viewPolls, viewOut, viewChannel}
 use Rattle.engine.proofs.Growing.{between-ext, labels-ext}
 use Rattle.engine.proofs.Inv.{Row}
 
@@ -63,8 +59,13 @@ bound-logged sys m t i row n h =
 
 -- ---- what stays
 
+-- a column that deletions don't touch
+abbrev pub Steady : ℕ → Type 0
+Steady b = (b ≡ HEAD → ⊥) × (b ≡ TAIL → ⊥) × (b ≡ LOGEND → ⊥)
+
+-- all but the heads and ends of the lists, and the labels behind the logs' ends
 pub record Unmoved (m n : Mem) : Type 0 where
-  pub column : (i b : ℕ) → (b ≡ HEAD → ⊥) → (b ≡ TAIL → ⊥) → (b ≡ LOGEND → ⊥) → n WORKERS i b ≡ m WORKERS i b
+  pub column : (i b : ℕ) → Steady b → n WORKERS i b ≡ m WORKERS i b
   pub cursors : (i b : ℕ) → n CURSORS i b ≡ m CURSORS i b
   pub bounds : (i b : ℕ) → n BOUNDS i b ≡ m BOUNDS i b
   pub out : (i b : ℕ) → n OUT i b ≡ m OUT i b
@@ -81,7 +82,7 @@ module _ (sys : System) (m n : Mem) (t : Tally) (u : Unmoved m n) where
   unfolding viewHeld
   held-kept k =
       ap (λ (h : ℕ). cond (isWorker sys k && not (eqb h 0)) (some (pollAt n h)) none)
-      (u .column (k - 1) HELD (λ e. omega arith) (λ e. omega arith) (λ e. omega arith))
+      (u .column (k - 1) HELD (omega arith))
       ∙ ap (λ q. cond (isWorker sys k && not (eqb (m WORKERS (k - 1) HELD) 0)) (some q) none)
       (poll-kept (m WORKERS (k - 1) HELD))
 
@@ -90,7 +91,7 @@ module _ (sys : System) (m n : Mem) (t : Tally) (u : Unmoved m n) where
   unfolding viewLists
   lists-kept k =
       ap (λ (c : ℕ). cond (eqb k 0) (t .lists .0) (cond (isWorker sys k) c 0))
-      (u .column (k - 1) LISTS (λ e. omega arith) (λ e. omega arith) (λ e. omega arith))
+      (u .column (k - 1) LISTS (omega arith))
 
   module _ (rows : (i : ℕ) → i < sys .workers → Row sys m t i) where
     list-kept : (i : ℕ) → i < sys .workers → (c : ℕ) → c < m WORKERS i SENDS → listAt n i c ≡ listAt m i c
@@ -103,7 +104,7 @@ module _ (sys : System) (m n : Mem) (t : Tally) (u : Unmoved m n) where
     letters-kept : (i k : ℕ) → i < sys .workers → viewLetters n i k ≡ viewLetters m i k
     unfolding viewLetters
     letters-kept i k h =
-        rw (u .cursors i k, u .column i SENDS (λ e. omega arith) (λ e. omega arith) (λ e. omega arith))
+        rw (u .cursors i k, u .column i SENDS (omega arith))
         (between-ext (m CURSORS i k) (m WORKERS i SENDS) (λ c. list (listAt n i c)) (λ c. list (listAt m i c))
         (λ c p q. ap list (list-kept i h c q)))
 
@@ -120,8 +121,8 @@ module _ (sys : System) (m n : Mem) (t : Tally) (u : Unmoved m n) where
     unfolding viewOut
     out-kept i h =
         rw (
-          u .column i OUTREAD (λ e. omega arith) (λ e. omega arith) (λ e. omega arith),
-          u .column i OUTEND (λ e. omega arith) (λ e. omega arith) (λ e. omega arith),
+          u .column i OUTREAD (omega arith),
+          u .column i OUTEND (omega arith),
         )
         (between-ext (m WORKERS i OUTREAD) (m WORKERS i OUTEND) (λ e. messageOf n i (n OUT i e)) (λ e. messageOf m i (m OUT i e))
         (λ e p q. ap (messageOf n i) (u .out i e) ∙ message-kept i h e q))
@@ -129,7 +130,7 @@ module _ (sys : System) (m n : Mem) (t : Tally) (u : Unmoved m n) where
     polls-kept : (i : ℕ) → viewPolls n t i ≡ viewPolls m t i
     unfolding viewPolls
     polls-kept i =
-        rw (u .column i POLLS (λ e. omega arith) (λ e. omega arith) (λ e. omega arith))
+        rw (u .column i POLLS (omega arith))
         (between-ext (m WORKERS i POLLS + 1) (t .timestamp .0 + 1) (λ c. poll (pollAt n c)) (λ c. poll (pollAt m c))
         (λ c p q. ap poll (poll-kept c)))
 

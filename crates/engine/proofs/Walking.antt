@@ -1,8 +1,8 @@
 -- Loops that go over variables and their values, ascending: what each step keeps, what one step does, and what is gathered.
 use Prim.Native.Nat.{ℕ, zero, suc, _<_}
-use mathlib.Core.List.{List, [], _∷_, _++_, append-assoc, append-nil}
+use mathlib.Core.List.{List, [], _++_, append-assoc, append-nil}
 use mathlib.Core.Logic.{⊎-elim}
-use mathlib.Core.Path.{_≡_, refl, sym, subst}
+use mathlib.Core.Path.{_≡_, sym, subst}
 use native.Mathlib.Nat.{not-suc-le-zero, le-step, le-refl}
 use native.Mathlib.Omega.{arith}
 use Rattle.base.proofs.Below.{below-cases}
@@ -10,6 +10,7 @@ use Rattle.base.specs.Below.{gatherBelow}
 use Rattle.network.specs.Network.{Network, Label}
 
 module _ {A : Type 0} where
+  -- the steps 0, 1, .. before `n`
   abbrev pub loop : (ℕ → A → A) → ℕ → A → A
   loop f zero a = a
   loop f (suc n) a = f n (loop f n a)
