@@ -1,7 +1,8 @@
 -- What each part of the invariant depends on: where those cells are kept, so is the part.
 use Prim.Native.Nat.{ℕ, _+_, _^_, _<_, _≤_}
+use mathlib.Core.Bool.{true}
 use mathlib.Core.Logic.{_⊎_, inl, inr, ⊎-elim}
-use mathlib.Core.Path.{_≡_, refl, sym, _∙_, ap, ap₂, fun-ext}
+use mathlib.Core.Path.{_≡_, refl, sym, _∙_, ap, ap₂, fun-ext, subst}
 use native.Mathlib.Numerals.{add-one}
 use native.Mathlib.Omega.{arith}
 use lib.Dec.{leb, eqb}
@@ -198,6 +199,7 @@ pub record OnlyRow (m m′ : Mem) (i : ℕ) : Type 0 where
   pub others : (k : ℕ) → (k ≡ i → ⊥) → SameRow m m′ k
   pub wanted : SameWanted m m′
   pub heads : SameHeads m m′
+  pub domain : (x v : ℕ) → m′ DOMAIN x v ≡ m DOMAIN x v
 
 -- a row has put as many messages for the controller as its count says, or one more where it has replied
 abbrev pub Answered : Mem → Tally → ℕ → Type 0
@@ -233,6 +235,7 @@ row-action sys s s′ i inv only next row totals answered marks = record {
       (replied-kept (s .mem) (s′ .mem) (s′ .tally) k (λ c p. only .others k n .workers c) (only .others k n .bounds)
       (only .wanted) (next .replied k r)))
       (inv .replied k h));
+  listed = λ x v e. inv .listed x v (subst (λ (c : ℕ). eqb c LISTED ≡ true) (only .domain x v) e);
   paired = paired-kept (s .mem) (s′ .mem) sys (only .heads) (inv .paired);
   marks = marks;
 }

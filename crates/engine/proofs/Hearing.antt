@@ -113,6 +113,7 @@ module _ (sys : System) (m : Mem) (t t′ : Tally) (i : ℕ) (inv : Inv sys (rec
     };
     wanted = λ n. refl;
     heads = λ x y. refl;
+    domain = λ x v. refl;
   }
 
   row : Row sys (outReadM i m) t′ i

@@ -44,6 +44,7 @@ module _ (sys : System) (m : Mem) (t : Tally) (i : ℕ) (inv : Inv sys (record {
     };
     wanted = λ n. refl;
     heads = λ x y. refl;
+    domain = λ x v. refl;
   }
 
   row : Row sys (heldM i m) t i
@@ -166,6 +167,7 @@ module _ (sys : System) (m : Mem) (t : Tally) (inv : Inv sys (record { mem = m; 
               }) refl (inv .totals);
           polled = polled;
           replied = λ i h. ⊎-elim inl (λ r. inr (replied-asked i h r)) (inv .replied i h);
+          listed = inv .listed;
           paired = paired-kept m (askM t m) sys (λ x y. refl) (inv .paired);
           marks = omega (arith, pow-pos (sys .workers));
         }

@@ -89,6 +89,7 @@ module _ (j i : ℕ) (m : Mem) (room : m WORKERS i TAIL + letterLength j i m ≤
     };
     wanted = region WANTED (omega arith) 0;
     heads = region HEADS (omega arith);
+    domain = region DOMAIN (omega arith);
   }
 
   -- a sum over what row `i` has read of each row grows at row `j`

@@ -2,6 +2,7 @@
 use Prim.Native.Nat.{ℕ, _+_, _-_, _<_}
 use mathlib.Core.Bool.{Bool, true, false, cond}
 use mathlib.Core.Option.{Option, none, some}
+pub use mathlib.Core.Option.{Option·map as mapO}
 use mathlib.Core.Path.{_≡_, refl, _∙_, ap, fun-ext}
 use native.Mathlib.Omega.{arith}
 use borrow.Author.Tests.{le-leb, lt-leb}
@@ -14,11 +15,6 @@ pub use Rattle.engine.specs.Run.{viewOf}
 use Rattle.engine.specs.Step.{Machine}
 use Rattle.engine.specs.View.{LISTMARK, view, labelsBetween, listAt, messageOf, pollAt, counterRow, viewWork, viewSend, viewHeld, viewLists, viewLetters, viewPolls, viewOut, viewChannel, viewCounter}
 use Rattle.engine.proofs.ChannelRows.{Rows, atChannel}
-
--- what an action gives, seen through a function
-abbrev pub mapO {ℓ κ} : {A : Type ℓ} {B : Type κ} → (A → B) → Option A → Option B
-mapO f none = none
-mapO f (some a) = some (f a)
 
 -- Named on an `unfolding` line, this opens the view down to the channels' contents.
 unfoldable pub view-parts : Unit {0}

@@ -65,6 +65,7 @@ module _ (i : ℕ) (m : Mem) where
     };
     wanted = λ n. refl;
     heads = λ x y. refl;
+    domain = λ x v. refl;
   }
 
 -- ---- the parts of the invariant

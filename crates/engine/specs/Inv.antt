@@ -9,7 +9,7 @@ use Rattle.network.proofs.DomainSize.{domainSize}
 use Rattle.disac4.proofs.Sound.{Sound}
 use Rattle.disac4.specs.System.{System}
 use Rattle.disac4.specs.declared.Tally.{Tally}
-use Rattle.network.specs.Network.{labelCount}
+use Rattle.network.specs.Network.{loaded, labelCount}
 use Rattle.engine.specs.Layout.{WORKERS, CURSORS, BOUNDS, LOG, WORK, OUT, WANTED, DOMAIN, HEADS, HEAD, TAIL, LOGEND, SENDS, LISTS, HELD, POLLS, OUTEND, OUTREAD}
 use Rattle.engine.specs.Memory.{Mem}
 use Rattle.engine.specs.Step.{Machine}
@@ -108,4 +108,6 @@ pub record Inv (sys : System) (s : Machine) : Type 0 where
   pub replied : (i : ℕ) → i < sys .workers
       → (s .mem WORKERS i OUTEND ≤ s .mem WORKERS i LISTS) ⊎ Replied (s .mem) (s .tally) i
   pub paired : Paired sys (s .mem)
+  -- only loaded labels are in the domains
+  pub listed : (x v : ℕ) → eqb (s .mem DOMAIN x v) LISTED ≡ true → loaded (sys .net) x v ≡ true
   pub marks : s .tally .marks < 2 ^ sys .workers
