@@ -1,3 +1,4 @@
+pub mod ControllerLaws
 pub mod Inv
 pub mod ListLaws
 pub mod MessageLaws
