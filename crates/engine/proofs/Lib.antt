@@ -6,6 +6,7 @@ pub mod Behind
 pub mod Capacity
 pub mod ChannelRows
 pub mod Cleared
+pub mod ControllerLaws
 pub mod Copied
 pub mod Filled
 pub mod Frame

@@ -1,5 +1,8 @@
 // The state in lent cells: loading, the actions, the turn run and the round run.
+use disac4::Tally;
+
 pub mod clear;
+pub mod controller;
 pub mod layout;
 pub mod lists;
 pub mod messages;
@@ -11,4 +14,10 @@ pub struct Region {
     pub base: usize,
     pub rows: usize,
     pub cols: usize,
+}
+
+// What an action of the controller gives: 1 where it changed something, and the tally after it.
+pub struct Heard {
+    pub changed: usize,
+    pub tally: Tally,
 }
