@@ -10,7 +10,7 @@ use native.Mathlib.Numerals.{add-one}
 use native.Mathlib.Omega.{arith}
 use lib.ListN.{length, getD, length-append, List·getD-append}
 use lib.Seq.{getD-append-seam, getD-at}
-use Rattle.base.proofs.Bools.{and-left, and-right, and-intro, or-cases, or-left, or-right}
+use Rattle.base.proofs.Bools.{and-left, and-right, and-intro, or-cases, or-left, or-right, or-false}
 use Rattle.base.specs.Below.{anyBelow, allBelow, gatherBelow, listBelow, firstBelow}
 use Rattle.base.specs.Choice.{firstOf}
 
@@ -32,6 +32,13 @@ some-below (suc n) t e = go (or-cases (anyBelow n t) (t n) e) (some-below n t)
         → (i : ℕ) × (i < suc n) × (t i ≡ true)
     go (inl p) ih = (ih p .0, le-step (ih p .1), ih p .2)
     go (inr p) ih = (n, le-refl (suc n), p)
+
+-- one more index fails, or passes
+pub any-more : (n : ℕ) (t : ℕ → Bool) → anyBelow n t ≡ false → t n ≡ false → anyBelow (n + 1) t ≡ false
+any-more n t e p = rw add-one (or-false e p)
+
+pub all-more : (n : ℕ) (t : ℕ → Bool) → allBelow n t ≡ true → t n ≡ true → allBelow (n + 1) t ≡ true
+all-more n t e p = rw add-one (and-intro e p)
 
 -- no index passes
 pub none-below : (n : ℕ) (t : ℕ → Bool) → anyBelow n t ≡ false → (i : ℕ) → i < n → t i ≡ false
@@ -95,6 +102,19 @@ module _ {ℓ} {A : Type ℓ} where
           let r : (i : ℕ) × (i < n) × (f i ≡ some a) × (firstBelow i f ≡ none) =
           ih (p ∙ (ap (λ (o : Option A). firstOf o (f n)) (sym p) ∙ e)) in
           (r .0, le-step (r .1), r .2, r .3)
+
+  -- the first result, where it is known at which index it stands
+  pub first-at : (n : ℕ) (f : ℕ → Option A) (i : ℕ) (a : A) → i < n → firstBelow i f ≡ none → f i ≡ some a
+      → firstBelow n f ≡ some a
+  first-at zero f i a h e p = absurd (not-suc-le-zero h)
+  first-at (suc n) f i a h e p =
+      ⊎-elim (λ q. rw (← q, e) p)
+      (λ q. ap (λ (o : Option A). firstOf o (f n)) (first-at n f i a q e p))
+      (below-cases h)
+
+  -- one more index without a result
+  pub first-more : (n : ℕ) (f : ℕ → Option A) → firstBelow n f ≡ none → f n ≡ none → firstBelow (n + 1) f ≡ none
+  first-more n f e p = rw (add-one, e) p
 
   -- no index has a result
   pub none-first : (n : ℕ) (f : ℕ → Option A) → firstBelow n f ≡ none → (i : ℕ) → i < n → f i ≡ none

@@ -1,5 +1,6 @@
 pub mod Below
 pub mod Bools
+pub mod Bytes
 pub mod Choice
 pub mod Each
 pub mod Members

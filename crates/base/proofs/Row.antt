@@ -1,5 +1,5 @@
 -- Laws of rows of bits, at any width: which values a row holds, and how many.
-use Prim.Native.Nat.{ℕ, zero, suc, _+_, _-_, _*_, _/_, _%_, _^_, _<_, _≤_}
+use Prim.Native.Nat.{ℕ, zero, suc, _+_, _-_, _*_, _/_, _%_, _^_, _<_, _≤_, min}
 use mathlib.Core.Bool.{Bool, true, false, cond}
 use mathlib.Core.Logic.{_⊎_, inl, inr, ⊎-elim}
 use mathlib.Core.Path.{_≡_, refl, sym, _∙_, ap}
@@ -7,7 +7,8 @@ use native.Mathlib.Nat.{not-suc-le-zero, le-of-suc-le-suc, two-pow-succ, pow-suc
 use native.Mathlib.Omega.{arith}
 use borrow.Author.Tests.{eqb-true, eqb-false, eq-eqb, ne-eqb}
 use lib.Dec.{eqb}
-use lib.Pow.{pow-mono}
+use lib.Bits.{bitAnd, and-step, and-self}
+use lib.Pow.{pow-mono, pow-pos}
 use Rattle.base.proofs.Bools.{decided}
 use Rattle.base.proofs.Choice.{cond-true, cond-false}
 use Rattle.base.proofs.Sums.{sum-ext, sum-times, sum-first, count-ext, count-le}
@@ -206,3 +207,46 @@ rowCount-bits n r h = counts-in n n r h (count-le n (bit r))
 pub rowCount-counts : (n : ℕ) (t : ℕ → Bool) → rowCount n (rowOf n t) ≡ countBelow n t
 rowCount-counts n t =
     rowCount-bits n (rowOf n t) (row-small n t) ∙ count-ext n (bit (rowOf n t)) t (row-bit n t)
+
+-- ---- counting one value after the other
+
+-- the empty row counts 0
+pub rowCount-empty : (n : ℕ) → rowCount n 0 ≡ 0
+rowCount-empty n = rowCount-bits n 0 (pow-pos n) ∙ count-empty n
+
+-- any other row counts one more than the row without its lowest value
+pub rowCount-lowest : (n r : ℕ) → 0 < r → r < 2 ^ n → rowCount n r ≡ suc (rowCount n (withoutLowest n r))
+rowCount-lowest n r l h =
+    rowCount-bits n r h ∙ lowest-count n r l h
+    ∙ ap suc (sym (rowCount-bits n (withoutLowest n r) (lowest-small n r h)))
+
+-- a row counts at most its width
+pub rowCount-small : (n r : ℕ) → r < 2 ^ n → rowCount n r ≤ n
+rowCount-small n r h = omega (arith, rowCount-bits n r h, count-le n (bit r))
+
+-- `r & (r - 1)` is the row without its lowest value
+pub lowest-and : (n r : ℕ) → 0 < r → r < 2 ^ n → bitAnd r (r - 1) ≡ withoutLowest n r
+unfolding withoutLowest
+lowest-and zero r l h = omega arith
+lowest-and (suc n) r l h = go (lowest-and n (r / 2))
+  where
+    halves : (a : ℕ) → (r - 1) / 2 ≡ a → bitAnd r (r - 1) ≡ bitAnd (r / 2) a * 2 + min (r % 2) ((r - 1) % 2)
+    halves a e = and-step r (r - 1) ∙ ap (λ (k : ℕ). bitAnd (r / 2) k * 2 + min (r % 2) ((r - 1) % 2)) e
+
+    go : (0 < r / 2 → r / 2 < 2 ^ n → bitAnd (r / 2) (r / 2 - 1) ≡ withoutLowest n (r / 2))
+        → bitAnd r (r - 1) ≡ withoutLowest (suc n) r
+    go ih =
+        ⊎-elim
+        (λ p.
+        let odd : r % 2 ≡ 1 = eqb-true (r % 2) 1 p in
+        omega
+        (arith, halves (r / 2) (omega arith), and-self (r / 2), cond-true (r - 1) (2 * withoutLowest n (r / 2)) p))
+        (λ p.
+        let even : r % 2 ≡ 0 = omega (arith, eqb-false (r % 2) 1 p) in
+        omega (
+          arith,
+          halves (r / 2 - 1) (omega arith),
+          ih (omega arith) (half-small n r h),
+          cond-false (r - 1) (2 * withoutLowest n (r / 2)) p,
+        ))
+        (decided (isOdd r))

@@ -4,6 +4,7 @@ use mathlib.Core.Bool.{Bool, true, false}
 use mathlib.Core.Logic.{_⊎_, inl, inr, ⊎-elim}
 use mathlib.Core.Path.{_≡_, refl, sym, _∙_, ap, ap₂, subst}
 use native.Mathlib.Nat.{not-suc-le-zero, le-step, le-refl}
+use native.Mathlib.Numerals.{add-one}
 use native.Mathlib.Omega.{arith}
 use Rattle.base.proofs.Below.{below-cases}
 use Rattle.base.specs.Below.{sumBelow, one, countBelow}
@@ -11,6 +12,10 @@ use Rattle.base.specs.Below.{sumBelow, one, countBelow}
 pub sum-ext : (n : ℕ) (f g : ℕ → ℕ) → ((i : ℕ) → i < n → f i ≡ g i) → sumBelow n f ≡ sumBelow n g
 sum-ext zero f g h = refl
 sum-ext (suc n) f g h = ap₂ _+_ (sum-ext n f g (λ i p. h i (le-step p))) (h n (le-refl (suc n)))
+
+-- one summand more
+pub sum-more : (s a n : ℕ) (f : ℕ → ℕ) → s ≡ sumBelow n f → a ≡ f n → s + a ≡ sumBelow (n + 1) f
+sum-more s a n f p q = rw add-one (omega arith)
 
 pub sum-zero : (n : ℕ) (f : ℕ → ℕ) → ((i : ℕ) → i < n → f i ≡ 0) → sumBelow n f ≡ 0
 sum-zero zero f h = refl

@@ -1,1 +1,50 @@
-// Loops below a bound, updates, rows of bits and big-endian reads, with their laws. No code yet.
+// Big-endian reads in a slice of bytes, and rows of bits; as definitions, loops below a bound and updates too.
+ghost use mathlib.Core.Path.{_≡_};
+ghost use Prim.Native.Nat.{ℕ, _<_, _^_};
+ghost use Rattle.base.specs.Bytes.{byteAt, wordAt};
+ghost use Rattle.base.specs.Row.{rowCount};
+
+// A byte as a number.
+fn wide(x: u8) -> usize
+    ensures { λ r. ⌜ (r ≡ x) × (r < 256) ⌝ }
+{
+    x as usize
+}
+
+// The byte at i, 0 past the end.
+pub fn byte_at(b: &[u8], i: usize) -> usize
+    ensures { λ r. ⌜ (r ≡ byteAt (now (b .entry)) i) × (r < 256) ⌝ }
+{
+    if i < b.len() { wide(b[i]) } else { 0 }
+}
+
+// The 16-bit number at i, with 0 for bytes past the end.
+pub fn word_at(b: &[u8], i: usize) -> usize
+    ensures { λ r. ⌜ (r ≡ wordAt (now (b .entry)) i) × (r < 65536) ⌝ }
+{
+    if i < b.len() {
+        byte_at(b, i) * 256 + byte_at(b, i + 1)
+    } else {
+        0
+    }
+}
+
+// The row of value k alone: 2 to the k.
+pub fn power(k: usize) -> usize
+    requires { ⌜ k < 64 ⌝ }
+    ensures { λ r. ⌜ r ≡ 2 ^ k ⌝ }
+{
+    1 << k
+}
+
+// How many values a row holds, at any width that it fits. A row without a value counts 0, and any other one more than
+// the row without its lowest value: `row & (row - 1)`, since `row - 1` differs from `row` in its lowest value and below.
+pub fn row_count(row: usize) -> usize
+    ensures { λ r. ⌜ ((width : ℕ) → row < 2 ^ width → r ≡ rowCount width row) ⌝ }
+{
+    if row == 0 {
+        0
+    } else {
+        1 + row_count(row & (row - 1))
+    }
+}

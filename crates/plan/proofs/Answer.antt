@@ -61,6 +61,17 @@ figures-read b e =
       labels = labels-read b i;
     }))
 
+-- figures that are read part by part
+pub figures-built : (b : List ℕ) (f : Figures) → f .workers ≡ workerCount b → f .variables ≡ variableCount b
+    → f .constraints ≡ constraintCount b → f .labels ≡ labelCount (networkOf (planOf b)) → f ≡ figuresOf (planOf b)
+unfolding figuresOf planOf
+figures-built b f p q r s = λ i. record {
+  workers = p i;
+  variables = (q ∙ sym (variables-read b)) i;
+  constraints = (r ∙ sym (constraints-read b)) i;
+  labels = s i;
+}
+
 -- the check declines as decoding does
 pub check-declined : (b : List ℕ) (d : Decline) → planCheck b ≡ Declined d → decode b ≡ declined d
 unfolding planCheck

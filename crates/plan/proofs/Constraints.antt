@@ -1,21 +1,21 @@
 -- A constraint of a plan without fault fits.
-use Prim.Native.Nat.{ℕ, suc, _+_, _^_, _<_, _≤_}
-use mathlib.Core.Bool.{Bool, true, false, cond, _&&_}
+use Prim.Native.Nat.{ℕ, suc, _+_, _^_, _<_}
+use mathlib.Core.Bool.{Bool, true, false, cond}
 use mathlib.Core.List.{List}
 use mathlib.Core.Option.{none}
 use mathlib.Core.Path.{_≡_, refl, sym, _∙_, ap}
-use borrow.Author.Tests.{leb-true, ltb-true}
+use borrow.Author.Tests.{ltb-true}
 use native.Mathlib.Omega.{arith}
-use lib.Dec.{leb, ltb, eqb}
+use lib.Dec.{ltb, eqb}
 use lib.ListN.{length, getD}
 use Rattle.base.proofs.Below.{all-below, length-list-below, getD-list-below}
-use Rattle.base.proofs.Bools.{and-left, and-right}
 use Rattle.base.proofs.Choice.{cond-true}
 use Rattle.base.specs.Below.{allBelow, listBelow}
 use Rattle.plan.proofs.Checks.{each-holds}
+use Rattle.plan.proofs.InOrder.{InOrder, ordered}
 use Rattle.plan.proofs.Parts.{variables-read, constraint-read, size-read}
 use Rattle.plan.proofs.Passed.{constraint-passed}
-use Rattle.plan.specs.Check.{_orElse_, variablesInOrder, tableFits, constraintChecks}
+use Rattle.plan.specs.Check.{_orElse_, tableFits, constraintChecks}
 use Rattle.plan.specs.Decode.{planFault, relationAt, constraintAt, planOf}
 use Rattle.plan.specs.Format.{sectionStart, variableCount, constraintCount, firstAt, secondAt, kindAt, tableRowAt, limitAt, sizeAt}
 use Rattle.plan.specs.Plan.{Relation, table, sumLimit}
@@ -55,16 +55,9 @@ module _ (b : List ℕ) (none-found : planFault b ≡ none) (c : ℕ) (h : c < c
   constraint-holds : (i : ℕ) → getD (constraintChecks b constraint-start) i (true orElse Truncated) .holds ≡ true
   constraint-holds = each-holds (constraintChecks b constraint-start) (constraint-passed b none-found c h)
 
-  in-order : (1 ≤ first) × (first < second) × (second ≤ variableCount b)
-  unfolding constraintChecks variablesInOrder
-  in-order =
-      let both : leb 1 first && ltb first second ≡ true =
-      and-left (leb 1 first && ltb first second) (leb second (variableCount b)) (constraint-holds 3) in (
-        leb-true 1 first (and-left (leb 1 first) (ltb first second) both),
-        ltb-true first second (and-right (leb 1 first) (ltb first second) both),
-        leb-true second (variableCount b)
-            (and-right (leb 1 first && ltb first second) (leb second (variableCount b)) (constraint-holds 3)),
-      )
+  in-order : InOrder b constraint-start
+  unfolding constraintChecks
+  in-order = ordered b constraint-start (constraint-holds 3)
 
   row-each : (rows : List ℕ) → relationAt b constraint-start ≡ table rows → (x : ℕ) → first ≡ suc x
       → length rows ≡ sizeOf (planOf b) x
@@ -98,9 +91,9 @@ module _ (b : List ℕ) (none-found : planFault b ≡ none) (c : ℕ) (h : c < c
   constraint-fits =
       rw (constraint-read b c h)
       (record {
-        first-low = in-order .0;
-        in-order = in-order .1;
-        second-high = rw (variables-read b) (in-order .2);
+        first-low = in-order .first;
+        in-order = in-order .less;
+        second-high = rw (variables-read b) (in-order .second);
         row-each = row-each;
         rows-fit = rows-fit;
       })

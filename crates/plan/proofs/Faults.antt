@@ -1,20 +1,19 @@
 -- How the plan check ends: which fault it gives, where, and what a plan without fault has passed.
-use Prim.Native.Nat.{ℕ, zero, suc, _+_, _<_, _≤_}
+use Prim.Native.Nat.{ℕ, suc, _+_, _<_, _≤_}
 use mathlib.Core.Bool.{Bool, true, false, cond}
 use mathlib.Core.List.{List}
 use mathlib.Core.Option.{Option, none, some}
 use mathlib.Core.Path.{_≡_, refl, sym, _∙_, ap}
 use borrow.Author.Tests.{ltb-true, ltb-false, eqb-true, eqb-false}
-use native.Mathlib.Nat.{le-refl}
 use native.Mathlib.Omega.{arith}
 use lib.Dec.{ltb, eqb}
 use lib.ListN.{length}
-use Rattle.base.proofs.Below.{first-below, none-first}
+use Rattle.base.proofs.Below.{first-below}
 use Rattle.base.proofs.Choice.{between-low, between-high}
 use Rattle.base.specs.Below.{firstBelow}
 use Rattle.base.specs.Bytes.{byteAt}
 use Rattle.base.specs.Choice.{between, firstOf}
-use Rattle.plan.proofs.Sections.{section-complete, section-number, section-passes, section-declines}
+use Rattle.plan.proofs.Sections.{section-complete, section-number, section-declines, passed-before, start-within}
 use Rattle.plan.specs.Check.{firstFault, sectionChecks, sectionFault}
 use Rattle.plan.specs.Decode.{sectionCount, planEnd, planOf, planFault, accepted, declined, decodedAs, decode}
 use Rattle.plan.specs.Fault.{numberOf, decline}
@@ -72,8 +71,7 @@ sound-plan b e = go (ending b)
 
 -- a plan without fault has passed the checks of each of its sections
 pub sound-section : (b : List ℕ) → planFault b ≡ none → (k : ℕ) → k < sectionCount b → firstFault (sectionChecks b k) ≡ none
-sound-section b e k h =
-    section-passes b k (none-first (sectionCount b) (sectionFault b) (sound-plan b e .1) k h)
+sound-section b e = passed-before b (sectionCount b) (sound-plan b e .1)
 
 -- a plan without fault ends where its last section ends
 pub sound-end : (b : List ℕ) → planFault b ≡ none → planEnd b ≡ length b
@@ -115,21 +113,15 @@ decode-fault b d e = go (planFault b) refl
 
 -- a decline's place is in the plan or at its end: a section starts there only where those before it are complete
 pub place-within : (b : List ℕ) (d : Decline) → decode b ≡ declined d → d .place ≤ length b
-unfolding sectionStart
 place-within b d e = go (ending b)
   where
-    start : 0 < length b → (k : ℕ) → firstBelow k (sectionFault b) ≡ none → sectionStart b k ≤ length b
-    start h zero r = h
-    start h (suc k) r =
-        section-complete b k (section-passes b k (none-first (suc k) (sectionFault b) r k (le-refl (suc k))))
-
     place-of : (c : Decline) → planFault b ≡ some c → c .place ≡ d .place
     place-of c p = let q : c ≡ d = cc (decode-fault b d e) in ap (λ (c : Decline). c .place) q
 
     go : Ending b (planFault b) → d .place ≤ length b
     go (empty p q) = omega (arith, place-of (decline Truncated 0) q)
     go (version p q r) = omega (arith, place-of (decline BadVersion 0) r)
-    go (section p k q r c s t) = omega (arith, place-of c t, start p k r, section-declines b k c s .1)
+    go (section p k q r c s t) = omega (arith, place-of c t, start-within b p k (passed-before b k r), section-declines b k c s .1)
     go (trailing p q) = omega (arith, place-of (decline TrailingBytes (planEnd b)) q)
     go (sound p q r s) = let z : _≡_ {A = ℕ} 0 1 = cc (decode-fault b d e) in absurd (omega arith)
 

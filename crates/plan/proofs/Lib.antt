@@ -1,12 +1,16 @@
 pub mod Answer
+pub mod Branches
 pub mod Checks
 pub mod Constraints
 pub mod Faults
+pub mod Head
+pub mod InOrder
 pub mod Limits
 pub mod Links
 pub mod Pairs
 pub mod Parts
 pub mod Passed
+pub mod Scanned
 pub mod Sections
 pub mod Variables
 pub mod WellFormed

@@ -1,13 +1,16 @@
 -- What a section's checks say: that it is complete, which number it gives, and where.
-use Prim.Native.Nat.{ℕ, suc, _≤_}
+use Prim.Native.Nat.{ℕ, zero, suc, _<_, _≤_}
 use mathlib.Core.Bool.{Bool, true, false, cond}
 use mathlib.Core.List.{List}
 use mathlib.Core.Option.{Option, none, some}
 use mathlib.Core.Path.{_≡_, refl, sym, _∙_, ap}
 use borrow.Author.Tests.{leb-true}
+use native.Mathlib.Nat.{le-refl}
 use native.Mathlib.Omega.{arith}
 use lib.Dec.{leb, eqb}
 use lib.ListN.{length}
+use Rattle.base.proofs.Below.{none-first}
+use Rattle.base.specs.Below.{firstBelow}
 use Rattle.base.specs.Choice.{allOf, between}
 use Rattle.plan.proofs.Checks.{each-holds, fault-among}
 use Rattle.plan.specs.Check.{Check, firstFault, complete, headChecks, variableChecks, constraintChecks, sectionChecks, faultAt, sectionFault}
@@ -73,3 +76,15 @@ section-passes b k e = go (firstFault (sectionChecks b k)) refl
         let q : some (decline f (sectionStart b k)) ≡ none = ap (faultAt (sectionStart b k)) (sym p) ∙ e in
         let z : _≡_ {A = ℕ} 0 1 = cc in
         absurd (omega arith)
+
+-- the sections before the first fault pass their checks
+pub passed-before : (b : List ℕ) (k : ℕ) → firstBelow k (sectionFault b) ≡ none → (i : ℕ) → i < k
+    → firstFault (sectionChecks b i) ≡ none
+passed-before b k e i h = section-passes b i (none-first k (sectionFault b) e i h)
+
+-- a section starts within the plan where those before it pass
+pub start-within : (b : List ℕ) → 0 < length b → (k : ℕ) → ((i : ℕ) → i < k → firstFault (sectionChecks b i) ≡ none)
+    → sectionStart b k ≤ length b
+unfolding sectionStart
+start-within b h zero passed = h
+start-within b h (suc k) passed = section-complete b k (passed k (le-refl (suc k)))

@@ -13,6 +13,8 @@ use Rattle.plan.specs.Format.{behind, sectionStart, workerCount, variabl
 use Rattle.plan.specs.declared.Decline.{Decline}
 use Rattle.plan.specs.declared.Fault.{Fault}
 use Rattle.plan.specs.declared.Fault.the-variants.{Truncated, BadLength, BadCount, BadNumber, RepeatedCode, BadConstraint}
+use Rattle.plan.specs.declared.Verdict.{Verdict}
+use Rattle.plan.specs.declared.Verdict.the-variants.{Passes, Fails}
 
 -- a test and the fault of a section that fails it
 infix 20 _orElse_
@@ -96,3 +98,8 @@ faultAt at (some f) = some (decline f at)
 -- the fault of section k, at the section's start
 unfoldable pub sectionFault : List ℕ → ℕ → Option Decline
 sectionFault b k = faultAt (sectionStart b k) (firstFault (sectionChecks b k))
+
+-- the same as the answer of the functions that check a section
+abbrev pub verdictOf : Option Fault → Verdict
+verdictOf none = Passes
+verdictOf (some f) = Fails f

@@ -4,10 +4,10 @@ use Rattle.network.specs.Computes.{network-computes}
 use Rattle.plan.specs.Check.{complete, headInRange, headChecks, repeatsCode, variableChecks, variablesInOrder, constraintLength, tableFits, constraintChecks, sectionChecks, sectionFault}
 use Rattle.plan.specs.Decode.{sectionCount, planEnd, planFault, variableAt, relationAt, constraintAt, planOf, decode}
 use Rattle.plan.specs.Fault.{numberOf}
-use Rattle.plan.specs.Format.{behind, sectionStart, workerCount, variableCount, constraintCount, ownerAt, valueCountAt, codeAt, figureAt, firstAt, secondAt, kindAt, tableRowAt, limitAt, sizeAt}
+use Rattle.plan.specs.Format.{sectionStart}
 use Rattle.plan.specs.Network.{unrecorded, withinLimit, permits, joins, accepts, pairAllowed, shareConstraint, networkOf}
 use Rattle.plan.specs.Plan.{variableOf, valueOf}
 
 unfoldable pub plan-computes : Unit {0}
-unfolding complete headInRange headChecks repeatsCode variableChecks variablesInOrder constraintLength tableFits constraintChecks sectionChecks sectionFault sectionCount planEnd planFault variableAt relationAt constraintAt planOf decode numberOf behind sectionStart workerCount variableCount constraintCount ownerAt valueCountAt codeAt figureAt firstAt secondAt kindAt tableRowAt limitAt sizeAt unrecorded withinLimit permits joins accepts pairAllowed shareConstraint networkOf variableOf valueOf base-computes network-computes
+unfolding complete headInRange headChecks repeatsCode variableChecks variablesInOrder constraintLength tableFits constraintChecks sectionChecks sectionFault sectionCount planEnd planFault variableAt relationAt constraintAt planOf decode numberOf sectionStart unrecorded withinLimit permits joins accepts pairAllowed shareConstraint networkOf variableOf valueOf base-computes network-computes
 plan-computes = tt

@@ -4,7 +4,7 @@ use Rattle.plan.specs.declared.Decline.{Decline}
 use Rattle.plan.specs.declared.Fault.{Fault}
 use Rattle.plan.specs.declared.Fault.the-variants.{Truncated, BadVersion, BadLength, BadCount, BadNumber, RepeatedCode, BadConstraint, TrailingBytes, ShortWork, ShortLists, BadTurnList, BadTurn}
 
-unfoldable pub numberOf : Fault → ℕ
+abbrev pub numberOf : Fault → ℕ
 numberOf Truncated = 1
 numberOf BadVersion = 2
 numberOf BadLength = 3

@@ -4,7 +4,7 @@ use mathlib.Core.List.{List}
 use Rattle.base.specs.Bytes.{byteAt, wordAt}
 
 -- a section is a 16-bit length and then that many bytes: the place behind the section at `at`
-unfoldable pub behind : List ℕ → ℕ → ℕ
+abbrev pub behind : List ℕ → ℕ → ℕ
 behind b at = at + 2 + wordAt b at
 
 -- where section k starts: 0 is the head, 1 to n are the slots, then come the rules
@@ -13,44 +13,44 @@ sectionStart b zero = 1
 sectionStart b (suc k) = behind b (sectionStart b k)
 
 -- the head: p, n, number of rules
-unfoldable pub workerCount : List ℕ → ℕ
+abbrev pub workerCount : List ℕ → ℕ
 workerCount b = byteAt b (1 + 2)
 
-unfoldable pub variableCount : List ℕ → ℕ
+abbrev pub variableCount : List ℕ → ℕ
 variableCount b = byteAt b (1 + 2 + 1)
 
-unfoldable pub constraintCount : List ℕ → ℕ
+abbrev pub constraintCount : List ℕ → ℕ
 constraintCount b = byteAt b (1 + 2 + 2)
 
 -- a slot's section at `at`: owning kitchen, count, then for each dish a code and a figure
-unfoldable pub ownerAt : List ℕ → ℕ → ℕ
+abbrev pub ownerAt : List ℕ → ℕ → ℕ
 ownerAt b at = byteAt b (at + 2)
 
-unfoldable pub valueCountAt : List ℕ → ℕ → ℕ
+abbrev pub valueCountAt : List ℕ → ℕ → ℕ
 valueCountAt b at = byteAt b (at + 2 + 1)
 
-unfoldable pub codeAt : List ℕ → ℕ → ℕ → ℕ
+abbrev pub codeAt : List ℕ → ℕ → ℕ → ℕ
 codeAt b at v = wordAt b (at + 4 + 4 * v)
 
-unfoldable pub figureAt : List ℕ → ℕ → ℕ → ℕ
+abbrev pub figureAt : List ℕ → ℕ → ℕ → ℕ
 figureAt b at v = wordAt b (at + 4 + 4 * v + 2)
 
 -- a rule's section at `at`: first slot, second slot, kind, then a row for each dish of the first slot, or a limit
-unfoldable pub firstAt : List ℕ → ℕ → ℕ
+abbrev pub firstAt : List ℕ → ℕ → ℕ
 firstAt b at = byteAt b (at + 2)
 
-unfoldable pub secondAt : List ℕ → ℕ → ℕ
+abbrev pub secondAt : List ℕ → ℕ → ℕ
 secondAt b at = byteAt b (at + 2 + 1)
 
-unfoldable pub kindAt : List ℕ → ℕ → ℕ
+abbrev pub kindAt : List ℕ → ℕ → ℕ
 kindAt b at = byteAt b (at + 2 + 2)
 
-unfoldable pub tableRowAt : List ℕ → ℕ → ℕ → ℕ
+abbrev pub tableRowAt : List ℕ → ℕ → ℕ → ℕ
 tableRowAt b at v = wordAt b (at + 5 + 2 * v)
 
-unfoldable pub limitAt : List ℕ → ℕ → ℕ
+abbrev pub limitAt : List ℕ → ℕ → ℕ
 limitAt b at = wordAt b (at + 5)
 
 -- the number of dishes of the slot with number s, from 1: slot s is section s
-unfoldable pub sizeAt : List ℕ → ℕ → ℕ
+abbrev pub sizeAt : List ℕ → ℕ → ℕ
 sizeAt b s = valueCountAt b (sectionStart b s)

@@ -4,6 +4,8 @@ pub mod Computes
 pub mod Decode
 pub mod Fault
 pub mod Format
+pub mod Known
 pub mod Network
 pub mod Plan
+pub mod Scan
 pub mod WellFormed

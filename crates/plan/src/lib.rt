@@ -1,4 +1,8 @@
-// The plan's bytes: definitions, and the types of their answers. The plan check follows.
+// The plan check: from a plan's bytes to its figures, or to its first fault and the fault's place.
+use base::byte_at;
+ghost use mathlib.Core.Path.{_≡_};
+ghost use Rattle.plan.specs.Answer.{planCheck};
+ghost use Rattle.plan.specs.Fault.{numberOf};
 
 // Why a call declines: a case for each number of document 01.
 pub enum Fault {
@@ -28,6 +32,12 @@ pub enum Fault {
     BadTurn,
 }
 
+// What the checks of one section find.
+pub enum Verdict {
+    Passes,
+    Fails(Fault),
+}
+
 // A fault and its place.
 pub struct Decline {
     pub fault: Fault,
@@ -46,4 +56,43 @@ pub struct Figures {
 pub enum Checked {
     Accepted(Figures),
     Declined(Decline),
+}
+
+mod constraint;
+mod read;
+mod scan;
+mod section;
+mod variable;
+
+// The number that document 01 gives to a fault.
+pub fn fault_number(fault: Fault) -> usize
+    ensures { λ r. ⌜ r ≡ numberOf fault ⌝ }
+{
+    match fault {
+        Fault::Truncated => 1,
+        Fault::BadVersion => 2,
+        Fault::BadLength => 3,
+        Fault::BadCount => 4,
+        Fault::BadNumber => 5,
+        Fault::RepeatedCode => 6,
+        Fault::BadConstraint => 7,
+        Fault::TrailingBytes => 8,
+        Fault::ShortWork => 9,
+        Fault::ShortLists => 10,
+        Fault::BadTurnList => 11,
+        Fault::BadTurn => 12,
+    }
+}
+
+// Checks the plan that the bytes hold: its figures, or its first fault and the fault's place.
+pub fn check_plan(plan: &[u8]) -> Checked
+    ensures { λ r. ⌜ r ≡ planCheck (now (plan .entry)) ⌝ }
+{
+    if plan.len() == 0 {
+        return scan::declined(Fault::Truncated, 0);
+    }
+    if byte_at(plan, 0) != 1 {
+        return scan::declined(Fault::BadVersion, 0);
+    }
+    scan::check_sections(plan)
 }

@@ -1,0 +1,25 @@
+-- `base::byte_at` gives the byte at an index, 0 past the end. Assumes nothing.
+use borrow.Author.Needs.{needs}
+use mathlib.Core.Path.{sym}
+use native.Mathlib.Omega.{arith}
+use denote.Ref.{now}
+use Rattle.base.proofs.Bytes.{byteAt-past}
+use Rattle.base.proofs.byte_at.Statement.{statement}
+use Rattle.base.proofs.byte_at.Tie as tie
+use Rattle.base.specs.Bytes.{byteAt}
+
+shared-slice-read-wide : tie.Need-shared-slice-read-wide
+shared-slice-read-wide c = search needs
+
+wide-requires : tie.Need-wide-requires
+wide-requires c κs = search needs
+
+returns : tie.Need-returns
+unfolding byteAt
+returns c = c .wide .ensures
+
+returns-2 : tie.Need-returns-2
+returns-2 c = (sym (byteAt-past (now (c .before .before .args .b)) (c .before .before .args .i) (c .if1 .left)), omega arith)
+
+pub byte-at-spec : {M : Type 1} → statement M
+byte-at-spec = tie.close (tie.spec shared-slice-read-wide wide-requires returns returns-2)
