@@ -4,6 +4,7 @@ pub mod Answering
 pub mod Asked
 pub mod Behind
 pub mod Capacity
+pub mod Chains
 pub mod ChannelRows
 pub mod Cleared
 pub mod ControllerLaws
@@ -22,10 +23,13 @@ pub mod LabelLoad
 pub mod Labelwise
 pub mod ListLaws
 pub mod LoadKeeps
+pub mod Loaded
 pub mod Loading
 pub mod Marks
 pub mod MessageLaws
 pub mod Outgoing
+pub mod Permitted
+pub mod Places
 pub mod PollRead
 pub mod Polling
 pub mod Queue

@@ -3,9 +3,11 @@ use disac4::Tally;
 
 pub mod clear;
 pub mod controller;
+pub mod index;
 pub mod layout;
 pub mod lists;
 pub mod messages;
+pub mod pairs;
 pub mod turns;
 
 // A part of the work cells: rows of as many columns, from a fixed place on.
