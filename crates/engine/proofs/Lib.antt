@@ -8,13 +8,13 @@ pub mod Chains
 pub mod ChannelRows
 pub mod Cleared
 pub mod ControllerLaws
+pub mod ControllerRead
 pub mod Copied
 pub mod Filled
 pub mod Frame
 pub mod Frames
 pub mod Growing
 pub mod Grown
-pub mod Heard
 pub mod Hearing
 pub mod HeldPoll
 pub mod IndexKept

@@ -21,7 +21,7 @@ use Rattle.engine.specs.Treat.{treatM}
 use Rattle.engine.specs.View.{view}
 use Rattle.engine.proofs.Answered.{answer-refines}
 use Rattle.engine.proofs.Asked.{ask-refines}
-use Rattle.engine.proofs.Heard.{hear-refines}
+use Rattle.engine.proofs.ControllerRead.{hear-refines}
 use Rattle.engine.specs.Inv.{Small, Inv}
 use Rattle.engine.proofs.PollRead.{poll-refines}
 use Rattle.engine.proofs.Seen.{mapO, viewOf}
