@@ -10,7 +10,7 @@ use lib.Pow.{pow-pos}
 use Rattle.base.proofs.Bools.{clash, and-left}
 use Rattle.base.proofs.Sums.{sum-ext, sum-zero}
 use Rattle.network.proofs.DomainSize.{domainSize}
-use Rattle.network.proofs.DomainSize.{load-size, deletions-loaded}
+use Rattle.disac4.proofs.DomainSize.{load-size, deletions-loaded}
 use Rattle.disac4.specs.Loading.{unsupported, loadedDeletions, load}
 use Rattle.disac4.specs.System.{System}
 use Rattle.network.specs.Network.{loaded}

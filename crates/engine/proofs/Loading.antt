@@ -14,7 +14,7 @@ use Rattle.base.proofs.Row.{bit-past}
 use Rattle.base.proofs.Sums.{sum-part, sum-zero}
 use Rattle.base.specs.Below.{one, gatherBelow}
 use Rattle.base.specs.Row.{bit}
-use Rattle.network.proofs.DomainSize.{load-size, deletions-loaded}
+use Rattle.disac4.proofs.DomainSize.{load-size, deletions-loaded}
 use Rattle.disac4.specs.Loading.{loadedCounter, unsupported, loadedDeletions, load}
 use Rattle.disac4.specs.State.{list, poll}
 use Rattle.disac4.specs.System.{System}

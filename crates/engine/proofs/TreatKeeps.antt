@@ -15,7 +15,7 @@ use Rattle.base.proofs.Choice.{cond-true, cond-false}
 use Rattle.base.proofs.Sums.{sum-ext, sum-add, sum-single, count-ext}
 use Rattle.base.specs.Below.{sumBelow}
 use Rattle.network.proofs.DomainSize.{domainSize}
-use Rattle.network.proofs.DomainSize.{treat-size}
+use Rattle.disac4.proofs.DomainSize.{treat-size}
 use Rattle.disac4.specs.Action.{deletes, deletions}
 use Rattle.disac4.specs.State.{State}
 use Rattle.disac4.specs.System.{System}

@@ -13,7 +13,7 @@ use Rattle.base.proofs.Bools.{clash, refuted, and-left, and-right, and-false-le
 use Rattle.base.proofs.Choice.{cond-true, cond-false}
 use Rattle.base.specs.Choice.{update}
 use Rattle.network.proofs.DomainSize.{domainSize}
-use Rattle.network.proofs.DomainSize.{treat-size}
+use Rattle.disac4.proofs.DomainSize.{treat-size}
 use Rattle.disac4.specs.Action.{loses, lowered, deletes, deletions, afterTreat, treat, treatFrom}
 use Rattle.disac4.specs.State.{State}
 use Rattle.disac4.specs.System.{System}
