@@ -2,7 +2,7 @@
 use Prim.Native.Nat.{ℕ, suc, _+_, _-_, _^_, _<_, _≤_}
 use mathlib.Core.Bool.{Bool, true, false, cond, _&&_, _||_, not}
 use mathlib.Core.List.{List}
-use mathlib.Core.Logic.{_⊎_, inl, inr, ⊎-elim}
+use mathlib.Core.Logic.{_⊎_, inl, inr}
 use mathlib.Core.Option.{none}
 use mathlib.Core.Path.{_≡_, refl, sym, _∙_, ap, ap₂, subst}
 use native.Mathlib.Numerals.{add-one}
@@ -30,9 +30,9 @@ use Rattle.plan.proofs.Links.{joins-of, of-joins, linked-in-range}
 use Rattle.plan.proofs.Parts.{variables-read, constraints-read, constraint-read, size-read, value-read}
 use Rattle.plan.proofs.WellFormed.{read-well-formed}
 use Rattle.plan.specs.Decode.{sectionCount, planFault, relationAt, constraintAt, planOf}
-use Rattle.plan.specs.Format.{sectionStart, variableCount, constraintCount, firstAt, secondAt, kindAt, tableRowAt, limitAt, figureAt, codeAt, sizeAt}
+use Rattle.plan.specs.Format.{sectionStart, variableCount, constraintCount, firstAt, secondAt, kindAt, tableRowAt, limitAt, figureAt, sizeAt}
 use Rattle.plan.specs.Network.{withinLimit, permits, joins, accepts, pairAllowed, shareConstraint, networkOf}
-use Rattle.plan.specs.Plan.{Value, Relation, table, sumLimit, Constraint, valueOf}
+use Rattle.plan.specs.Plan.{Value, table, sumLimit, Constraint, valueOf}
 use Rattle.plan.specs.WellFormed.{sizeOf, noConstraint, constraintOf}
 
 -- ---- tests over a list as tests below its length
