@@ -53,7 +53,8 @@ module _ (b : List ℕ) (none-found : planFault b ≡ none) (m : Mem) (index : I
         chain-over b x y c (sym (ap (chainBelow b x y) head) ∙ chain-settled b x y (constraintCount b) ∙ head),
       )
 
-  same-ends : (x y x′ y′ f s : ℕ) → ((x ≡ f) × (y ≡ s)) ⊎ ((x ≡ s) × (y ≡ f)) → ((x′ ≡ f) × (y′ ≡ s)) ⊎ ((x′ ≡ s) × (y′ ≡ f))
+  same-ends : (x y x′ y′ f s : ℕ) → ((x ≡ f) × (y ≡ s)) ⊎ ((x ≡ s) × (y ≡ f))
+      → ((x′ ≡ f) × (y′ ≡ s)) ⊎ ((x′ ≡ s) × (y′ ≡ f))
       → ((x ≡ x′) × (y ≡ y′)) ⊎ ((x ≡ y′) × (y ≡ x′))
   same-ends x y x′ y′ f s (inl p) (inl q) = inl (omega arith)
   same-ends x y x′ y′ f s (inl p) (inr q) = inr (omega arith)
