@@ -45,6 +45,7 @@ pub mod Runs
 pub mod Seen
 pub mod Sending
 pub mod Sent
+pub mod Static
 pub mod Stepped
 pub mod Stores
 pub mod Taken

@@ -25,6 +25,7 @@ use Rattle.network.specs.Network.{Label, label, loaded, labelsWhere, supports, 
 use Rattle.engine.specs.Layout.{WORKERS, CURSORS, BOUNDS, LOG, WORK, OUT, WANTED, DOMAIN, COUNTERS, HEADS, HEAD, TAIL, LOGEND, SENDS, LISTS, HELD, POLLS, OUTEND, OUTREAD}
 use Rattle.engine.specs.Load.{loadLabelM, loadM}
 use Rattle.engine.specs.Memory.{Mem}
+pub use Rattle.engine.specs.Run.{freshTally as startTally}
 use Rattle.engine.specs.View.{LISTED, isWorker, labelsBetween, listAt, messageOf, pollAt, counterRow, viewCounter, viewWork, viewSend, viewHeld, viewLists, viewLetters, viewPolls, viewOut, viewChannel, view}
 use Rattle.engine.proofs.Frames.{Apart}
 use Rattle.engine.proofs.Growing.{gather-ext, between-none, labels-none, Grown, Both}
@@ -37,10 +38,6 @@ use Rattle.engine.proofs.Unmoved.{cond-same, worker-row, Unmoved}
 -- the regions before the index are 0
 abbrev pub Blank : Mem → Type 0
 Blank z = (r a b : ℕ) → r < HEADS → z r a b ≡ 0
-
--- the tally before the first turn
-abbrev pub startTally : Tally
-startTally = record { lists = record { 0 = 0 }; timestamp = record { 0 = 0 }; polling = false; marks = 0; closed = false }
 
 -- no label is deleted by an actor that owns none
 no-deletions : (sys : System) (k : ℕ) → ((x : ℕ) → x < sys .net .variables → eqb (sys .owner x) k ≡ false)

@@ -1,22 +1,31 @@
 -- A list of turns in memory: the machine after it, and how many of its turns that pass a test changed something.
-use Prim.Native.Nat.{ℕ, _+_}
-use mathlib.Core.Bool.{Bool, false, _&&_}
-use mathlib.Core.List.{List, [], _∷_}
+use Prim.Native.Nat.{ℕ, _+_, _≤_}
+use mathlib.Core.Bool.{Bool, true, false, _&&_}
+use mathlib.Core.List.{List, [], _∷_, _++_}
+use mathlib.Core.Option.{none}
+use mathlib.Core.Path.{_≡_}
+use lib.ListN.{length}
 use Rattle.base.specs.Below.{one}
+use Rattle.disac4.specs.Outcome.{systemAt}
+use Rattle.disac4.specs.Report.{isSend, isPoll}
 use Rattle.disac4.specs.State.{State}
 use Rattle.disac4.specs.System.{System}
 use Rattle.disac4.specs.Turn.{Turn, isSome}
 use Rattle.disac4.specs.declared.Tally.{Tally}
+use Rattle.engine.specs.Index.{indexM}
+use Rattle.engine.specs.Load.{clearedM, loadM}
 use Rattle.engine.specs.Memory.{Mem}
-use Rattle.engine.specs.Step.{Machine, stepM, afterM}
+use Rattle.engine.specs.Step.{Machine, machine, stepM, afterM}
 use Rattle.engine.specs.View.{view}
+use Rattle.engine.specs.declared.Progress.{Progress}
+use Rattle.plan.specs.Decode.{planFault}
 
 -- the state that a machine stands for
 abbrev pub viewOf : System → Machine → State
 viewOf sys s = view sys (s .mem) (s .tally)
 
 -- the tally as loaded
-unfoldable pub freshTally : Tally
+abbrev pub freshTally : Tally
 freshTally = record {
   lists = record { 0 = 0 };
   timestamp = record { 0 = 0 };
@@ -32,3 +41,26 @@ playM sys s (t ∷ ts) = playM sys (afterM sys s t) ts
 unfoldable pub countM : System → (Turn → Bool) → Machine → List Turn → ℕ
 countM sys test s [] = 0
 countM sys test s (t ∷ ts) = one (isSome (stepM sys s t) && test t) + countM sys test (afterM sys s t) ts
+
+-- the machine as loaded from an accepted plan's bytes, whatever the memory held before
+unfoldable pub startM : List ℕ → Mem → Machine
+startM b m = record { mem = loadM (systemAt b) (indexM b (clearedM m)); tally = freshTally }
+
+-- how far a run has come: from the loaded plan it has played these turns, with their counts
+pub record At (b : List ℕ) (m : Mem) (ts : List Turn) (cells : List ℕ) (g : Progress) : Type 0 where
+  pub stands : machine cells (g .tally) ≡ playM (systemAt b) (startM b m) ts
+  pub changes : g .changes ≡ countM (systemAt b) (λ t. true) (startM b m) ts
+  pub sends : g .sends ≡ countM (systemAt b) isSend (startM b m) ts
+  pub polls : g .polls ≡ countM (systemAt b) isPoll (startM b m) ts
+
+-- some turns of an accepted plan have been played
+pub record Going (b cells : List ℕ) (g : Progress) : Type 0 where
+  pub sound : planFault b ≡ none
+  pub long : 24576 ≤ length cells
+  pub before : Mem
+  pub turns : List Turn
+  pub at : At b before turns cells g
+
+-- after these further turns
+unfoldable pub Plays : List ℕ → List Turn → List ℕ → Progress → List ℕ → Progress → Type 0
+Plays b us cells g cells′ g′ = (m : Mem) (ts : List Turn) → At b m ts cells g → At b m (ts ++ us) cells′ g′

@@ -23,3 +23,11 @@ pub struct Heard {
     pub changed: usize,
     pub tally: Tally,
 }
+
+// How far a run has come: the tally, and the counts of its report.
+pub struct Progress {
+    pub tally: Tally,
+    pub changes: usize,
+    pub sends: usize,
+    pub polls: usize,
+}
