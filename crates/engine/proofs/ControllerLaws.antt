@@ -1,10 +1,10 @@
 -- Laws by which the code of the controller meets its definitions: the row of marks, the tally, poll and read.
 use Prim.Native.Nat.{ℕ, zero, suc, _+_, _*_, _/_, _%_, _^_, _<_, _≤_}
-use mathlib.Core.Bool.{Bool, true, false, cond, not, _&&_}
+use mathlib.Core.Bool.{Bool, true, false, cond, not}
 use mathlib.Core.List.{List}
 use mathlib.Core.Logic.{⊎-elim}
 use mathlib.Core.Option.{Option, none, some}
-use mathlib.Core.Path.{_≡_, refl, sym, _∙_, ap}
+use mathlib.Core.Path.{_≡_, sym, _∙_}
 use native.Mathlib.Nat.{pow-zero, two-pow-succ}
 use native.Mathlib.Omega.{arith}
 use borrow.Author.Tests.{ltb-true, lt-ltb, le-ltb, le-leb, lt-leb, eqb-false, eq-eqb, ne-eqb, not-true, not-false}
@@ -16,8 +16,8 @@ use Rattle.base.proofs.Row.{bit-zero, bit-suc}
 use Rattle.base.specs.Row.{bit}
 use Rattle.disac4.specs.System.{System}
 use Rattle.disac4.specs.declared.Tally.{Tally}
-use Rattle.engine.specs.Layout.{WORKERS, OUT, WANTED, OUTEND, OUTREAD}
-use Rattle.engine.specs.Memory.{Mem, memOf, store}
+use Rattle.engine.specs.Layout.{WORKERS, OUT, OUTEND, OUTREAD}
+use Rattle.engine.specs.Memory.{memOf, store}
 use Rattle.engine.specs.Messages.{askedT, asksT, countedT, withMark, markedT, toldT, hasOut, outReadM, askM}
 use Rattle.engine.specs.Step.{Machine, machine, Hears, pollM, hearM}
 
