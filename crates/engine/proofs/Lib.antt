@@ -45,6 +45,7 @@ pub mod Runs
 pub mod Seen
 pub mod Sending
 pub mod Sent
+pub mod Start
 pub mod Static
 pub mod Stepped
 pub mod Stores
@@ -52,5 +53,6 @@ pub mod Taken
 pub mod Touching
 pub mod TreatKeeps
 pub mod Treating
+pub mod Underway
 pub mod Unmoved
 pub mod Walking
