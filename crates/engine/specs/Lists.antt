@@ -1,10 +1,25 @@
 -- The work list and the log in memory: pushing a label, deleting one, and copying a list message.
-use Prim.Native.Nat.{ℕ, zero, suc, _+_, _-_}
+use Prim.Native.Nat.{ℕ, zero, suc, _+_, _-_, _<_, _≤_}
 use mathlib.Core.Bool.{cond}
+use mathlib.Core.List.{List}
+use mathlib.Core.Path.{_≡_}
 use lib.Dec.{ltb}
-use Rattle.engine.specs.Layout.{WORKERS, LOG, WORK, DOMAIN, TAIL, LOGEND}
+use lib.ListN.{length}
+use Rattle.engine.specs.Layout.{WORKERS, LOG, WORK, DOMAIN, BEHIND, TAIL, LOGEND, regionAt}
 use Rattle.engine.specs.Memory.{Mem, store}
 use Rattle.engine.specs.View.{codeOf}
+use Rattle.engine.specs.declared.Region.{Region}
+
+-- a push fits: the region is one of lists, LOG or WORK, and row, column and number are in range
+pub record Pushes (cells : List ℕ) (g : Region) (col i c : ℕ) : Type 0 where
+  pub known : regionAt (g .id) ≡ g
+  pub writable : g .id < BEHIND
+  pub rows : g .rows ≡ 8
+  pub cols : g .cols ≡ 512
+  pub row : i < 8
+  pub end : col < 16
+  pub small : c < 65536
+  pub long : 24576 ≤ length cells
 
 -- `c` at the end of row `i` of a region whose end is kept in a column of the worker's row; there is room for 512
 unfoldable pub pushM : ℕ → ℕ → ℕ → ℕ → Mem → Mem

@@ -2,6 +2,7 @@
 use Prim.Native.Nat.{ℕ}
 use mathlib.Core.Bool.{cond, _&&_}
 use mathlib.Core.List.{List}
+use mathlib.Core.Path.{_≡_}
 use mathlib.Core.Option.{Option, none, some, Option·getD}
 use lib.Dec.{ltb, eqb}
 use lib.ListN.{getD}
@@ -27,3 +28,8 @@ left m o = Option·getD o m
 -- 1 where the action changed something
 abbrev pub changed : {A : Type 0} → Option A → ℕ
 changed o = one (isSome o)
+
+-- what an action's code does to the cells: it leaves what its definition leaves, and gives 1 where that changes something
+pub record Acts (act : Mem → Option Mem) (before after : List ℕ) (result : ℕ) : Type 0 where
+  pub mem : memOf after ≡ left (memOf before) (act (memOf before))
+  pub count : result ≡ changed (act (memOf before))

@@ -15,6 +15,19 @@ use Rattle.engine.specs.View.{LISTMARK}
 
 -- ---- Send
 
+-- a list message is sent, from what the row's cells hold: list messages sent, the log's end, messages put, list counter
+unfoldable pub sentWith : ℕ → ℕ → ℕ → ℕ → ℕ → Mem → Mem
+sentWith i sends end outs lists m =
+    store
+    (store
+    (store
+    (store
+    (store m BOUNDS i (sends + 1) end)
+    OUT i outs (LISTMARK + sends))
+    WORKERS i SENDS (sends + 1))
+    WORKERS i OUTEND (outs + 1))
+    WORKERS i LISTS (lists + 1)
+
 unfoldable pub sentM : ℕ → Mem → Mem
 sentM i m =
     store
@@ -45,6 +58,11 @@ letterStart j i m = m BOUNDS j (m CURSORS j i)
 abbrev pub letterEnd : ℕ → ℕ → Mem → ℕ
 letterEnd j i m = m BOUNDS j (m CURSORS j i + 1)
 
+-- the list message from `from` to `to` in row `j`'s log is read; `read` lists of it were, and the list counter is `lists`
+unfoldable pub takenWith : ℕ → ℕ → ℕ → ℕ → ℕ → ℕ → Mem → Mem
+takenWith j i read from to lists m =
+    store (store (copyM j i from (to - from) m) CURSORS j i (read + 1)) WORKERS i LISTS (lists + 1)
+
 unfoldable pub takenM : ℕ → ℕ → Mem → Mem
 takenM j i m =
     store
@@ -68,6 +86,17 @@ readPollM i n m =
     none
 
 -- ---- Answer
+
+-- a reply to poll `held` is put behind `outs` messages
+unfoldable pub answeredWith : ℕ → ℕ → ℕ → Mem → Mem
+answeredWith i held outs m = store (store (store m OUT i outs held) WORKERS i OUTEND (outs + 1)) WORKERS i HELD 0
+
+-- both lists of row `i` are empty
+unfoldable pub emptyM : ℕ → Mem → Bool
+emptyM i m =
+    cond (eqb (m WORKERS i HEAD) (m WORKERS i TAIL))
+    (cond (ltb (m WORKERS i SENDS) 519) (eqb (m BOUNDS i (m WORKERS i SENDS)) (m WORKERS i LOGEND)) false)
+    false
 
 unfoldable pub answeredM : ℕ → Mem → Mem
 answeredM i m =

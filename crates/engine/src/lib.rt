@@ -1,6 +1,8 @@
 // The state in lent cells: loading, the actions, the turn run and the round run.
 
 pub mod layout;
+pub mod lists;
+pub mod messages;
 
 // A part of the work cells: rows of as many columns, from a fixed place on.
 pub struct Region {
