@@ -1,5 +1,9 @@
+pub mod Chains
 pub mod Inv
 pub mod ListLaws
+pub mod Loaded
 pub mod MessageLaws
+pub mod Permitted
+pub mod Places
 pub mod Ranges
 pub mod Regions

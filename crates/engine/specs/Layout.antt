@@ -43,7 +43,7 @@ DOMAIN = 7
 abbrev pub COUNTERS : ℕ
 COUNTERS = 8
 
--- one more than the first constraint over two variables, 0 for none
+-- one more than the last constraint over two variables, 0 for none
 abbrev pub HEADS : ℕ
 HEADS = 9
 
@@ -51,7 +51,7 @@ HEADS = 9
 abbrev pub PLACES : ℕ
 PLACES = 10
 
--- one more than the next constraint over the same two variables, 0 for none
+-- one more than the constraint before over the same two variables, 0 for none
 abbrev pub NEXT : ℕ
 NEXT = 11
 

@@ -1,3 +1,4 @@
+pub mod Allowed
 pub mod Index
 pub mod Layout
 pub mod Lists

@@ -1,8 +1,10 @@
 // The state in lent cells: loading, the actions, the turn run and the round run.
 
+pub mod index;
 pub mod layout;
 pub mod lists;
 pub mod messages;
+pub mod pairs;
 
 // A part of the work cells: rows of as many columns, from a fixed place on.
 pub struct Region {
