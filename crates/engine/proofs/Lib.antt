@@ -1,9 +1,13 @@
 pub mod Chains
 pub mod Inv
+pub mod Kept
+pub mod Labels
 pub mod ListLaws
+pub mod LoadLaws
 pub mod Loaded
 pub mod MessageLaws
 pub mod Permitted
 pub mod Places
 pub mod Ranges
 pub mod Regions
+pub mod TreatLaws

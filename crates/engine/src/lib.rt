@@ -3,8 +3,11 @@
 pub mod index;
 pub mod layout;
 pub mod lists;
+pub mod load;
 pub mod messages;
 pub mod pairs;
+pub mod parts;
+pub mod treat;
 
 // A part of the work cells: rows of as many columns, from a fixed place on.
 pub struct Region {
