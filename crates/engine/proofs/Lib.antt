@@ -19,10 +19,13 @@ pub mod Hearing
 pub mod HeldPoll
 pub mod IndexKept
 pub mod Keeps
+pub mod Kept
 pub mod LabelLoad
+pub mod Labels
 pub mod Labelwise
 pub mod ListLaws
 pub mod LoadKeeps
+pub mod LoadLaws
 pub mod Loaded
 pub mod Loading
 pub mod Marks
@@ -52,6 +55,7 @@ pub mod Stores
 pub mod Taken
 pub mod Touching
 pub mod TreatKeeps
+pub mod TreatLaws
 pub mod Treating
 pub mod Underway
 pub mod Unmoved

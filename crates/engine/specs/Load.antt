@@ -1,11 +1,11 @@
 -- Loading in memory: all cells 0, the plan's index, then for each label its domain cell, its counters, and its deletion
 -- where a count is 0.
 use Prim.Native.Nat.{ℕ, zero, suc, _-_}
-use mathlib.Core.Bool.{cond}
-use lib.Dec.{ltb}
+use mathlib.Core.Bool.{Bool, cond, _&&_}
+use lib.Dec.{ltb, eqb}
 use Rattle.disac4.specs.Loading.{unsupported}
 use Rattle.disac4.specs.System.{System}
-use Rattle.network.specs.Network.{supportCount}
+use Rattle.network.specs.Network.{Network, supportCount}
 use Rattle.engine.specs.Layout.{BEHIND, DOMAIN, COUNTERS}
 use Rattle.engine.specs.Lists.{deleteM}
 use Rattle.engine.specs.Memory.{Mem, store}
@@ -14,6 +14,15 @@ use Rattle.engine.specs.View.{LISTED, counterRow}
 -- the needed cells are 0
 unfoldable pub clearedM : Mem → Mem
 clearedM m r i j = cond (ltb r BEHIND) 0 (m r i j)
+
+-- label `v` of `x` has a count against `y`, and it is 0
+unfoldable pub lacks : Network → ℕ → ℕ → ℕ → Bool
+lacks net x v y = net .linked x y && eqb (supportCount net x v y) 0
+
+-- the counter of label `v` of `x` against `y`, if the two are linked
+unfoldable pub countOneM : System → ℕ → ℕ → ℕ → Mem → Mem
+countOneM sys x v y m =
+    cond (sys .net .linked x y) (store m COUNTERS (counterRow m x y) v (supportCount (sys .net) x v y)) m
 
 -- the counters of label `v` of `x` against the first `n` variables
 unfoldable pub countM : System → ℕ → ℕ → ℕ → Mem → Mem

@@ -1,5 +1,5 @@
 -- What the work cells mean: the state of document 01 that a memory and the controller's tally stand for.
-use Prim.Native.Nat.{ℕ, suc, _+_, _-_, _*_, _/_, _%_}
+use Prim.Native.Nat.{ℕ, suc, _+_, _-_, _*_, _/_, _%_, _<_, _≤_}
 use mathlib.Core.Bool.{Bool, true, false, cond, _&&_, not}
 use mathlib.Core.List.{List, []}
 use mathlib.Core.Option.{Option, none, some}
@@ -90,6 +90,11 @@ viewChannel sys m t j k =
 -- the row of the counters of `x` against `y`
 unfoldable pub counterRow : Mem → ℕ → ℕ → ℕ
 counterRow m x y = 2 * m HEADS x y - 1 + one (ltb y x)
+
+-- the two variables have a row of counters
+pub record Numbered (m : Mem) (x y : ℕ) : Type 0 where
+  pub low : 0 < m HEADS x y
+  pub high : m HEADS x y ≤ 128
 
 unfoldable pub viewCounter : System → Mem → ℕ → ℕ → ℕ → ℕ
 viewCounter sys m x v y = cond (loaded (sys .net) x v && sys .net .linked x y) (m COUNTERS (counterRow m x y) v) 0

@@ -6,8 +6,11 @@ pub mod controller;
 pub mod index;
 pub mod layout;
 pub mod lists;
+pub mod load;
 pub mod messages;
 pub mod pairs;
+pub mod parts;
+pub mod treat;
 pub mod turns;
 
 // A part of the work cells: rows of as many columns, from a fixed place on.
