@@ -1,8 +1,8 @@
 -- A list of turns in memory: the machine after it, and how many of its turns that pass a test changed something.
-use Prim.Native.Nat.{ℕ, _+_, _≤_}
+use Prim.Native.Nat.{ℕ, _+_, _/_, _%_, _<_, _≤_}
 use mathlib.Core.Bool.{Bool, true, false, _&&_}
 use mathlib.Core.List.{List, [], _∷_, _++_}
-use mathlib.Core.Option.{none}
+use mathlib.Core.Option.{Option, none}
 use mathlib.Core.Path.{_≡_}
 use lib.ListN.{length}
 use Rattle.base.specs.Below.{one}
@@ -10,15 +10,18 @@ use Rattle.disac4.specs.Outcome.{systemAt}
 use Rattle.disac4.specs.Report.{isSend, isPoll}
 use Rattle.disac4.specs.State.{State}
 use Rattle.disac4.specs.System.{System}
-use Rattle.disac4.specs.Turn.{Turn, isSome}
+use Rattle.disac4.specs.Turn.{Turn, turn, isSome}
 use Rattle.disac4.specs.declared.Tally.{Tally}
-use Rattle.engine.specs.Index.{indexM}
+use Rattle.engine.specs.Allowed.{Listed}
+use Rattle.engine.specs.Index.{Ready, indexM}
+use Rattle.engine.specs.Layout.{WORKERS, WORK, HEAD, TAIL}
 use Rattle.engine.specs.Load.{clearedM, loadM}
-use Rattle.engine.specs.Memory.{Mem}
-use Rattle.engine.specs.Step.{Machine, machine, stepM, afterM}
+use Rattle.engine.specs.Memory.{Mem, memOf}
+use Rattle.engine.specs.Step.{Machine, machine, workerM, stepM, afterM}
 use Rattle.engine.specs.View.{view}
 use Rattle.engine.specs.declared.Progress.{Progress}
 use Rattle.plan.specs.Decode.{planFault}
+use Rattle.plan.specs.Format.{workerCount}
 
 -- the state that a machine stands for
 abbrev pub viewOf : System → Machine → State
@@ -52,6 +55,23 @@ pub record At (b : List ℕ) (m : Mem) (ts : List Turn) (cells : List ℕ) (g : 
   pub changes : g .changes ≡ countM (systemAt b) (λ t. true) (startM b m) ts
   pub sends : g .sends ≡ countM (systemAt b) isSend (startM b m) ts
   pub polls : g .polls ≡ countM (systemAt b) isPoll (startM b m) ts
+
+-- what the code asks of cells and tally to play a turn: the plan's index, marks of workers only, and on every work list
+-- labels of the plan
+pub record Playable (b cells : List ℕ) (t : Tally) : Type 0 where
+  pub ready : Ready b cells
+  pub marks : t .marks < 256
+  pub workers : workerCount b ≤ 8
+  pub labels : (i : ℕ) → i < workerCount b → memOf cells WORKERS i HEAD < memOf cells WORKERS i TAIL
+      → Listed b (memOf cells WORK i (memOf cells WORKERS i HEAD) / 16) (memOf cells WORK i (memOf cells WORKERS i HEAD) % 16)
+
+-- the action `d` of row `i`, on a memory
+abbrev pub workerOn : System → Tally → ℕ → ℕ → Mem → Option Mem
+workerOn sys t i d m = workerM sys i d (record { mem = m; tally = t })
+
+-- a turn, on a machine
+abbrev pub turnOn : System → ℕ → ℕ → Machine → Option Machine
+turnOn sys actor action s = stepM sys s (turn actor action)
 
 -- some turns of an accepted plan have been played
 pub record Going (b cells : List ℕ) (g : Progress) : Type 0 where
