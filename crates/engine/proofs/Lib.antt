@@ -1,4 +1,5 @@
 pub mod Actors
+pub mod Advancing
 pub mod Answered
 pub mod Answering
 pub mod Asked
@@ -44,6 +45,7 @@ pub mod Regions
 pub mod Room
 pub mod RoundsLeft
 pub mod RowsKept
+pub mod RunLaws
 pub mod Runs
 pub mod Seen
 pub mod Sending
