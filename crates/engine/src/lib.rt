@@ -8,6 +8,7 @@ pub mod layout;
 pub mod lists;
 pub mod messages;
 pub mod pairs;
+pub mod report;
 pub mod turns;
 
 // A part of the work cells: rows of as many columns, from a fixed place on.
