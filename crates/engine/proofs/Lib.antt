@@ -32,6 +32,7 @@ pub mod Loading
 pub mod Marks
 pub mod MessageLaws
 pub mod Outgoing
+pub mod Overwritten
 pub mod Permitted
 pub mod Places
 pub mod PollRead
@@ -42,6 +43,7 @@ pub mod Ranges
 pub mod Reading
 pub mod Refined
 pub mod Regions
+pub mod Reported
 pub mod Room
 pub mod RoundsLeft
 pub mod RowsKept

@@ -7,10 +7,11 @@ use mathlib.Core.Path.{_≡_}
 use lib.ListN.{length}
 use Rattle.base.specs.Below.{one}
 use Rattle.disac4.specs.Outcome.{systemAt}
-use Rattle.disac4.specs.Report.{isSend, isPoll}
+use Rattle.disac4.specs.Report.{lowestEmpty, statusOf, isSend, isPoll}
 use Rattle.disac4.specs.State.{State}
 use Rattle.disac4.specs.System.{System}
 use Rattle.disac4.specs.Turn.{Turn, turn, isSome}
+use Rattle.disac4.specs.declared.Report.{Report}
 use Rattle.disac4.specs.declared.Tally.{Tally}
 use Rattle.engine.specs.Allowed.{Listed}
 use Rattle.engine.specs.Index.{Ready, indexM}
@@ -84,3 +85,13 @@ pub record Going (b cells : List ℕ) (g : Progress) : Type 0 where
 -- after these further turns
 unfoldable pub Plays : List ℕ → List Turn → List ℕ → Progress → List ℕ → Progress → Type 0
 Plays b us cells g cells′ g′ = (m : Mem) (ts : List Turn) → At b m ts cells g → At b m (ts ++ us) cells′ g′
+
+-- the report of a run that has come so far
+unfoldable pub reportM : System → Mem → Progress → Report
+reportM sys m g = record {
+  status = statusOf sys (view sys m (g .tally));
+  changes = g .changes;
+  sends = g .sends;
+  polls = g .polls;
+  empty = lowestEmpty sys (view sys m (g .tally));
+}

@@ -10,6 +10,7 @@ pub mod load;
 pub mod messages;
 pub mod pairs;
 pub mod parts;
+pub mod report;
 pub mod run;
 pub mod treat;
 pub mod turns;
