@@ -1,14 +1,13 @@
 -- An accepted plan's system fits the regions, and its index gives each two linked variables a number of their own.
-use Prim.Native.Nat.{ℕ, zero, suc, _-_, _<_, _≤_}
-use mathlib.Core.Bool.{Bool, true, not}
+use Prim.Native.Nat.{ℕ, suc, _-_, _<_}
+use mathlib.Core.Bool.{true}
 use mathlib.Core.List.{List}
-use mathlib.Core.Logic.{_⊎_, inl, inr, ⊎-elim}
+use mathlib.Core.Logic.{_⊎_, inl, inr}
 use mathlib.Core.Option.{none}
-use mathlib.Core.Path.{_≡_, refl, sym, _∙_, ap}
+use mathlib.Core.Path.{_≡_, sym, _∙_, ap}
 use borrow.Author.Tests.{eqb-false, not-true}
 use native.Mathlib.Omega.{arith}
 use lib.Dec.{eqb}
-use lib.ListN.{length}
 use Rattle.disac4.proofs.Demands.{plan-sound}
 use Rattle.disac4.specs.System.{systemOf}
 use Rattle.engine.proofs.Chains.{Ends, ends, over-ends, chain-low, chain-over, chain-settled}
@@ -54,7 +53,8 @@ module _ (b : List ℕ) (none-found : planFault b ≡ none) (m : Mem) (index : I
         chain-over b x y c (sym (ap (chainBelow b x y) head) ∙ chain-settled b x y (constraintCount b) ∙ head),
       )
 
-  same-ends : (x y x′ y′ f s : ℕ) → ((x ≡ f) × (y ≡ s)) ⊎ ((x ≡ s) × (y ≡ f)) → ((x′ ≡ f) × (y′ ≡ s)) ⊎ ((x′ ≡ s) × (y′ ≡ f))
+  same-ends : (x y x′ y′ f s : ℕ) → ((x ≡ f) × (y ≡ s)) ⊎ ((x ≡ s) × (y ≡ f))
+      → ((x′ ≡ f) × (y′ ≡ s)) ⊎ ((x′ ≡ s) × (y′ ≡ f))
       → ((x ≡ x′) × (y ≡ y′)) ⊎ ((x ≡ y′) × (y ≡ x′))
   same-ends x y x′ y′ f s (inl p) (inl q) = inl (omega arith)
   same-ends x y x′ y′ f s (inl p) (inr q) = inr (omega arith)

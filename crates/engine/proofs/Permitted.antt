@@ -2,7 +2,7 @@
 use Prim.Native.Nat.{ℕ, suc, _+_, _-_, _^_, _<_, _≤_}
 use mathlib.Core.Bool.{Bool, true, false, cond, _&&_, _||_, not}
 use mathlib.Core.List.{List}
-use mathlib.Core.Logic.{_⊎_, inl, inr, ⊎-elim}
+use mathlib.Core.Logic.{_⊎_, inl, inr}
 use mathlib.Core.Option.{none}
 use mathlib.Core.Path.{_≡_, refl, sym, _∙_, ap, ap₂, subst}
 use native.Mathlib.Numerals.{add-one}
@@ -20,19 +20,19 @@ use Rattle.base.specs.Below.{allBelow, anyBelow, listBelow}
 use Rattle.base.specs.Choice.{anyOf, allOf}
 use Rattle.base.specs.Row.{bit, rowOf, rowCount}
 use Rattle.engine.proofs.Chains.{and-true, Ends, ends, over-ends, chain-low, chain-settled, chain-over, chain-any, chain-all}
-use Rattle.engine.proofs.Places.{start-inside, few-values}
+use Rattle.engine.proofs.Places.{few-sections, few-values, start-inside}
 use Rattle.engine.specs.Allowed.{permitsAt, Listed}
 use Rattle.engine.specs.Index.{over, chainBelow, Ready, constraintStart}
-use Rattle.engine.specs.Layout.{PLACES}
+use Rattle.engine.specs.Layout.{HEADS, PLACES, NEXT, regionAt, Fits}
 use Rattle.engine.specs.Memory.{memOf}
 use Rattle.network.specs.Network.{supports, supportCount}
 use Rattle.plan.proofs.Links.{joins-of, of-joins, linked-in-range}
 use Rattle.plan.proofs.Parts.{variables-read, constraints-read, constraint-read, size-read, value-read}
 use Rattle.plan.proofs.WellFormed.{read-well-formed}
 use Rattle.plan.specs.Decode.{sectionCount, planFault, relationAt, constraintAt, planOf}
-use Rattle.plan.specs.Format.{sectionStart, variableCount, constraintCount, firstAt, secondAt, kindAt, tableRowAt, limitAt, figureAt, codeAt, sizeAt}
+use Rattle.plan.specs.Format.{sectionStart, variableCount, constraintCount, firstAt, secondAt, kindAt, tableRowAt, limitAt, figureAt, sizeAt}
 use Rattle.plan.specs.Network.{withinLimit, permits, joins, accepts, pairAllowed, shareConstraint, networkOf}
-use Rattle.plan.specs.Plan.{Value, Relation, table, sumLimit, Constraint, valueOf}
+use Rattle.plan.specs.Plan.{Value, table, sumLimit, Constraint, valueOf}
 use Rattle.plan.specs.WellFormed.{sizeOf, noConstraint, constraintOf}
 
 -- ---- tests over a list as tests below its length
@@ -173,6 +173,28 @@ pub variable-placed : (b cells : List ℕ) → Ready b cells → (at x : ℕ) �
     → Placed b at (suc x)
 unfolding sectionCount
 variable-placed b cells ready at x e h = placed b cells ready at (x + 1) (suc x) e (add-one x) (omega arith)
+
+-- what the index is read at lies in its regions
+module _ (b cells : List ℕ) (ready : Ready b cells) where
+  few : (variableCount b ≤ 32) × (constraintCount b ≤ 128)
+  few = few-sections b (ready .sound)
+
+  pub place-fits : (k : ℕ) → k < sectionCount b → Fits cells (regionAt PLACES) 0 k
+  unfolding sectionCount
+  place-fits k h =
+      record { known = refl; writable = omega arith; row = omega arith; col = omega (arith, few); long = ready .long }
+
+  pub variable-fits : (x : ℕ) → x < variableCount b → Fits cells (regionAt PLACES) 0 (x + 1)
+  unfolding sectionCount
+  variable-fits x h = place-fits (x + 1) (omega arith)
+
+  pub head-fits : (x y : ℕ) → x < variableCount b → y < variableCount b → Fits cells (regionAt HEADS) x y
+  head-fits x y h l =
+      record { known = refl; writable = omega arith; row = omega (arith, few); col = omega (arith, few); long = ready .long }
+
+  pub next-fits : (c : ℕ) → c < constraintCount b → Fits cells (regionAt NEXT) 0 c
+  next-fits c h =
+      record { known = refl; writable = omega arith; row = omega arith; col = omega (arith, few); long = ready .long }
 
 -- ---- the walk along a chain
 

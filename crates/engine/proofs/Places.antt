@@ -1,6 +1,5 @@
 -- Where the sections of an accepted plan start: within the plan, and low enough for a cell.
 use Prim.Native.Nat.{ℕ, zero, suc, _+_, _*_, _-_, _<_, _≤_}
-use mathlib.Core.Bool.{Bool, true, false, cond}
 use mathlib.Core.List.{List}
 use mathlib.Core.Logic.{⊎-elim}
 use mathlib.Core.Option.{none}
@@ -18,7 +17,7 @@ use Rattle.plan.proofs.InOrder.{InOrder, ordered}
 use Rattle.plan.proofs.Parts.{variables-read, constraints-read, size-read}
 use Rattle.plan.proofs.Sections.{each-section, section-complete}
 use Rattle.plan.proofs.WellFormed.{read-well-formed}
-use Rattle.plan.specs.Check.{firstFault, headChecks, variableChecks, constraintChecks, constraintLength, sectionChecks}
+use Rattle.plan.specs.Check.{firstFault, headChecks, variableChecks, constraintChecks, constraintLength}
 use Rattle.plan.specs.Decode.{sectionCount, planFault, planOf}
 use Rattle.plan.specs.Format.{sectionStart, variableCount, constraintCount, valueCountAt, firstAt, kindAt, sizeAt}
 use Rattle.plan.specs.WellFormed.{WellFormed, VariableFits}

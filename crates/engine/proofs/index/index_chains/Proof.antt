@@ -1,8 +1,8 @@
 -- `engine::index::index_chains` writes the chains. Invariant: those of the first c constraints are written. Assumes nothing.
-use Prim.Native.Nat.{ℕ, suc, _+_, _-_, _≤_}
+use Prim.Native.Nat.{ℕ, suc, _+_, _-_, _<_, _≤_}
 use borrow.Author.Needs.{needs}
 use denote.Ref.{now}
-use mathlib.Core.Path.{_≡_, refl, _∙_, ap}
+use mathlib.Core.Path.{_≡_, refl, sym, _∙_, ap, subst}
 use native.Mathlib.Omega.{arith}
 use lib.ListN.{length}
 use Rattle.engine.proofs.Chains.{in-order, chains-more, place-found}
@@ -29,32 +29,32 @@ variable-count-requires c κs = search needs
 constraint-count-requires : tie.Need-constraint-count-requires Inv-loop μ-loop
 constraint-count-requires c κs = search needs
 
--- the constraint's place
-found : (c : tie.After-get Inv-loop μ-loop)
-    → c .get .result ≡ constraintStart (c .before .before .before .before .before .before .before .before .args .b .now) (c .before .before .before .loop .c)
-found c =
-    let l = c .before .before .before in
-    let s = l .before .before .before .before .before in
-    place-found (now (s .args .b)) (l .before .before .variable-count .result) (l .loop .c) (c .get .result)
-    (memOf (now (s .args .cells))) (memOf (l .loop .cells)) (s .pre .2) (l .loop .inv .3) (l .loop .inv .1)
-    (omega (arith, l .loop .inv, c .before .before .loop-test .taken)) (c .get .ensures .0)
+-- the constraint's place: it is in the plan, and the numbers of the constraint's variables are in order
+module _ (c : tie.After-get Inv-loop μ-loop) where
+  abbrev l : tie.At-loop Inv-loop μ-loop
+  l = c .before .before .before
 
--- it is in the plan, and the numbers of the constraint's variables are in order
-inside : (c : tie.After-get Inv-loop μ-loop)
-    → c .get .result ≤ length (c .before .before .before .before .before .before .before .before .args .b .now)
-unfolding sectionCount
-inside c =
-    let l = c .before .before .before in
-    let s = l .before .before .before .before .before in
-    let b = now (s .args .b) in
-    omega (arith, found c, start-inside b (s .pre .0) (suc (variableCount b + l .loop .c)) (omega (arith, l .loop .inv, c .before .before .loop-test .taken)))
+  abbrev s : tie.Start Inv-loop μ-loop
+  s = l .before .before .before .before .before
 
-numbers : (c : tie.After-get Inv-loop μ-loop)
-    → InOrder (c .before .before .before .before .before .before .before .before .args .b .now) (c .get .result)
-numbers c =
-    let l = c .before .before .before in
-    let s = l .before .before .before .before .before in
-    rw (found c) (in-order (now (s .args .b)) (s .pre .0) (l .loop .c) (omega (arith, l .loop .inv, c .before .before .loop-test .taken)))
+  listed : l .loop .c < constraintCount (now (s .args .b))
+  listed = omega (arith, l .loop .inv, c .before .before .loop-test .taken)
+
+  found : c .get .result ≡ constraintStart (now (s .args .b)) (l .loop .c)
+  found =
+      place-found (now (s .args .b)) (l .before .before .variable-count .result) (l .loop .c) (c .get .result)
+      (memOf (now (s .args .cells))) (memOf (l .loop .cells)) (s .pre .2) (l .loop .inv .3) (l .loop .inv .1) listed
+      (c .get .ensures .0)
+
+  inside : c .get .result ≤ length (now (s .args .b))
+  unfolding sectionCount
+  inside =
+      let b = now (s .args .b) in
+      omega (arith, found, start-inside b (s .pre .0) (suc (variableCount b + l .loop .c)) (omega (arith, listed)))
+
+  numbers : InOrder (now (s .args .b)) (c .get .result)
+  numbers =
+      subst (InOrder (now (s .args .b))) (sym found) (in-order (now (s .args .b)) (s .pre .0) (l .loop .c) listed)
 
 loop-holds : tie.Need-loop-holds Inv-loop μ-loop
 unfolding chainsM
@@ -120,18 +120,17 @@ loop-less c = search needs
 loop-again : tie.Need-loop-again Inv-loop μ-loop
 loop-again c =
     let g = c .before .before .before .before .before .before in
-    let l = g .before .before .before in
-    let s = l .before .before .before .before .before in
-    let b = now (s .args .b) in
+    let inv = l g .loop .inv in
+    let b = now (s g .args .b) in
     let link = c .before .before .link in (
       omega arith,
-      l .loop .inv .1,
-      l .loop .inv .2,
-      chains-more b (l .loop .c) (c .before .before .before .before .first .result) (c .before .before .before .second .result)
-          (memOf (now (s .args .cells))) (memOf (l .loop .cells)) (memOf (link .last .0)) (l .loop .inv .3)
+      inv .1,
+      inv .2,
+      chains-more b (l g .loop .c) (c .before .before .before .before .first .result) (c .before .before .before .second .result)
+          (memOf (now (s g .args .cells))) (memOf (l g .loop .cells)) (memOf (link .last .0)) (inv .3)
           (c .before .before .before .before .first .ensures .0 ∙ ap (firstAt b) (found g))
           (c .before .before .before .second .ensures .0 ∙ ap (secondAt b) (found g)) (link .ensures),
-      link .kept .0 ∙ l .loop .inv .4,
+      link .kept .0 ∙ inv .4,
     )
 
 same-length : tie.Need-same-length Inv-loop μ-loop

@@ -4,10 +4,10 @@ use Prim.Native.Nat.{suc, _+_, _-_, _≤_}
 use borrow.Author.Needs.{needs}
 use denote.Ref.{now}
 use mathlib.Core.Bool.{true}
-use mathlib.Core.Path.{_≡_, refl, sym, _∙_}
+use mathlib.Core.Path.{_≡_, sym, _∙_}
 use native.Mathlib.Omega.{arith}
 use Rattle.engine.proofs.Chains.{chain-low}
-use Rattle.engine.proofs.Permitted.{acceptsAt, Placed, placed, variable-placed, Along, along-start, along-here, along-over, along-next, along-stop, value-small, permitted}
+use Rattle.engine.proofs.Permitted.{acceptsAt, Placed, placed, variable-placed, place-fits, variable-fits, head-fits, next-fits, Along, along-start, along-here, along-over, along-next, along-stop, value-small, permitted}
 use Rattle.engine.proofs.Places.{few-sections}
 use Rattle.engine.proofs.pairs.chain_allows.Statement.{statement}
 use Rattle.engine.proofs.pairs.chain_allows.Tie as tie
@@ -34,8 +34,7 @@ add-get c = omega (arith, few (c .before .before .before))
 get-requires : tie.Need-get-requires Inv-loop μ-loop
 get-requires c κs =
     let s = c .before .before .before in
-    let small = few s in
-    record { known = refl; writable = omega arith; row = omega arith; col = omega (arith); long = s .pre .0 .long }
+    variable-fits (now (s .args .b)) (now (s .args .cells)) (s .pre .0) (s .args .x) (s .pre .1 .variable)
 
 add-get-2 : tie.Need-add-get-2 Inv-loop μ-loop
 add-get-2 c = omega (arith, few (c .before .before .before .before))
@@ -43,14 +42,12 @@ add-get-2 c = omega (arith, few (c .before .before .before .before))
 get-requires-2 : tie.Need-get-requires-2 Inv-loop μ-loop
 get-requires-2 c κs =
     let s = c .before .before .before .before in
-    let small = few s in
-    record { known = refl; writable = omega arith; row = omega arith; col = omega (arith); long = s .pre .0 .long }
+    variable-fits (now (s .args .b)) (now (s .args .cells)) (s .pre .0) (s .args .y) (s .pre .2 .variable)
 
 get-requires-3 : tie.Need-get-requires-3 Inv-loop μ-loop
 get-requires-3 c κs =
     let s = c .before .before .before .before .before in
-    let small = few s in
-    record { known = refl; writable = omega arith; row = omega arith; col = omega (arith); long = s .pre .0 .long }
+    head-fits (now (s .args .b)) (now (s .args .cells)) (s .pre .0) (s .args .x) (s .args .y) (s .pre .1 .variable) (s .pre .2 .variable)
 
 loop-holds : tie.Need-loop-holds Inv-loop μ-loop
 loop-holds c =
@@ -65,17 +62,13 @@ add-get-3 c =
     omega (arith, few s, l .loop .inv .low, l .before .before .before .before .variable-count .ensures)
 
 get-requires-4 : tie.Need-get-requires-4 Inv-loop μ-loop
+unfolding sectionCount
 get-requires-4 c κs =
     let l = c .before in
     let s = l .before .before .before .before .before .before .before in
-    let small = few s in
-    record {
-      known = refl;
-      writable = omega arith;
-      row = omega arith;
-      col = omega (arith, l .loop .inv .low, l .before .before .before .before .variable-count .ensures);
-      long = s .pre .0 .long;
-    }
+    let variables = l .before .before .before .before .variable-count in
+    place-fits (now (s .args .b)) (now (s .args .cells)) (s .pre .0) (variables .result + l .loop .next)
+    (omega (arith, l .loop .inv .low, variables .ensures))
 
 -- the walk at the constraint that it has come to, and that constraint
 module _ (c : tie.After-get4 Inv-loop μ-loop) where
@@ -146,14 +139,8 @@ sub-get c = omega (arith, here (c .before .before))
 get-requires-5 : tie.Need-get-requires-5 Inv-loop μ-loop
 get-requires-5 c κs =
     let g = c .before .before in
-    let small = few (s g) in
-    record {
-      known = refl;
-      writable = omega arith;
-      row = omega arith;
-      col = omega (arith, here g .low);
-      long = s g .pre .0 .long;
-    }
+    let st = s g in
+    next-fits (now (st .args .b)) (now (st .args .cells)) (st .pre .0) (l g .loop .next - 1) (here g .low)
 
 follows : (c : tie.After-get5 Inv-loop μ-loop)
     → c .get5 .result

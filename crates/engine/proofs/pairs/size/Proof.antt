@@ -1,9 +1,9 @@
 -- `engine::pairs::size` gives how many values a variable has. Assumes nothing.
 use Prim.Native.Nat.{suc}
 use denote.Ref.{now}
-use mathlib.Core.Path.{_≡_, refl, sym, _∙_, ap}
+use mathlib.Core.Path.{_≡_, sym, _∙_, ap}
 use native.Mathlib.Omega.{arith}
-use Rattle.engine.proofs.Permitted.{Placed, variable-placed}
+use Rattle.engine.proofs.Permitted.{Placed, variable-placed, variable-fits}
 use Rattle.engine.proofs.Places.{few-sections, few-values}
 use Rattle.engine.proofs.pairs.size.Statement.{statement}
 use Rattle.engine.proofs.pairs.size.Tie as tie
@@ -16,8 +16,7 @@ add-get c = omega (arith, few-sections (now (c .before .before .args .b)) (c .be
 get-requires : tie.Need-get-requires
 get-requires c κs =
     let s = c .before .before in
-    let few = few-sections (now (s .args .b)) (s .pre .0 .sound) in
-    record { known = refl; writable = omega arith; row = omega arith; col = omega arith; long = s .pre .0 .long }
+    variable-fits (now (s .args .b)) (now (s .args .cells)) (s .pre .0) (s .args .x) (s .pre .1)
 
 at : (c : tie.After-get) → Placed (now (c .before .before .before .args .b)) (c .get .result) (suc (c .before .before .before .args .x))
 at c =
