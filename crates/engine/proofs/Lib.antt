@@ -1,4 +1,5 @@
 pub mod Chains
+pub mod ControllerLaws
 pub mod Inv
 pub mod Kept
 pub mod Labels

@@ -3,19 +3,30 @@ use Prim.Native.Nat.{ℕ, _-_}
 use mathlib.Core.Bool.{Bool, true, false, cond, _&&_, _||_, not}
 use mathlib.Core.List.{List, [], _∷_}
 use mathlib.Core.Option.{Option, none, some, Option·getD}
+use mathlib.Core.Path.{_≡_}
 use lib.Dec.{eqb}
 use Rattle.disac4.specs.System.{System}
 use Rattle.disac4.specs.Turn.{Turn, treatNumber, sendNumber, answerNumber, pollNumber, allowed}
 use Rattle.disac4.specs.declared.Tally.{Tally}
 use Rattle.engine.specs.Layout.{OUT, WORKERS, OUTREAD}
-use Rattle.engine.specs.Memory.{Mem}
+use Rattle.engine.specs.Memory.{Mem, memOf, changed}
 use Rattle.engine.specs.Messages.{sendM, readListM, readPollM, answerM, askM, askedT, asksT, hasOut, outReadM, toldT}
 use Rattle.engine.specs.Treat.{treatM}
+use Rattle.engine.specs.declared.Heard.{Heard}
 
 -- the work cells as a memory, and the tally beside them
 pub record Machine : Type 0 where
   pub mem : Mem
   pub tally : Tally
+
+abbrev pub machine : List ℕ → Tally → Machine
+machine cells t = record { mem = memOf cells; tally = t }
+
+-- what an action of the controller does to cells and tally: what its definition leaves, and 1 where that changes something
+pub record Hears (act : Machine → Option Machine) (before : List ℕ) (t : Tally) (after : List ℕ) (r : Heard) : Type 0 where
+  pub mem : memOf after ≡ Option·getD (act (machine before t)) (machine before t) .mem
+  pub tally : r .tally ≡ Option·getD (act (machine before t)) (machine before t) .tally
+  pub count : r .changed ≡ changed (act (machine before t))
 
 abbrev pub withMem : Tally → Option Mem → Option Machine
 withMem t none = none

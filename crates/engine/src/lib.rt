@@ -1,5 +1,7 @@
 // The state in lent cells: loading, the actions, the turn run and the round run.
+use disac4::Tally;
 
+pub mod controller;
 pub mod index;
 pub mod layout;
 pub mod lists;
@@ -15,4 +17,10 @@ pub struct Region {
     pub base: usize,
     pub rows: usize,
     pub cols: usize,
+}
+
+// What an action of the controller gives: 1 where it changed something, and its tally after.
+pub struct Heard {
+    pub changed: usize,
+    pub tally: Tally,
 }
