@@ -12,6 +12,7 @@ pub mod ControllerLaws
 pub mod ControllerRead
 pub mod Copied
 pub mod Filled
+pub mod Finishing
 pub mod Frame
 pub mod Frames
 pub mod Growing

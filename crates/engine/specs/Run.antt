@@ -4,10 +4,10 @@ use mathlib.Core.Bool.{Bool, true, false, _&&_}
 use mathlib.Core.List.{List, [], _∷_, _++_}
 use mathlib.Core.Option.{Option, none}
 use mathlib.Core.Path.{_≡_}
-use lib.ListN.{length}
+use lib.ListN.{length, replicate}
 use Rattle.base.specs.Below.{one}
-use Rattle.disac4.specs.Outcome.{systemAt}
-use Rattle.disac4.specs.Report.{lowestEmpty, statusOf, isSend, isPoll}
+use Rattle.disac4.specs.Outcome.{overwrite, workNeed, systemAt}
+use Rattle.disac4.specs.Report.{final, isPoll, isSend, listCells, lowestEmpty, reportOf, statusOf}
 use Rattle.disac4.specs.State.{State}
 use Rattle.disac4.specs.System.{System}
 use Rattle.disac4.specs.Turn.{Turn, turn, isSome}
@@ -95,3 +95,10 @@ reportM sys m g = record {
   polls = g .polls;
   empty = lowestEmpty sys (view sys m (g .tally));
 }
+
+-- the end of a run that has played its turns: their report, their list cells, and cleared work cells
+pub record Finishes (b cells lists : List ℕ) (g : Progress) (cells′ lists′ : List ℕ) (r : Report) : Type 0 where
+  pub cleared : cells′ ≡ overwrite (replicate workNeed 0) cells
+  pub reported : (m : Mem) (ts : List Turn) → At b m ts cells g → r ≡ reportOf (systemAt b) ts
+  pub listed : (m : Mem) (ts : List Turn) → At b m ts cells g
+      → lists′ ≡ overwrite (listCells (systemAt b) (final (systemAt b) ts)) lists

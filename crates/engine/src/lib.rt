@@ -3,6 +3,7 @@ use disac4::Tally;
 
 pub mod clear;
 pub mod controller;
+pub mod finish;
 pub mod index;
 pub mod layout;
 pub mod lists;
