@@ -1,6 +1,7 @@
 // Big-endian reads in a slice of bytes, and rows of bits; as definitions, loops below a bound and updates too.
 ghost use mathlib.Core.Path.{_≡_};
 ghost use Prim.Native.Nat.{ℕ, _<_, _^_};
+ghost use Rattle.base.specs.Choice.{between as betweenOf};
 ghost use Rattle.base.specs.Bytes.{byteAt, wordAt};
 ghost use Rattle.base.specs.Row.{rowCount};
 
@@ -47,4 +48,11 @@ pub fn row_count(row: usize) -> usize
     } else {
         1 + row_count(row & (row - 1))
     }
+}
+
+// Whether x lies from low to high.
+pub fn between(low: usize, high: usize, x: usize) -> bool
+    ensures { λ r. ⌜ r ≡ betweenOf low high x ⌝ }
+{
+    low <= x && x <= high
 }

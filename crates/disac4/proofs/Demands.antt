@@ -74,11 +74,11 @@ module _ (sys : System) (sound : Sound sys) (ts : List Turn) where
 -- ---- the round
 
 -- a state that some turns reach
-abbrev Reached : System → State → Type 0
+abbrev pub Reached : System → State → Type 0
 Reached sys st = (ts : List Turn) × (play sys (load sys) ts ≡ st)
 
 module _ (sys : System) (sound : Sound sys) where
-  reached-advances : Advances sys (Reached sys)
+  pub reached-advances : Advances sys (Reached sys)
   reached-advances = record {
     carried = λ st us r. (r .0 ++ us, play-append sys (r .0) us (load sys) ∙ ap (λ (s : State). play sys s us) (r .1));
     progress = λ st r running.
@@ -86,7 +86,7 @@ module _ (sys : System) (sound : Sound sys) where
         (p .0, subst (λ (s : State). changes sys s (p .0) ≡ true) (r .1) (p .2));
   }
 
-  from-load : Reached sys (load sys)
+  pub from-load : Reached sys (load sys)
   unfolding play
   from-load = ([], refl)
 

@@ -107,7 +107,7 @@ module _ (sys : System) where
 
     module _ (I : State → Type 0) (advances : Advances sys I) where
       -- a round lowers the potential of an open plan
-      round-lowers : (st : State) → I st → st .controller .closed ≡ false → potential sys (next st) < potential sys st
+      pub round-lowers : (st : State) → I st → st .controller .closed ≡ false → potential sys (next st) < potential sys st
       round-lowers st i e =
           let moved : (t : Turn) × (changes sys st t ≡ true) = advances .progress st i e in
           omega (arith, turns-bounded sys few oneRound st, round-changes st (moved .0) (moved .1))

@@ -27,6 +27,16 @@ pub struct Timestamp(pub u16);
 // A count of lists.
 pub struct ListCounter(pub u16);
 
+// The controller's tally (the desk's): its count of lists, the poll number, whether that poll is open (polling), the marks as a row
+// of bits, lowest bit for worker 1, and whether the plan is closed.
+pub struct Tally {
+    pub lists: ListCounter,
+    pub timestamp: Timestamp,
+    pub polling: bool,
+    pub marks: usize,
+    pub closed: bool,
+}
+
 // A run's answer.
 pub enum Answer {
     Reported(Report),

@@ -59,7 +59,7 @@ pub enum Checked {
 }
 
 mod constraint;
-mod read;
+pub mod read;
 mod scan;
 mod section;
 mod variable;

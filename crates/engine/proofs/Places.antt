@@ -1,0 +1,82 @@
+-- Where the sections of an accepted plan start: within the plan, and low enough for a cell.
+use Prim.Native.Nat.{ℕ, zero, suc, _+_, _*_, _-_, _<_, _≤_}
+use mathlib.Core.List.{List}
+use mathlib.Core.Logic.{⊎-elim}
+use mathlib.Core.Option.{none}
+use mathlib.Core.Path.{_≡_, ap}
+use borrow.Author.Tests.{leb-true, eqb-true}
+use native.Mathlib.Omega.{arith}
+use lib.Dec.{eqb}
+use lib.ListN.{length}
+use Rattle.base.proofs.Bools.{decided}
+use Rattle.base.proofs.Choice.{cond-true, cond-false}
+use Rattle.base.specs.Bytes.{wordAt}
+use Rattle.plan.proofs.Checks.{each-holds}
+use Rattle.plan.proofs.Faults.{sound-section}
+use Rattle.plan.proofs.InOrder.{InOrder, ordered}
+use Rattle.plan.proofs.Parts.{variables-read, constraints-read, size-read}
+use Rattle.plan.proofs.Sections.{each-section, section-complete}
+use Rattle.plan.proofs.WellFormed.{read-well-formed}
+use Rattle.plan.specs.Check.{firstFault, headChecks, variableChecks, constraintChecks, constraintLength}
+use Rattle.plan.specs.Decode.{sectionCount, planFault, planOf}
+use Rattle.plan.specs.Format.{sectionStart, variableCount, constraintCount, valueCountAt, firstAt, kindAt, sizeAt}
+use Rattle.plan.specs.WellFormed.{WellFormed, VariableFits}
+
+module _ (b : List ℕ) (none-found : planFault b ≡ none) where
+  fits : WellFormed (planOf b)
+  fits = read-well-formed b none-found
+
+  pub few-sections : (variableCount b ≤ 32) × (constraintCount b ≤ 128)
+  few-sections = omega (arith, fits .variables-high, fits .constraints-high, variables-read b, constraints-read b)
+
+  pub few-values : (x : ℕ) → x < variableCount b → sizeAt b (suc x) ≤ 16
+  few-values x h =
+      let fit : VariableFits (planOf b) x = fits .each-variable x (omega (arith, variables-read b)) in
+      omega (arith, fit .few-values, size-read b x h)
+
+  -- each section starts within the plan, and the last one ends there
+  pub start-inside : (k : ℕ) → k ≤ sectionCount b → sectionStart b k ≤ length b
+  unfolding sectionStart sectionCount
+  start-inside zero h = omega (arith, section-complete b 0 (sound-section b none-found 0 (omega arith)))
+  start-inside (suc k) h = section-complete b k (sound-section b none-found k h)
+
+  -- a constraint's section is no longer than a table of 16 rows
+  constraint-short : (at : ℕ) → InOrder b at → constraintLength b at ≤ 66
+  unfolding constraintLength
+  constraint-short at order =
+      let size = sizeAt b (firstAt b at) in
+      let e : suc (firstAt b at - 1) ≡ firstAt b at = omega arith in
+      let small : sizeAt b (suc (firstAt b at - 1)) ≤ 16 = few-values (firstAt b at - 1) (omega arith) in
+      ⊎-elim (λ p. omega (arith, cond-true (3 + 2 * size) 5 p, ap (sizeAt b) e))
+      (λ p. omega (arith, cond-false (3 + 2 * size) 5 p))
+      (decided (eqb (kindAt b at) 0))
+
+  section-short : (k : ℕ) → k < sectionCount b → wordAt b (sectionStart b k) ≤ 66
+  unfolding headChecks variableChecks constraintChecks
+  section-short k h =
+      let at = sectionStart b k in
+      each-section (λ cs. firstFault cs ≡ none → wordAt b (sectionStart b k) ≤ 66) b k
+      (λ e. omega (arith, eqb-true (wordAt b at) 3 (each-holds (headChecks b at) e 1)))
+      (λ e.
+      omega (
+        arith,
+        leb-true (valueCountAt b at) 16 (each-holds (variableChecks b at) e 2),
+        eqb-true (wordAt b at) (2 + 4 * valueCountAt b at) (each-holds (variableChecks b at) e 3),
+      ))
+      (λ e.
+      omega (
+        arith,
+        eqb-true (wordAt b at) (constraintLength b at) (each-holds (constraintChecks b at) e 4),
+        constraint-short at (ordered b at (each-holds (constraintChecks b at) e 3)),
+      ))
+      (sound-section b none-found k h)
+
+  start-low : (k : ℕ) → k ≤ sectionCount b → sectionStart b k ≤ 1 + 68 * k
+  unfolding sectionStart
+  start-low zero h = omega arith
+  start-low (suc k) h = omega (arith, start-low k (omega arith), section-short k h)
+
+  -- a cell holds each section's start
+  pub start-fits : (k : ℕ) → k < sectionCount b → sectionStart b k < 65536
+  unfolding sectionCount
+  start-fits k h = omega (arith, start-low k (omega arith), few-sections)

@@ -1,0 +1,16 @@
+-- `engine::controller::asked` gives the tally after a poll. Assumes nothing.
+use mathlib.Core.Path.{refl}
+use borrow.Author.Needs.{needs}
+use Rattle.engine.proofs.controller.asked.Statement.{statement}
+use Rattle.engine.proofs.controller.asked.Tie as tie
+use Rattle.engine.specs.Messages.{askedT}
+
+add-t4 : tie.Need-add-t4
+add-t4 c = search needs
+
+returns : tie.Need-returns
+unfolding askedT
+returns c = refl
+
+pub asked-spec : {M : Type 1} → statement M
+asked-spec = tie.close (tie.spec add-t4 returns)
