@@ -2,11 +2,11 @@
 use crate::Fault;
 use crate::Verdict;
 use crate::read;
+use base::between;
 use base::word_at;
 ghost use mathlib.Core.Path.{_≡_};
 ghost use Prim.Native.Nat.{_≤_};
 ghost use lib.ListN.{length};
-ghost use Rattle.base.specs.Choice.{between as betweenOf};
 ghost use Rattle.plan.specs.Check.{complete as completeOf, headInRange, headChecks, firstFault, verdictOf};
 
 // Neither the section nor its length is cut off.
@@ -15,12 +15,6 @@ pub fn complete(b: &[u8], at: usize) -> bool
     ensures { λ r. ⌜ r ≡ completeOf (now (b .entry)) at ⌝ }
 {
     read::behind(b, at) <= b.len()
-}
-
-pub fn between(low: usize, high: usize, x: usize) -> bool
-    ensures { λ r. ⌜ r ≡ betweenOf low high x ⌝ }
-{
-    low <= x && x <= high
 }
 
 // p, n and the number of rules are in range.

@@ -3,6 +3,7 @@ use crate::Fault;
 use crate::Verdict;
 use crate::read;
 use crate::section;
+use base::between;
 use base::word_at;
 ghost use mathlib.Core.Path.{_≡_};
 ghost use Prim.Native.Nat.{_≤_};
@@ -51,7 +52,7 @@ pub fn check_variable(b: &[u8], at: usize) -> Verdict
     if length != 2 + 4 * size {
         return Verdict::Fails(Fault::BadLength);
     }
-    if !section::between(1, read::worker_count(b), read::owner(b, at)) {
+    if !between(1, read::worker_count(b), read::owner(b, at)) {
         return Verdict::Fails(Fault::BadNumber);
     }
     if repeats_code(b, at) {
