@@ -33,6 +33,7 @@ pub mod MessageLaws
 pub mod Outgoing
 pub mod Permitted
 pub mod Places
+pub mod Playing
 pub mod PollRead
 pub mod Polling
 pub mod Queue
@@ -42,6 +43,7 @@ pub mod Reading
 pub mod Refined
 pub mod Regions
 pub mod Room
+pub mod Rounding
 pub mod RoundsLeft
 pub mod RowsKept
 pub mod Runs
@@ -57,6 +59,7 @@ pub mod Touching
 pub mod TreatKeeps
 pub mod TreatLaws
 pub mod Treating
+pub mod TurnLists
 pub mod Underway
 pub mod Unmoved
 pub mod Walking

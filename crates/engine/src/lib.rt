@@ -10,6 +10,8 @@ pub mod load;
 pub mod messages;
 pub mod pairs;
 pub mod parts;
+pub mod play;
+pub mod rounds;
 pub mod run;
 pub mod treat;
 pub mod turns;
