@@ -1,4 +1,5 @@
 pub mod Actors
+pub mod Advancing
 pub mod Answered
 pub mod Answering
 pub mod Asked
@@ -11,6 +12,7 @@ pub mod ControllerLaws
 pub mod ControllerRead
 pub mod Copied
 pub mod Filled
+pub mod Finishing
 pub mod Frame
 pub mod Frames
 pub mod Growing
@@ -31,6 +33,7 @@ pub mod Loading
 pub mod Marks
 pub mod MessageLaws
 pub mod Outgoing
+pub mod Overwritten
 pub mod Permitted
 pub mod Places
 pub mod Playing
@@ -42,10 +45,12 @@ pub mod Ranges
 pub mod Reading
 pub mod Refined
 pub mod Regions
+pub mod Reported
 pub mod Room
 pub mod Rounding
 pub mod RoundsLeft
 pub mod RowsKept
+pub mod RunLaws
 pub mod Runs
 pub mod Seen
 pub mod Sending

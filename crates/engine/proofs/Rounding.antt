@@ -20,7 +20,8 @@ use Rattle.engine.proofs.RoundsLeft.{left, roundOn, left-loaded, left-c
 use Rattle.engine.proofs.Start.{fits-regions}
 use Rattle.engine.proofs.Underway.{under-view, plays-none, plays-then}
 use Rattle.engine.specs.Memory.{Mem}
-use Rattle.engine.specs.Run.{viewOf, At, Going, Plays, Begun, PlaysRounds}
+use Rattle.engine.specs.Play.{Begun, PlaysRounds}
+use Rattle.engine.specs.Run.{viewOf, At, Going, Plays}
 use Rattle.engine.specs.Step.{machine}
 use Rattle.engine.specs.View.{view}
 use Rattle.engine.specs.declared.Progress.{Progress}

@@ -12,7 +12,7 @@ use Rattle.base.proofs.Choice.{none≢some, cond-true, cond-false}
 use Rattle.base.specs.Below.{firstBelow}
 use Rattle.base.specs.Bytes.{byteAt}
 use Rattle.disac4.specs.Turn.{Turn, turn, allowed, turnAt, turnFault}
-use Rattle.engine.specs.Run.{badTurn}
+use Rattle.engine.specs.Play.{badTurn}
 use Rattle.plan.specs.Fault.{decline}
 use Rattle.plan.specs.declared.Decline.{Decline}
 use Rattle.plan.specs.declared.Fault.the-variants.{BadTurn}

@@ -1,18 +1,17 @@
 -- A list of turns in memory: the machine after it, and how many of its turns that pass a test changed something.
 use Prim.Native.Nat.{ℕ, _+_, _/_, _%_, _<_, _≤_}
-use mathlib.Core.Bool.{Bool, true, false, cond, _&&_}
+use mathlib.Core.Bool.{Bool, true, false, _&&_}
 use mathlib.Core.List.{List, [], _∷_, _++_}
-use mathlib.Core.Option.{Option, none, some}
+use mathlib.Core.Option.{Option, none}
 use mathlib.Core.Path.{_≡_}
-use lib.Dec.{ltb}
-use lib.ListN.{length}
+use lib.ListN.{length, replicate}
 use Rattle.base.specs.Below.{one}
-use Rattle.disac4.specs.Outcome.{systemAt}
-use Rattle.disac4.specs.Report.{isSend, isPoll}
-use Rattle.disac4.specs.Round.{roundRunTurns}
+use Rattle.disac4.specs.Outcome.{overwrite, workNeed, systemAt}
+use Rattle.disac4.specs.Report.{final, isPoll, isSend, listCells, lowestEmpty, reportOf, statusOf}
 use Rattle.disac4.specs.State.{State}
 use Rattle.disac4.specs.System.{System}
 use Rattle.disac4.specs.Turn.{Turn, turn, isSome}
+use Rattle.disac4.specs.declared.Report.{Report}
 use Rattle.disac4.specs.declared.Tally.{Tally}
 use Rattle.engine.specs.Allowed.{Listed}
 use Rattle.engine.specs.Index.{Ready, indexM}
@@ -23,10 +22,7 @@ use Rattle.engine.specs.Step.{Machine, machine, workerM, stepM, afterM}
 use Rattle.engine.specs.View.{view}
 use Rattle.engine.specs.declared.Progress.{Progress}
 use Rattle.plan.specs.Decode.{planFault}
-use Rattle.plan.specs.Fault.{decline}
 use Rattle.plan.specs.Format.{workerCount}
-use Rattle.plan.specs.declared.Decline.{Decline}
-use Rattle.plan.specs.declared.Fault.the-variants.{BadTurn}
 
 -- the state that a machine stands for
 abbrev pub viewOf : System → Machine → State
@@ -90,17 +86,19 @@ pub record Going (b cells : List ℕ) (g : Progress) : Type 0 where
 unfoldable pub Plays : List ℕ → List Turn → List ℕ → Progress → List ℕ → Progress → Type 0
 Plays b us cells g cells′ g′ = (m : Mem) (ts : List Turn) → At b m ts cells g → At b m (ts ++ us) cells′ g′
 
--- an accepted plan is loaded, and no turn is played yet
-pub record Begun (b cells : List ℕ) (g : Progress) : Type 0 where
-  pub sound : planFault b ≡ none
-  pub long : 24576 ≤ length cells
-  pub before : Mem
-  pub at : At b before [] cells g
+-- the report of a run that has come so far
+unfoldable pub reportM : System → Mem → Progress → Report
+reportM sys m g = record {
+  status = statusOf sys (view sys m (g .tally));
+  changes = g .changes;
+  sends = g .sends;
+  polls = g .polls;
+  empty = lowestEmpty sys (view sys m (g .tally));
+}
 
--- after rounds until the plan is closed
-unfoldable pub PlaysRounds : List ℕ → List ℕ → Progress → List ℕ → Progress → Type 0
-PlaysRounds b cells g cells′ g′ = (m : Mem) → At b m [] cells g → At b m (roundRunTurns (systemAt b)) cells′ g′
-
--- what the number of a turn says of a list of `count` turns: the one that is not allowed, or none where it is no turn
-unfoldable pub badTurn : ℕ → ℕ → Option Decline
-badTurn count k = cond (ltb k count) (some (decline BadTurn k)) none
+-- the end of a run that has played its turns: their report, their list cells, and cleared work cells
+pub record Finishes (b cells lists : List ℕ) (g : Progress) (cells′ lists′ : List ℕ) (r : Report) : Type 0 where
+  pub cleared : cells′ ≡ overwrite (replicate workNeed 0) cells
+  pub reported : (m : Mem) (ts : List Turn) → At b m ts cells g → r ≡ reportOf (systemAt b) ts
+  pub listed : (m : Mem) (ts : List Turn) → At b m ts cells g
+      → lists′ ≡ overwrite (listCells (systemAt b) (final (systemAt b) ts)) lists

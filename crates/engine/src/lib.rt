@@ -3,6 +3,7 @@ use disac4::Tally;
 
 pub mod clear;
 pub mod controller;
+pub mod finish;
 pub mod index;
 pub mod layout;
 pub mod lists;
@@ -11,6 +12,7 @@ pub mod messages;
 pub mod pairs;
 pub mod parts;
 pub mod play;
+pub mod report;
 pub mod rounds;
 pub mod run;
 pub mod treat;

@@ -104,7 +104,7 @@ pub fn size(b: &[u8], cells: &[u16], x: usize) -> usize
 }
 
 // The row of value w alone, or the empty row.
-fn part(held: bool, w: usize) -> usize
+pub fn part(held: bool, w: usize) -> usize
     requires { ⌜ w < 64 ⌝ }
     ensures { λ r. ⌜ r ≡ cond held (2 ^ w) 0 ⌝ }
 {

@@ -8,7 +8,8 @@ ghost use mathlib.Core.Path.{_≡_};
 ghost use Prim.Native.Nat.{_/_, _≤_};
 ghost use lib.ListN.{length};
 ghost use Rattle.disac4.specs.Turn.{turnFault, turnsOf};
-ghost use Rattle.engine.specs.Run.{Going, Plays, badTurn};
+ghost use Rattle.engine.specs.Play.{badTurn};
+ghost use Rattle.engine.specs.Run.{Going, Plays};
 ghost use Rattle.plan.specs.Format.{workerCount};
 
 // The number of the first turn that p workers do not allow; where all are allowed, how many there are.

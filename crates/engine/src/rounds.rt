@@ -9,7 +9,8 @@ ghost use lib.Dec.{eqb};
 ghost use Rattle.base.specs.Below.{gatherBelow, listBelow};
 ghost use Rattle.disac4.specs.Round.{others, workerRound, round};
 ghost use Rattle.disac4.specs.Turn.{turn};
-ghost use Rattle.engine.specs.Run.{Going, Plays, Begun, PlaysRounds};
+ghost use Rattle.engine.specs.Play.{Begun, PlaysRounds};
+ghost use Rattle.engine.specs.Run.{Going, Plays};
 ghost use Rattle.plan.specs.Format.{workerCount};
 
 // Worker k reads from actor j, unless that is itself.

@@ -1,12 +1,10 @@
 -- `engine::parts::owner` reads a variable's owner at the variable's place. Assumes nothing.
 use Prim.Native.Nat.{suc}
-use mathlib.Core.Path.{refl}
 use native.Mathlib.Omega.{arith}
 use denote.Ref.{now}
 use Rattle.engine.proofs.Labels.{owner-there}
-use Rattle.engine.proofs.Permitted.{Placed, variable-placed}
+use Rattle.engine.proofs.Permitted.{Placed, variable-placed, variable-fits}
 use Rattle.engine.proofs.Places.{few-sections}
-use Rattle.engine.proofs.Ranges.{may-get}
 use Rattle.engine.proofs.parts.owner.Statement.{statement}
 use Rattle.engine.proofs.parts.owner.Tie as tie
 
@@ -15,7 +13,8 @@ add-get c = omega (arith, few-sections (now (c .before .before .args .b)) (c .be
 
 get-requires : tie.Need-get-requires
 get-requires c κs =
-    may-get _ _ _ refl _ (omega (arith, few-sections (now (c .before .before .args .b)) (c .before .before .pre .0 .sound)))
+    let s = c .before .before in
+    variable-fits (now (s .args .b)) (now (s .args .cells)) (s .pre .0) (s .args .x) (s .pre .1)
 
 at : (c : tie.After-get)
     → Placed (now (c .before .before .before .args .b)) (c .get .result) (suc (c .before .before .before .args .x))

@@ -1,43 +1,61 @@
+-- `engine::run::advance` plays one turn more. Assumes nothing.
+use Prim.Native.Nat.{ℕ, _+_}
+use mathlib.Core.Path.{refl, ap}
+use native.Mathlib.Omega.{arith}
+use denote.Ref.{now}
+use Rattle.disac4.specs.Report.{isSend, isPoll}
+use Rattle.disac4.specs.Turn.{turn}
+use Rattle.engine.proofs.Advancing.{playable, counts-room, adds-one, part-of, advanced}
 use borrow.Author.Needs.{needs}
 use Rattle.engine.proofs.run.advance.Statement.{statement}
 use Rattle.engine.proofs.run.advance.Tie as tie
-use Rattle.engine.proofs.run.advance.Reads as reads
-use Rattle.engine.proofs.run.advance.Lts as lts
-use Rattle.engine.proofs.run.if_poll.Reads as if-poll-reads
-use Rattle.engine.proofs.run.if_send.Reads as if-send-reads
-use Rattle.engine.proofs.run.step.Reads as step-reads
 
--- src/run.rt:131:9
 step-requires : tie.Need-step-requires
-step-requires c κs = ?
+step-requires c κs =
+    let s = c .before .before .before .before in
+    (playable (now (s .args .b)) (now (s .args .cells)) (s .args .g) (s .pre .0), s .pre .1, s .pre .2)
 
--- src/run.rt:136:18
 add-t13 : tie.Need-add-t13
-add-t13 c = ?
+add-t13 c =
+    let s = c .before .before .before .before .before .before .before .before .before in
+    let h = c .before .before .before .before .step in
+    let room = counts-room (now (s .args .b)) (now (s .args .cells)) (s .args .g) (s .pre .0) in
+    let few = adds-one _ _ _ _ _ (h .ensures) in
+    omega (arith, room .0, few)
 
--- src/run.rt:137:26
 if-send-requires : tie.Need-if-send-requires
 if-send-requires c κs = search needs
 
--- src/run.rt:137:16
 add-t15 : tie.Need-add-t15
-add-t15 c = ?
+add-t15 c =
+    let s = c .before .before .before .before .before .before .before .before .before .before .before in
+    let h = c .before .before .before .before .before .before .step in
+    let room = counts-room (now (s .args .b)) (now (s .args .cells)) (s .args .g) (s .pre .0) in
+    let few = adds-one _ _ _ _ _ (h .ensures) in
+    omega (arith, room .1, few, part-of (isSend (turn (s .args .actor) (s .args .action))) (h .result .changed) (c .before .if-send .result) (c .before .if-send .ensures))
 
--- src/run.rt:138:26
 if-poll-requires : tie.Need-if-poll-requires
 if-poll-requires c κs = search needs
 
--- src/run.rt:138:16
 add-t17 : tie.Need-add-t17
-add-t17 c = ?
+add-t17 c =
+    let s = c .before .before .before .before .before .before .before .before .before .before .before .before .before in
+    let h = c .before .before .before .before .before .before .before .before .step in
+    let room = counts-room (now (s .args .b)) (now (s .args .cells)) (s .args .g) (s .pre .0) in
+    let few = adds-one _ _ _ _ _ (h .ensures) in
+    omega (arith, room .2, few, part-of (isPoll (turn (s .args .actor) (s .args .action))) (h .result .changed) (c .before .if-poll .result) (c .before .if-poll .ensures))
 
--- src/run.rt:119:1
 same-length : tie.Need-same-length
 same-length c = search needs
 
--- src/run.rt:119:1
 returns : tie.Need-returns
-returns c = ?
+returns c =
+    let s = c .before .before .before .before .before .before .before .before .before .before .before .before .before in
+    let a = s .args in
+    let h = c .before .before .before .before .before .before .before .before .step in
+    advanced (now (a .b)) (now (a .cells)) (h .last .1 .0) (a .g) _ (a .actor) (a .action) (h .result) (s .pre .0 .sound)
+    (h .ensures) refl refl (ap (λ (n : ℕ). a .g .sends + n) (c .before .before .before .if-send .ensures))
+    (ap (λ (n : ℕ). a .g .polls + n) (c .before .if-poll .ensures))
 
 pub advance-spec : {M : Type 1} → statement M
 advance-spec =

@@ -1,19 +1,16 @@
+-- `engine::run::if_poll` counts a poll. Assumes nothing.
+use borrow.Author.Tests.{eq-eqb, ne-eqb}
 use Rattle.engine.proofs.run.if_poll.Statement.{statement}
 use Rattle.engine.proofs.run.if_poll.Tie as tie
-use Rattle.engine.proofs.run.if_poll.Reads as reads
-use Rattle.engine.proofs.run.if_poll.Lts as lts
 
--- src/run.rt:113:9
 returns : tie.Need-returns
-returns c = ?
+returns c = simp (ne-eqb _ _ (c .if1 .taken))
 
--- src/run.rt:109:1
 returns-2 : tie.Need-returns-2
-returns-2 c = ?
+returns-2 c = simp (eq-eqb _ _ (c .before .if1 .left), eq-eqb _ _ (c .if2 .taken))
 
--- src/run.rt:109:1
 returns-3 : tie.Need-returns-3
-returns-3 c = ?
+returns-3 c = simp (eq-eqb _ _ (c .before .if1 .left), ne-eqb _ _ (c .if2 .left))
 
 pub if-poll-spec : {M : Type 1} → statement M
 if-poll-spec = tie.close (tie.spec returns returns-2 returns-3)

@@ -1,19 +1,16 @@
+-- `engine::run::if_send` counts a send. Assumes nothing.
+use borrow.Author.Tests.{eq-eqb, ne-eqb}
 use Rattle.engine.proofs.run.if_send.Statement.{statement}
 use Rattle.engine.proofs.run.if_send.Tie as tie
-use Rattle.engine.proofs.run.if_send.Reads as reads
-use Rattle.engine.proofs.run.if_send.Lts as lts
 
--- src/run.rt:103:9
 returns : tie.Need-returns
-returns c = ?
+returns c = simp (eq-eqb _ _ (c .if1 .taken))
 
--- src/run.rt:99:1
 returns-2 : tie.Need-returns-2
-returns-2 c = ?
+returns-2 c = simp (ne-eqb _ _ (c .before .if1 .left), eq-eqb _ _ (c .if2 .taken))
 
--- src/run.rt:99:1
 returns-3 : tie.Need-returns-3
-returns-3 c = ?
+returns-3 c = simp (ne-eqb _ _ (c .before .if1 .left), ne-eqb _ _ (c .if2 .left))
 
 pub if-send-spec : {M : Type 1} → statement M
 if-send-spec = tie.close (tie.spec returns returns-2 returns-3)

@@ -1,36 +1,39 @@
+-- `engine::run::start` loads the plan. Assumes nothing.
+use native.Mathlib.Omega.{arith}
+use denote.Ref.{now}
+use Rattle.engine.proofs.RunLaws.{start-ready, start-made}
 use borrow.Author.Needs.{needs}
 use Rattle.engine.proofs.run.start.Statement.{statement}
 use Rattle.engine.proofs.run.start.Tie as tie
-use Rattle.engine.proofs.run.start.Reads as reads
-use Rattle.engine.proofs.run.start.Lts as lts
-use Rattle.engine.proofs.clear.clear.Reads as clear-reads
-use Rattle.engine.proofs.index.index_plan.Reads as index-plan-reads
-use Rattle.engine.proofs.load.load_plan.Reads as load-plan-reads
-use Rattle.engine.proofs.run.fresh.Reads as fresh-reads
 
--- src/run.rt:46:5
 clear-requires : tie.Need-clear-requires
 clear-requires c κs = search needs
 
--- src/run.rt:47:5
 index-plan-requires : tie.Need-index-plan-requires
 index-plan-requires c κs = search needs
 
--- src/run.rt:48:5
 load-plan-requires : tie.Need-load-plan-requires
-load-plan-requires c κs = ?
+load-plan-requires c κs =
+    let a = c .before .before .before .before .before .before .before .before .before .before .before in
+    let cleared = c .before .before .before .before .before .before .before .clear in
+    let indexed = c .before .before .before .index-plan in
+    start-ready (now (a .args .b)) (now (a .args .cells)) (cleared .last .0) (indexed .last .1 .0) (a .pre .0)
+    (cleared .ensures) (indexed .ensures) (omega (arith, a .pre .1, cleared .kept .0, indexed .kept .1 .0))
 
--- src/run.rt:49:5
 fresh-requires : tie.Need-fresh-requires
 fresh-requires c κs = search needs
 
--- src/run.rt:42:1
 same-length : tie.Need-same-length
 same-length c = search needs
 
--- src/run.rt:42:1
 returns : tie.Need-returns
-returns c = ?
+returns c =
+    let a = c .before .before .before .before .before .before .before .before .before .before .before .before .before .before .before in
+    let cleared = c .before .before .before .before .before .before .before .before .before .before .before .clear in
+    let indexed = c .before .before .before .before .before .before .before .index-plan in
+    start-made (now (a .args .b)) (now (a .args .cells)) (cleared .last .0) (indexed .last .1 .0) (a .pre .0)
+    (cleared .ensures) (indexed .ensures) (c .before .before .before .load-plan .last .1 .0) (c .fresh .result)
+    (c .before .before .before .load-plan .ensures) (c .fresh .ensures)
 
 pub start-spec : {M : Type 1} → statement M
 start-spec =

@@ -1,59 +1,97 @@
+-- `engine::run::step` plays one allowed turn. Assumes nothing.
+use Prim.Native.Nat.{ℕ, _-_, _≤_}
+use mathlib.Core.Bool.{true}
+use mathlib.Core.Path.{_≡_, refl, sym, _∙_, subst}
+use native.Mathlib.Omega.{arith}
+use denote.Ref.{now}
+use Rattle.disac4.specs.Outcome.{systemAt}
+use Rattle.disac4.specs.Turn.{allowed, turn}
+use Rattle.engine.proofs.RunLaws.{hears-as, hears-idle, hears-acts, turn-closed, turn-polls, turn-hears, turn-works, may-work, may-hear, workers-are}
+use Rattle.engine.specs.Run.{turnOn}
+use Rattle.engine.specs.Step.{machine, withMem, workerM, hearM, pollM}
 use borrow.Author.Needs.{needs}
 use Rattle.engine.proofs.run.step.Statement.{statement}
 use Rattle.engine.proofs.run.step.Tie as tie
-use Rattle.engine.proofs.run.step.Reads as reads
-use Rattle.engine.proofs.run.step.Lts as lts
-use Rattle.engine.proofs.controller.hear.Reads as hear-reads
-use Rattle.engine.proofs.controller.poll.Reads as poll-reads
-use Rattle.engine.proofs.run.work.Reads as work-reads
 
--- src/run.rt:80:9
+few-at : (c : tie.Start) → c .args .p ≤ 8
+few-at c = omega (arith, c .pre .0 .workers, c .pre .1)
+
 returns : tie.Need-returns
-returns c = ?
+returns c =
+    let a = c .before .before .before .args in
+    hears-idle (turnOn (systemAt (now (a .b))) (a .actor) (a .action)) (now (a .cells)) (a .t) _
+    (turn-closed (systemAt (now (a .b))) (a .actor) (a .action) (machine (now (a .cells)) (a .t)) (c .if1 .taken))
+    refl refl
 
--- src/run.rt:87:13
 poll-requires : tie.Need-poll-requires
 poll-requires c κs = search needs
 
--- src/run.rt:87:13
 same-length : tie.Need-same-length
 same-length c = search needs
 
--- src/run.rt:87:13
 returns-2 : tie.Need-returns-2
-returns-2 c = ?
+returns-2 c =
+    let s = c .before .before .before .before .before .before .before .before .before in
+    let a = s .args in
+    let ok : allowed (systemAt (now (a .b)) .workers) (turn (a .actor) (a .action)) ≡ true =
+    subst (λ (n : ℕ). allowed n (turn (a .actor) (a .action)) ≡ true) (s .pre .1 ∙ sym (workers-are (now (a .b)))) (s .pre .2) in
+    hears-as pollM (turnOn (systemAt (now (a .b))) (a .actor) (a .action)) (now (a .cells)) (a .t) _ _
+    (turn-polls (systemAt (now (a .b))) (a .actor) (a .action) (machine (now (a .cells)) (a .t)) (c .before .before .before .before .before .before .if1 .left) ok
+    (c .before .before .before .before .before .if2 .taken) (c .before .before .before .before .if3 .taken))
+    (c .before .before .poll .ensures)
 
--- src/run.rt:89:46
 sub-hear : tie.Need-sub-hear
-sub-hear c = ?
+sub-hear c =
+    let s = c .before .before .before .before .before .before in
+    let a = s .args in
+    omega (arith, may-hear (a .p) (a .actor) (a .action) (few-at s) (s .pre .2) (c .before .before .if2 .taken) (c .before .if3 .left))
 
--- src/run.rt:89:9
 hear-requires : tie.Need-hear-requires
-hear-requires c κs = ?
+hear-requires c κs =
+    let s = c .before .before .before .before .before .before in
+    let a = s .args in
+    let h = may-hear (a .p) (a .actor) (a .action) (few-at s) (s .pre .2) (c .before .before .if2 .taken) (c .before .if3 .left) in
+    (s .pre .0 .ready .long, s .pre .0 .marks, omega (arith, few-at s), few-at s)
 
--- src/run.rt:89:9
 same-length-2 : tie.Need-same-length-2
 same-length-2 c = search needs
 
--- src/run.rt:89:9
 returns-3 : tie.Need-returns-3
-returns-3 c = ?
+returns-3 c =
+    let s = c .before .before .before .before .before .before .before .before .before in
+    let a = s .args in
+    let ok : allowed (systemAt (now (a .b)) .workers) (turn (a .actor) (a .action)) ≡ true =
+    subst (λ (n : ℕ). allowed n (turn (a .actor) (a .action)) ≡ true) (s .pre .1 ∙ sym (workers-are (now (a .b)))) (s .pre .2) in
+    hears-as (hearM (systemAt (now (a .b))) (a .action - 1)) (turnOn (systemAt (now (a .b))) (a .actor) (a .action)) (now (a .cells)) (a .t) _ _
+    (turn-hears (systemAt (now (a .b))) (a .actor) (a .action) (machine (now (a .cells)) (a .t)) (c .before .before .before .before .before .before .if1 .left) ok
+    (c .before .before .before .before .before .if2 .taken) (c .before .before .before .before .if3 .left))
+    (c .before .before .hear .ensures (systemAt (now (a .b))) (workers-are (now (a .b)) ∙ sym (s .pre .1)))
 
--- src/run.rt:91:37
 sub-work : tie.Need-sub-work
 sub-work c = search needs
 
--- src/run.rt:91:9
 work-requires : tie.Need-work-requires
-work-requires c κs = ?
+work-requires c κs =
+    let s = c .before .before .before .before .before in
+    let a = s .args in
+    let w = may-work (a .p) (a .actor) (a .action) (few-at s) (s .pre .2) (c .before .if2 .left) in
+    (s .pre .0, omega (arith, s .pre .1), w .1)
 
--- src/run.rt:75:1
 same-length-3 : tie.Need-same-length-3
 same-length-3 c = search needs
 
--- src/run.rt:75:1
 returns-4 : tie.Need-returns-4
-returns-4 c = ?
+returns-4 c =
+    let s = c .before .before .before .before .before .before .before .before in
+    let a = s .args in
+    let ok : allowed (systemAt (now (a .b)) .workers) (turn (a .actor) (a .action)) ≡ true =
+    subst (λ (n : ℕ). allowed n (turn (a .actor) (a .action)) ≡ true) (s .pre .1 ∙ sym (workers-are (now (a .b)))) (s .pre .2) in
+    hears-as (λ x. withMem (x .tally) (workerM (systemAt (now (a .b))) (a .actor - 1) (a .action) x))
+    (turnOn (systemAt (now (a .b))) (a .actor) (a .action)) (now (a .cells)) (a .t) _ _
+    (turn-works (systemAt (now (a .b))) (a .actor) (a .action) (machine (now (a .cells)) (a .t)) (c .before .before .before .before .before .if1 .left) ok
+    (c .before .before .before .before .if2 .left))
+    (hears-acts (workerM (systemAt (now (a .b))) (a .actor - 1) (a .action)) (now (a .cells)) (a .t) _ _
+    (c .before .before .work .ensures) refl)
 
 pub step-spec : {M : Type 1} → statement M
 step-spec =

@@ -1,81 +1,93 @@
+-- `engine::run::work` plays a worker's action. Assumes nothing.
+use denote.Ref.{now}
+use native.Mathlib.Omega.{arith}
+use Rattle.disac4.specs.Outcome.{systemAt}
+use Rattle.disac4.specs.System.{systemOf}
+use Rattle.engine.proofs.RunLaws.{acts-as, worker-treats, worker-sends, worker-answers, worker-polls, worker-lists}
+use Rattle.engine.specs.Memory.{memOf}
+use Rattle.engine.specs.Run.{workerOn}
+use Rattle.plan.specs.Decode.{planOf}
 use borrow.Author.Needs.{needs}
 use Rattle.engine.proofs.run.work.Statement.{statement}
 use Rattle.engine.proofs.run.work.Tie as tie
-use Rattle.engine.proofs.run.work.Reads as reads
-use Rattle.engine.proofs.run.work.Lts as lts
-use Rattle.engine.proofs.messages.answer.Reads as answer-reads
-use Rattle.engine.proofs.messages.read_list.Reads as read-list-reads
-use Rattle.engine.proofs.messages.read_poll.Reads as read-poll-reads
-use Rattle.engine.proofs.messages.send.Reads as send-reads
-use Rattle.engine.proofs.treat.treat.Reads as treat-reads
 
--- src/run.rt:58:9
 treat-requires : tie.Need-treat-requires
-treat-requires c κs = ?
+treat-requires c κs =
+    let s = c .before .before .before .before in
+    (s .pre .0 .ready, omega (arith, s .pre .0 .workers, s .pre .1), s .pre .0 .labels (s .args .i) (s .pre .1))
 
--- src/run.rt:58:9
 same-length : tie.Need-same-length
 same-length c = search needs
 
--- src/run.rt:58:9
 returns : tie.Need-returns
-returns c = ?
+unfolding systemAt
+returns c =
+    let a = c .before .before .before .before .before .before .before .args in
+    acts-as _ (workerOn (systemAt (now (a .b))) (a .t) (a .i) (a .d)) (now (a .cells)) _ _
+    (worker-treats (systemAt (now (a .b))) (a .t) (a .i) (a .d) (memOf (now (a .cells))) (c .before .before .before .before .if1 .taken))
+    (c .before .before .treat .ensures)
 
--- src/run.rt:61:9
 send-requires : tie.Need-send-requires
 send-requires c κs = search needs
 
--- src/run.rt:61:9
 same-length-2 : tie.Need-same-length-2
 same-length-2 c = search needs
 
--- src/run.rt:61:9
 returns-2 : tie.Need-returns-2
-returns-2 c = ?
+unfolding systemAt
+returns-2 c =
+    let a = c .before .before .before .before .before .before .before .before .args in
+    acts-as _ (workerOn (systemAt (now (a .b))) (a .t) (a .i) (a .d)) (now (a .cells)) _ _
+    (worker-sends (systemAt (now (a .b))) (a .t) (a .i) (a .d) (memOf (now (a .cells))) (c .before .before .before .before .before .if1 .left) (c .before .before .before .before .if2 .taken))
+    (c .before .before .send .ensures)
 
--- src/run.rt:64:9
 answer-requires : tie.Need-answer-requires
 answer-requires c κs = search needs
 
--- src/run.rt:64:9
 same-length-3 : tie.Need-same-length-3
 same-length-3 c = search needs
 
--- src/run.rt:64:9
 returns-3 : tie.Need-returns-3
-returns-3 c = ?
+unfolding systemAt
+returns-3 c =
+    let a = c .before .before .before .before .before .before .before .before .before .args in
+    acts-as _ (workerOn (systemAt (now (a .b))) (a .t) (a .i) (a .d)) (now (a .cells)) _ _
+    (worker-answers (systemAt (now (a .b))) (a .t) (a .i) (a .d) (memOf (now (a .cells))) (c .before .before .before .before .before .before .if1 .left) (c .before .before .before .before .before .if2 .left) (c .before .before .before .before .if3 .taken))
+    (c .before .before .answer .ensures)
 
--- src/run.rt:68:17
 cast-n : tie.Need-cast-n
 cast-n c = search needs
 
--- src/run.rt:69:9
 read-poll-requires : tie.Need-read-poll-requires
 read-poll-requires c κs = search needs
 
--- src/run.rt:69:9
 same-length-4 : tie.Need-same-length-4
 same-length-4 c = search needs
 
--- src/run.rt:69:9
 returns-4 : tie.Need-returns-4
-returns-4 c = ?
+unfolding systemAt
+returns-4 c =
+    let a = c .before .before .before .before .before .before .before .before .before .before .before .before .args in
+    acts-as _ (workerOn (systemAt (now (a .b))) (a .t) (a .i) (a .d)) (now (a .cells)) _ _
+    (worker-polls (systemAt (now (a .b))) (a .t) (a .i) (a .d) (memOf (now (a .cells))) (c .before .before .before .before .before .before .before .before .before .if1 .left) (c .before .before .before .before .before .before .before .before .if2 .left) (c .before .before .before .before .before .before .before .if3 .left) (c .before .before .before .before .before .before .if4 .taken))
+    (c .before .before .read-poll .ensures)
 
--- src/run.rt:71:32
 sub-read-list : tie.Need-sub-read-list
 sub-read-list c = search needs
 
--- src/run.rt:71:5
 read-list-requires : tie.Need-read-list-requires
 read-list-requires c κs = search needs
 
--- src/run.rt:53:1
 same-length-5 : tie.Need-same-length-5
 same-length-5 c = search needs
 
--- src/run.rt:53:1
 returns-5 : tie.Need-returns-5
-returns-5 c = ?
+unfolding systemAt
+returns-5 c =
+    let a = c .before .before .before .before .before .before .before .before .before .before .args in
+    acts-as _ (workerOn (systemAt (now (a .b))) (a .t) (a .i) (a .d)) (now (a .cells)) _ _
+    (worker-lists (systemAt (now (a .b))) (a .t) (a .i) (a .d) (memOf (now (a .cells))) (c .before .before .before .before .before .before .before .if1 .left) (c .before .before .before .before .before .before .if2 .left) (c .before .before .before .before .before .if3 .left) (c .before .before .before .before .if4 .left))
+    (c .before .before .read-list .ensures)
 
 pub work-spec : {M : Type 1} → statement M
 work-spec =

@@ -1,0 +1,89 @@
+-- A run that goes on can be played one turn further.
+use Prim.Native.Nat.{ℕ, _+_, _/_, _%_, _^_, _<_, _≤_}
+use mathlib.Core.Bool.{Bool, true, false, cond, _&&_}
+use mathlib.Core.List.{List, [], _∷_, _++_}
+use mathlib.Core.Option.{Option, none, some, Option·getD}
+use mathlib.Core.Path.{_≡_, refl, sym, _∙_, ap, subst}
+use native.Mathlib.Nat.{pow-le-pow-right}
+use native.Mathlib.Omega.{arith}
+use lib.ListN.{length}
+use Rattle.base.proofs.Sums.{one-le}
+use Rattle.base.specs.Below.{one}
+use Rattle.disac4.specs.Outcome.{systemAt}
+use Rattle.disac4.specs.Report.{isSend, isPoll}
+use Rattle.disac4.specs.System.{System, systemOf}
+use Rattle.disac4.specs.Turn.{Turn, turn, isSome}
+use Rattle.disac4.specs.declared.Tally.{Tally}
+use Rattle.engine.proofs.RunLaws.{workers-are, one-and}
+use Rattle.engine.proofs.Start.{fits-regions}
+use Rattle.engine.proofs.Underway.{under-inv, under-ready, under-small, at-next}
+use Rattle.engine.specs.Allowed.{Listed}
+use Rattle.engine.specs.Inv.{Inv, Code}
+use Rattle.engine.specs.Layout.{WORKERS, WORK, HEAD, TAIL}
+use Rattle.engine.specs.Memory.{memOf}
+use Rattle.engine.specs.Run.{turnOn, At, Going, Plays, Playable}
+use Rattle.engine.specs.Step.{Machine, machine, Hears, stepM, afterM}
+use Rattle.engine.specs.declared.Heard.{Heard}
+use Rattle.engine.specs.declared.Progress.{Progress}
+use Rattle.plan.proofs.Parts.{variables-read}
+use Rattle.plan.specs.Decode.{planFault, planOf}
+use Rattle.plan.specs.Format.{workerCount, variableCount}
+use Rattle.plan.specs.Network.{networkOf}
+use Rattle.plan.specs.WellFormed.{sizeOf}
+
+module _ (b cells : List ℕ) (g : Progress) (go : Going b cells g) where
+  inv : Inv (systemAt b) (machine cells (g .tally))
+  inv = under-inv b (go .sound) (go .before) (go .turns) cells g (go .at)
+
+  few : workerCount b ≤ 8
+  few = omega (arith, fits-regions b (go .sound) .sound .few, workers-are b)
+
+  -- the number stands for a label of the plan
+  code-listed : (c : ℕ) → Code (systemAt b) c → Listed b (c / 16) (c % 16)
+  unfolding systemAt systemOf networkOf sizeOf
+  code-listed c k = record { variable = omega (arith, k .variable, variables-read b); value = k .value }
+
+  pub playable : Playable b cells (g .tally)
+  playable = record {
+    ready = under-ready b (go .sound) (go .before) (go .turns) cells g (go .at) (go .long);
+    marks = omega (arith, inv .marks, pow-le-pow-right {n = 2} (omega arith) (fits-regions b (go .sound) .sound .few));
+    workers = few;
+    labels = λ i h l. code-listed _ (inv .rows i (omega (arith, workers-are b)) .work-codes (memOf cells WORKERS i HEAD) l);
+  }
+
+  -- the counts have room for one turn more
+  pub counts-room : (g .changes < 65536) × (g .sends < 65536) × (g .polls < 65536)
+  counts-room = under-small b (go .sound) (go .before) (go .turns) cells g (go .at)
+
+-- what a turn adds to a count is at most 1
+pub adds-one : (f : Machine → Option Machine) (cells : List ℕ) (t : Tally) (cells′ : List ℕ) (h : Heard)
+    → Hears f cells t cells′ h → h .changed ≤ 1
+adds-one f cells t cells′ h r = omega (arith, r .count, one-le (isSome (f (machine cells t))))
+
+pub part-of : (c : Bool) (n r : ℕ) → r ≡ cond c n 0 → r ≤ n
+part-of true n r e = omega arith
+part-of false n r e = omega arith
+
+-- one turn more, from what the code of a turn ensures
+pub advanced : (b cells cells′ : List ℕ) (g r : Progress) (actor action : ℕ) (h : Heard) → planFault b ≡ none
+    → Hears (turnOn (systemAt b) actor action) cells (g .tally) cells′ h → r .tally ≡ h .tally
+    → r .changes ≡ g .changes + h .changed
+    → r .sends ≡ g .sends + cond (isSend (turn actor action)) (h .changed) 0
+    → r .polls ≡ g .polls + cond (isPoll (turn actor action)) (h .changed) 0
+    → Plays b (turn actor action ∷ []) cells g cells′ r
+unfolding Plays afterM
+advanced b cells cells′ g r actor action h sound heard tally changes sends polls m ts at =
+    at-next b sound m ts cells g at t cells′ r
+    (λ i. record { mem = heard .mem i; tally = (tally ∙ heard .tally) i })
+    (changes ∙ ap (λ (n : ℕ). g .changes + n) (heard .count))
+    (sends ∙ ap (λ (n : ℕ). g .sends + n) (kind isSend))
+    (polls ∙ ap (λ (n : ℕ). g .polls + n) (kind isPoll))
+  where
+    t : Turn
+    t = turn actor action
+
+    kind : (test : Turn → Bool)
+        → cond (test t) (h .changed) 0 ≡ one (isSome (stepM (systemAt b) (machine cells (g .tally)) t) && test t)
+    kind test =
+        ap (λ (n : ℕ). cond (test t) n 0) (heard .count)
+        ∙ sym (one-and (isSome (stepM (systemAt b) (machine cells (g .tally)) t)) (test t))

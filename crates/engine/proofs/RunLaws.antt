@@ -1,0 +1,191 @@
+-- From what the actions' code ensures to what the code of a turn ensures.
+use Prim.Native.Nat.{ℕ, _+_, _-_, _<_, _≤_}
+use mathlib.Core.Bool.{Bool, true, false, cond, _&&_, _||_, not}
+use mathlib.Core.List.{List, [], _∷_}
+use mathlib.Core.Option.{Option, none, some, Option·getD}
+use mathlib.Core.Path.{_≡_, refl, sym, _∙_, ap, ap₂, subst}
+use native.Mathlib.Omega.{arith}
+use mathlib.Core.Logic.{⊎-elim}
+use borrow.Author.Tests.{leb-true, eqb-true, eq-eqb, ne-eqb}
+use lib.Dec.{leb, eqb}
+use lib.ListN.{length, replicate}
+use Rattle.base.proofs.Bools.{and-left, and-right, or-cases, or-false, not-of-true}
+use Rattle.base.proofs.Choice.{cond-true, cond-false, between-low, between-high}
+use Rattle.base.specs.Below.{one}
+use Rattle.base.specs.Choice.{between}
+use Rattle.disac4.specs.Outcome.{overwrite, workNeed, systemAt}
+use Rattle.disac4.specs.System.{System, systemOf}
+use Rattle.disac4.specs.Turn.{Turn, turn, isSome, allowed, treatNumber, sendNumber, answerNumber, pollNumber}
+use Rattle.disac4.specs.declared.Tally.{Tally}
+use Rattle.engine.proofs.Behind.{cleared-memory}
+use Rattle.engine.proofs.Chains.{indexed}
+use Rattle.engine.specs.Index.{Ready, Indexed, indexM}
+use Rattle.engine.specs.Layout.{HEADS}
+use Rattle.engine.specs.Load.{clearedM, loadM}
+use Rattle.engine.specs.Memory.{Mem, memOf, left, changed, Acts}
+use Rattle.engine.specs.Messages.{sendM, answerM, readPollM, readListM}
+use Rattle.engine.specs.Run.{freshTally, startM, workerOn, turnOn}
+use Rattle.engine.specs.Step.{Machine, machine, Hears, withMem, readM, workerM, hearM, pollM, stepM}
+use Rattle.engine.specs.Treat.{treatM}
+use Rattle.engine.specs.declared.Heard.{Heard}
+use Rattle.plan.specs.Decode.{planFault, planOf}
+use Rattle.plan.specs.Format.{workerCount}
+
+-- ---- the start
+
+module _ (b c₀ c₁ c₂ : List ℕ) (sound : planFault b ≡ none) (cleared : c₁ ≡ overwrite (replicate workNeed 0) c₀)
+    (made : memOf c₂ ≡ indexM b (memOf c₁)) where
+  ground : memOf c₂ ≡ indexM b (clearedM (memOf c₀))
+  ground = made ∙ ap (indexM b) (ap memOf cleared ∙ cleared-memory c₀)
+
+  -- cleared and indexed cells are ready to load the plan
+  pub start-ready : 24576 ≤ length c₂ → Ready b c₂
+  unfolding clearedM
+  start-ready long = record {
+    sound = sound;
+    index = subst (Indexed b) (sym ground) (indexed b sound (clearedM (memOf c₀)) (λ x y. refl));
+    long = long;
+  }
+
+  -- and loaded, they are where a run starts
+  pub start-made : (c₃ : List ℕ) (t : Tally) → memOf c₃ ≡ loadM (systemOf (planOf b)) (memOf c₂) → t ≡ freshTally
+      → machine c₃ t ≡ startM b (memOf c₀)
+  unfolding startM systemAt
+  start-made c₃ t e f = λ i. record { mem = (e ∙ ap (loadM (systemOf (planOf b))) ground) i; tally = f i }
+
+-- ---- a worker's action, by its number
+
+-- what code does by one definition it does by another that gives the same
+pub acts-as : (f g : Mem → Option Mem) (before after : List ℕ) (r : ℕ) → g (memOf before) ≡ f (memOf before)
+    → Acts f before after r → Acts g before after r
+acts-as f g before after r e a = record {
+  mem = a .mem ∙ ap (left (memOf before)) (sym e);
+  count = a .count ∙ ap changed (sym e);
+}
+
+module _ (sys : System) (t : Tally) (i d : ℕ) (m : Mem) where
+  pub worker-treats : d ≡ 9 → workerOn sys t i d m ≡ treatM sys i m
+  unfolding workerM
+  worker-treats e = cond-true _ _ (eq-eqb d 9 e)
+
+  pub worker-sends : (d ≡ 9 → ⊥) → d ≡ 10 → workerOn sys t i d m ≡ sendM i m
+  unfolding workerM
+  worker-sends n e = cond-false _ _ (ne-eqb d 9 n) ∙ cond-true _ _ (eq-eqb d 10 e)
+
+  pub worker-answers : (d ≡ 9 → ⊥) → (d ≡ 10 → ⊥) → d ≡ 11 → workerOn sys t i d m ≡ answerM i m
+  unfolding workerM
+  worker-answers n o e = cond-false _ _ (ne-eqb d 9 n) ∙ (cond-false _ _ (ne-eqb d 10 o) ∙ cond-true _ _ (eq-eqb d 11 e))
+
+  worker-reads : (d ≡ 9 → ⊥) → (d ≡ 10 → ⊥) → (d ≡ 11 → ⊥)
+      → workerOn sys t i d m ≡ readM d i (record { mem = m; tally = t })
+  unfolding workerM
+  worker-reads n o p =
+      cond-false _ _ (ne-eqb d 9 n) ∙ (cond-false _ _ (ne-eqb d 10 o) ∙ cond-false _ _ (ne-eqb d 11 p))
+
+  pub worker-polls : (d ≡ 9 → ⊥) → (d ≡ 10 → ⊥) → (d ≡ 11 → ⊥) → d ≡ 0
+      → workerOn sys t i d m ≡ readPollM i (t .timestamp .0) m
+  unfolding readM
+  worker-polls n o p e = worker-reads n o p ∙ cond-true _ _ (eq-eqb d 0 e)
+
+  pub worker-lists : (d ≡ 9 → ⊥) → (d ≡ 10 → ⊥) → (d ≡ 11 → ⊥) → (d ≡ 0 → ⊥) → workerOn sys t i d m ≡ readListM (d - 1) i m
+  unfolding readM
+  worker-lists n o p e = worker-reads n o p ∙ cond-false _ _ (ne-eqb d 0 e)
+
+-- ---- a turn, by its actor and action
+
+pub hears-as : (f g : Machine → Option Machine) (before : List ℕ) (t : Tally) (after : List ℕ) (r : Heard)
+    → g (machine before t) ≡ f (machine before t) → Hears f before t after r → Hears g before t after r
+hears-as f g before t after r e a = record {
+  mem = a .mem ∙ ap (λ (o : Option Machine). Option·getD o (machine before t) .mem) (sym e);
+  tally = a .tally ∙ ap (λ (o : Option Machine). Option·getD o (machine before t) .tally) (sym e);
+  count = a .count ∙ ap changed (sym e);
+}
+
+-- an idle turn leaves everything as it was
+pub hears-idle : (g : Machine → Option Machine) (cells : List ℕ) (t : Tally) (r : Heard) → g (machine cells t) ≡ none
+    → r .tally ≡ t → r .changed ≡ 0 → Hears g cells t cells r
+hears-idle g cells t r e p q = record {
+  mem = ap (λ (o : Option Machine). Option·getD o (machine cells t) .mem) (sym e);
+  tally = p ∙ ap (λ (o : Option Machine). Option·getD o (machine cells t) .tally) (sym e);
+  count = q ∙ ap changed (sym e);
+}
+
+-- a worker's action with the tally beside it
+pub hears-acts : (f : Machine → Option Mem) (before : List ℕ) (t : Tally) (after : List ℕ) (r : Heard)
+    → Acts (λ m. f (record { mem = m; tally = t })) before after (r .changed) → r .tally ≡ t
+    → Hears (λ s. withMem (s .tally) (f s)) before t after r
+hears-acts f before t after r a p = record {
+  mem = a .mem ∙ same-mem (f (machine before t));
+  tally = p ∙ same-tally (f (machine before t));
+  count = a .count ∙ same-count (f (machine before t));
+}
+  where
+    same-mem : (o : Option Mem) → left (memOf before) o ≡ Option·getD (withMem t o) (machine before t) .mem
+    same-mem none = refl
+    same-mem (some n) = refl
+
+    same-tally : (o : Option Mem) → t ≡ Option·getD (withMem t o) (machine before t) .tally
+    same-tally none = refl
+    same-tally (some n) = refl
+
+    same-count : (o : Option Mem) → changed o ≡ changed (withMem t o)
+    same-count none = refl
+    same-count (some n) = refl
+
+module _ (sys : System) (actor action : ℕ) (s : Machine) where
+  pub turn-closed : s .tally .closed ≡ true → turnOn sys actor action s ≡ none
+  unfolding stepM
+  turn-closed e = rw e
+
+  module _ (running : s .tally .closed ≡ false) (ok : allowed (sys .workers) (turn actor action) ≡ true) where
+    acts : turnOn sys actor action s
+        ≡ cond (eqb actor 0) (cond (eqb action pollNumber) (pollM s) (hearM sys (action - 1) s))
+        (withMem (s .tally) (workerM sys (actor - 1) action s))
+    unfolding stepM
+    acts = cond-false none _ (or-false running (not-of-true ok))
+
+    pub turn-polls : actor ≡ 0 → action ≡ 12 → turnOn sys actor action s ≡ pollM s
+    turn-polls e f = acts ∙ (cond-true _ _ (eq-eqb actor 0 e) ∙ cond-true _ _ (eq-eqb action 12 f))
+
+    pub turn-hears : actor ≡ 0 → (action ≡ 12 → ⊥) → turnOn sys actor action s ≡ hearM sys (action - 1) s
+    turn-hears e f = acts ∙ (cond-true _ _ (eq-eqb actor 0 e) ∙ cond-false _ _ (ne-eqb action 12 f))
+
+    pub turn-works : (actor ≡ 0 → ⊥) → turnOn sys actor action s ≡ withMem (s .tally) (workerM sys (actor - 1) action s)
+    turn-works e = acts ∙ cond-false _ _ (ne-eqb actor 0 e)
+
+-- ---- counting a turn
+
+-- a changing turn of a kind counts as the turn does, if it is of that kind
+pub one-and : (a c : Bool) → one (a && c) ≡ cond c (one a) 0
+one-and true true = refl
+one-and true false = refl
+one-and false true = refl
+one-and false false = refl
+
+-- ---- what an allowed turn's numbers are
+
+module _ (p actor action : ℕ) (few : p ≤ 8) (ok : allowed p (turn actor action) ≡ true) where
+  -- a worker's turn
+  pub may-work : (actor ≡ 0 → ⊥) → (actor - 1 < p) × (action < 12)
+  unfolding allowed
+  may-work n =
+      let r : (leb actor p && ((leb action p && not (eqb action actor)) || between 9 11 action)) ≡ true =
+      sym (cond-false _ _ (ne-eqb actor 0 n)) ∙ ok in (
+        omega (arith, leb-true actor p (and-left (leb actor p) _ r)),
+        ⊎-elim (λ x. omega (arith, leb-true action p (and-left (leb action p) (not (eqb action actor)) x)))
+            (λ x. omega (arith, between-high 9 11 action x))
+            (or-cases (leb action p && not (eqb action actor)) (between 9 11 action) (and-right (leb actor p) _ r)),
+      )
+
+  -- the controller's read
+  pub may-hear : actor ≡ 0 → (action ≡ 12 → ⊥) → (0 < action) × (action ≤ p)
+  unfolding allowed
+  may-hear e n =
+      let r : (between 1 p action || eqb action 12) ≡ true = sym (cond-true _ _ (eq-eqb actor 0 e)) ∙ ok in
+      ⊎-elim (λ x. (between-low 1 p action x, between-high 1 p action x)) (λ x. absurd (n (eqb-true action 12 x)))
+      (or-cases (between 1 p action) (eqb action 12) r)
+
+-- the system of a plan has as many workers as its head says
+pub workers-are : (b : List ℕ) → systemAt b .workers ≡ workerCount b
+unfolding systemAt systemOf planOf
+workers-are b = refl
