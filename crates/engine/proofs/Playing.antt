@@ -6,15 +6,10 @@ use native.Mathlib.Numerals.{add-one}
 use native.Mathlib.Omega.{arith}
 use lib.ListN.{length}
 use Rattle.base.specs.Below.{gatherBelow}
-use Rattle.disac4.specs.Outcome.{systemAt}
-use Rattle.disac4.specs.System.{systemOf}
 use Rattle.disac4.specs.Turn.{Turn}
-use Rattle.engine.proofs.Start.{fits-regions}
 use Rattle.engine.proofs.Underway.{plays-none, plays-then, still-going}
 use Rattle.engine.specs.Run.{Going, Plays}
 use Rattle.engine.specs.declared.Progress.{Progress}
-use Rattle.plan.specs.Decode.{planOf}
-use Rattle.plan.specs.Format.{workerCount}
 
 -- a run goes on after turns that keep the number of cells
 pub goes-after : (b : List ℕ) (us : List Turn) (cells cells′ : List ℕ) (g g′ : Progress) → Going b cells g
@@ -55,8 +50,3 @@ pub map-gather : {A B : Type 0} (h : A → B) (n : ℕ) (f : ℕ → List A)
 map-gather h zero f = refl
 map-gather h (suc n) f =
     ap (λ l. l ++ map h (f n)) (map-gather h n f) ∙ sym (map-append h (gatherBelow n f) (f n))
-
--- a plan under way has few workers
-pub few-workers : (b cells : List ℕ) (g : Progress) → Going b cells g → workerCount b ≤ 8
-unfolding systemAt systemOf planOf
-few-workers b cells g go = fits-regions b (go .sound) .sound .few

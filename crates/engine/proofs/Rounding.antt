@@ -13,19 +13,18 @@ use Rattle.disac4.specs.Outcome.{systemAt}
 use Rattle.disac4.specs.Report.{final}
 use Rattle.disac4.specs.Round.{round, roundRunTurns}
 use Rattle.disac4.specs.State.{State}
-use Rattle.disac4.specs.System.{System, systemOf}
+use Rattle.disac4.specs.System.{System}
 use Rattle.disac4.specs.Turn.{Turn, play}
 use Rattle.engine.proofs.Playing.{goes-after}
 use Rattle.engine.proofs.RoundsLeft.{left, roundOn, left-loaded, left-closed, left-lowers, left-open}
+use Rattle.engine.proofs.RunLaws.{workers-are}
 use Rattle.engine.proofs.Start.{fits-regions}
 use Rattle.engine.proofs.Underway.{under-view, plays-none, plays-then}
-use Rattle.engine.specs.Memory.{Mem}
 use Rattle.engine.specs.Play.{Begun, PlaysRounds}
 use Rattle.engine.specs.Run.{viewOf, At, Going, Plays}
 use Rattle.engine.specs.Step.{machine}
 use Rattle.engine.specs.View.{view}
 use Rattle.engine.specs.declared.Progress.{Progress}
-use Rattle.plan.specs.Decode.{planOf}
 use Rattle.plan.specs.Format.{workerCount}
 
 -- the state that the cells and the tally stand for
@@ -95,8 +94,7 @@ module _ (b cells₀ : List ℕ) (g₀ : Progress) (start : Begun b cells₀ g�
         (q : Plays b (round p) cells g cells′ g′) where
       -- the round of the system
       whole-round : Plays b (round (sys .workers)) cells g cells′ g′
-      unfolding systemAt systemOf planOf
-      whole-round = subst (λ (n : ℕ). Plays b (round n) cells g cells′ g′) e q
+      whole-round = subst (λ (n : ℕ). Plays b (round n) cells g cells′ g′) (e ∙ sym (workers-are b)) q
 
       is-open : stateAt b cells g .controller .closed ≡ false
       unfolding view

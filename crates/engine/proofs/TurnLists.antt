@@ -3,7 +3,7 @@ use Prim.Native.Nat.{ℕ, _+_, _*_, _/_, _<_}
 use mathlib.Core.Bool.{Bool, true, false, cond}
 use mathlib.Core.List.{List}
 use mathlib.Core.Option.{Option, none, some}
-use mathlib.Core.Path.{_≡_, refl, sym, _∙_, ap, ap₂}
+use mathlib.Core.Path.{_≡_, refl, sym, _∙_, ap₂}
 use borrow.Author.Tests.{lt-ltb, le-ltb}
 use native.Mathlib.Omega.{arith}
 use lib.ListN.{length}
@@ -11,7 +11,7 @@ use Rattle.base.proofs.Below.{first-at, first-more, none-first}
 use Rattle.base.proofs.Choice.{none≢some, cond-true, cond-false}
 use Rattle.base.specs.Below.{firstBelow}
 use Rattle.base.specs.Bytes.{byteAt}
-use Rattle.disac4.specs.Turn.{Turn, turn, allowed, turnAt, turnFault}
+use Rattle.disac4.specs.Turn.{turn, allowed, turnAt, turnFault}
 use Rattle.engine.specs.Play.{badTurn}
 use Rattle.plan.specs.Fault.{decline}
 use Rattle.plan.specs.declared.Decline.{Decline}

@@ -34,17 +34,17 @@ pub fn play_turns(b: &[u8], list: &[u8], cells: &mut [u16], g: Progress, p: usiz
 {
     let count = list.len() / 2;
     let mut at = g;
-    let mut k = 0;
-    while k < count {
+    let mut i = 0;
+    while i < count {
         at = run::advance(
             b,
             cells,
             at,
             p,
-            byte_at(list, 2 * k),
-            byte_at(list, 2 * k + 1),
+            byte_at(list, 2 * i),
+            byte_at(list, 2 * i + 1),
         );
-        k += 1;
+        i += 1;
     }
     at
 }

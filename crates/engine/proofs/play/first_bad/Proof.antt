@@ -8,7 +8,7 @@ use native.Mathlib.Omega.{arith}
 use denote.Ref.{now}
 use lib.ListN.{length}
 use Rattle.base.specs.Below.{firstBelow}
-use Rattle.disac4.specs.Turn.{Turn, allowed, turnAt}
+use Rattle.disac4.specs.Turn.{allowed, turnAt}
 use Rattle.engine.proofs.TurnLists.{faultOf, turn-read, next-allowed, first-fault, no-fault}
 use Rattle.engine.proofs.play.first_bad.Statement.{statement}
 use Rattle.engine.proofs.play.first_bad.Tie as tie
@@ -20,12 +20,16 @@ abbrev μ-loop : tie.MeasureT-loop
 μ-loop list p count k₀ k = count - k
 
 -- what `allowed` says is said of the turn at k
-judged : (a : tie.After-allowed Inv-loop μ-loop) → a .allowed .result ≡ allowed (a .before .before .before .before .before .before .args .p) (turnAt (now (a .before .before .before .before .before .before .args .list)) (a .before .before .before .before .loop .k))
+judged : (a : tie.After-allowed Inv-loop μ-loop)
+    → a .allowed .result
+    ≡ allowed (a .before .before .before .before .before .before .args .p)
+    (turnAt (now (a .before .before .before .before .before .before .args .list)) (a .before .before .before .before .loop .k))
 judged a =
     let l = a .before .before .before .before in
     let s = l .before .before in
     a .allowed .ensures
-    ∙ ap (allowed (s .args .p)) (turn-read (now (s .args .list)) (l .loop .k) _ _ (a .before .before .byte-at .ensures .0) (a .before .byte-at2 .ensures .0))
+    ∙ ap (allowed (s .args .p))
+    (turn-read (now (s .args .list)) (l .loop .k) _ _ (a .before .before .byte-at .ensures .0) (a .before .byte-at2 .ensures .0))
 
 loop-holds : tie.Need-loop-holds Inv-loop μ-loop
 loop-holds c = (omega arith, refl)

@@ -5,17 +5,17 @@ use mathlib.Core.List.{[], _∷_}
 use mathlib.Core.Path.{_∙_, ap}
 use native.Mathlib.Omega.{arith}
 use denote.Ref.{now}
-use Rattle.disac4.specs.Turn.{Turn, turn, allowed, turnAt, turnsOf}
+use Rattle.disac4.specs.Turn.{allowed, turnAt, turnsOf}
 use Rattle.engine.proofs.Playing.{Playing, none-played, goes-on, one-more, all-played}
 use Rattle.engine.proofs.TurnLists.{turn-read, is-allowed}
 use Rattle.engine.proofs.play.play_turns.Statement.{statement}
 use Rattle.engine.proofs.play.play_turns.Tie as tie
 
 abbrev Inv-loop : tie.InvT-loop
-Inv-loop b list cells₀ p count at₀ k₀ cells at k = Playing b count (λ i. turnAt list i ∷ []) cells₀ at₀ k cells at
+Inv-loop b list cells₀ p count at₀ i₀ cells at i = Playing b count (λ k. turnAt list k ∷ []) cells₀ at₀ i cells at
 
 abbrev μ-loop : tie.MeasureT-loop
-μ-loop b list cells₀ p count at₀ k₀ cells at k = count - k
+μ-loop b list cells₀ p count at₀ i₀ cells at i = count - i
 
 loop-holds : tie.Need-loop-holds Inv-loop μ-loop
 loop-holds c = none-played _ _ _ _ _
@@ -42,12 +42,12 @@ advance-requires c κs =
     let list = now (s .args .list) in (
       goes-on (l .loop .inv) (s .pre .0),
       s .pre .1,
-      ap (allowed (s .args .p)) (turn-read list (l .loop .k) _ _ (c .before .byte-at .ensures .0) (c .byte-at2 .ensures .0))
-          ∙ is-allowed (s .args .p) list (s .pre .2) (l .loop .k) (c .before .before .before .loop-test .taken),
+      ap (allowed (s .args .p)) (turn-read list (l .loop .i) _ _ (c .before .byte-at .ensures .0) (c .byte-at2 .ensures .0))
+          ∙ is-allowed (s .args .p) list (s .pre .2) (l .loop .i) (c .before .before .before .loop-test .taken),
     )
 
-add-k : tie.Need-add-k Inv-loop μ-loop
-add-k c = omega arith
+add-i : tie.Need-add-i Inv-loop μ-loop
+add-i c = omega arith
 
 loop-less : tie.Need-loop-less Inv-loop μ-loop
 loop-less c = omega arith
@@ -60,7 +60,7 @@ loop-again c =
     let list = now (l .before .before .before .before .args .list) in
     one-more (l .loop .inv) (v .advance .last .1 .0) (v .advance .result) (w .before .before .before .loop-test .taken)
     (v .advance .kept .1 .0)
-    (rw (turn-read list (l .loop .k) _ _ (w .before .byte-at .ensures .0) (w .byte-at2 .ensures .0)) at (v .advance .ensures))
+    (rw (turn-read list (l .loop .i) _ _ (w .before .byte-at .ensures .0) (w .byte-at2 .ensures .0)) at (v .advance .ensures))
 
 same-length : tie.Need-same-length Inv-loop μ-loop
 same-length c = c .before .loop .inv .same
@@ -82,7 +82,7 @@ play-turns-spec =
     add-byte-at
     byte-at-requires-2
     advance-requires
-    add-k
+    add-i
     loop-less
     loop-again
     same-length

@@ -1,7 +1,6 @@
 -- `engine::rounds::play_rounds` plays rounds until the plan is closed. The loop's invariant: what is played and what is left are
 -- the whole run. The measure is the potential, which every round lowers. Assumes nothing.
 use borrow.Author.Tests.{not-true, not-false}
-use denote.Ref.{now}
 use Rattle.disac4.proofs.Potential.{potential}
 use Rattle.disac4.specs.Outcome.{systemAt}
 use Rattle.engine.proofs.Rounding.{Rounding, stateAt, no-round, rounding-goes, rounds-done, round-falls, round-more}

@@ -1,8 +1,6 @@
 -- `engine::rounds::read_other` reads from an actor that is not the worker itself. Assumes nothing.
 use borrow.Author.Needs.{needs}
 use borrow.Author.Tests.{eq-eqb, ne-eqb}
-use mathlib.Core.Path.{_≡_}
-use native.Mathlib.Omega.{arith}
 use denote.Ref.{now}
 use Rattle.disac4.proofs.Rounds.{may-read}
 use Rattle.engine.proofs.Underway.{plays-none}

@@ -4,11 +4,11 @@ use Prim.Native.Nat.{suc, _-_}
 use mathlib.Core.Bool.{cond}
 use mathlib.Core.List.{[], _∷_, map}
 use native.Mathlib.Omega.{arith}
-use denote.Ref.{now}
 use lib.Dec.{eqb}
 use Rattle.disac4.specs.Round.{others}
 use Rattle.disac4.specs.Turn.{turn}
-use Rattle.engine.proofs.Playing.{Playing, none-played, goes-on, one-more, all-played, map-gather, few-workers}
+use Rattle.engine.proofs.Advancing.{playable}
+use Rattle.engine.proofs.Playing.{Playing, none-played, goes-on, one-more, all-played, map-gather}
 use Rattle.engine.proofs.rounds.reads.Statement.{statement}
 use Rattle.engine.proofs.rounds.reads.Tie as tie
 
@@ -30,7 +30,7 @@ read-other-requires c κs =
 add-j : tie.Need-add-j Inv-loop μ-loop
 add-j c =
     let s = c .before .before .before .before .before .before .before .before in
-    omega (arith, s .pre .1, few-workers _ _ _ (s .pre .0))
+    omega (arith, s .pre .1, playable _ _ _ (s .pre .0) .workers)
 
 loop-less : tie.Need-loop-less Inv-loop μ-loop
 loop-less c = omega arith

@@ -28,13 +28,13 @@ advance-requires : tie.Need-advance-requires
 advance-requires c κs =
     let r = c .before .before .before in
     let s = r .before .before .before .before in
-    (has-read r, s .pre .1, may-work (s .args .p) (s .args .k) 9 (s .pre .2) (s .pre .3) refl)
+    (has-read r, s .pre .1, may-work (s .args .p) (s .args .k) _ (s .pre .2) (s .pre .3) refl)
 
 advance-requires-2 : tie.Need-advance-requires-2
 advance-requires-2 c κs =
     let t = c .before .before .before in
     let s = t .before .before .before .before .before .before .before .before in
-    (has-treated t, s .pre .1, may-work (s .args .p) (s .args .k) 10 (s .pre .2) (s .pre .3) refl)
+    (has-treated t, s .pre .1, may-work (s .args .p) (s .args .k) _ (s .pre .2) (s .pre .3) refl)
 
 advance-requires-3 : tie.Need-advance-requires-3
 advance-requires-3 c κs =
@@ -43,7 +43,7 @@ advance-requires-3 c κs =
     let s = t .before .before .before .before .before .before .before .before in (
       goes-after _ _ _ _ _ _ (has-treated t) (d .advance2 .kept .1 .0) (d .advance2 .ensures),
       s .pre .1,
-      may-work (s .args .p) (s .args .k) 11 (s .pre .2) (s .pre .3) refl,
+      may-work (s .args .p) (s .args .k) _ (s .pre .2) (s .pre .3) refl,
     )
 
 same-length : tie.Need-same-length
