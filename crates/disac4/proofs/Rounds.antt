@@ -95,42 +95,58 @@ allowed-round p t e = by-actor p (t .actor) (t .action) e
 
 -- ---- a turn of the round is allowed
 
-abbrev MayRead : ℕ → ℕ → ℕ → Type 0
-MayRead p k j = (leb j p && not (eqb j k)) ≡ true
-
-others-each : (p k : ℕ) → Each (MayRead p k) (others p k)
-unfolding others
-others-each p k =
-    each-gather (MayRead p k) (suc p) (λ j. cond (eqb j k) [] (j ∷ [])) (λ j h. go j h (eqb j k) refl)
-  where
-    go : (j : ℕ) → j < suc p → (b : Bool) → eqb j k ≡ b → Each (MayRead p k) (cond b [] (j ∷ []))
-    go j h true e = tt
-    go j h false e = (and-intro (le-leb j p (omega arith)) (not-of e), tt)
-
 abbrev Allowed : ℕ → Turn → Type 0
 Allowed p t = allowed p t ≡ true
+
+worker-may : (p k d : ℕ) → 0 < k → k ≤ p → workerMay p k d ≡ true → Allowed p (turn k d)
+worker-may p k d h b e = worker-allowed p k d h ∙ and-intro (le-leb k p b) e
+
+-- a worker may read from every other actor
+pub may-read : (p k j : ℕ) → 0 < k → k ≤ p → j ≤ p → (j ≡ k → ⊥) → allowed p (turn k j) ≡ true
+may-read p k j h b a n = worker-may p k j h b (or-left _ (and-intro (le-leb j p a) (not-of (ne-eqb j k n))))
+
+-- and treat, send and answer
+pub may-work : (p k d : ℕ) → 0 < k → k ≤ p → between treatNumber answerNumber d ≡ true → allowed p (turn k d) ≡ true
+may-work p k d h b e = worker-may p k d h b (or-right (leb d p && not (eqb d k)) e)
+
+-- the controller may read from every worker
+pub may-hear : (p k : ℕ) → 0 < k → k ≤ p → allowed p (turn 0 k) ≡ true
+unfolding allowed
+may-hear p k h b = or-left _ (and-intro (le-leb 1 k h) (le-leb k p b))
+
+-- and poll
+pub may-poll : (p : ℕ) → allowed p (turn 0 pollNumber) ≡ true
+unfolding allowed
+may-poll p = or-right (between 1 p pollNumber) refl
+
+-- an actor other than worker `k`
+abbrev Other : ℕ → ℕ → ℕ → Type 0
+Other p k j = (j ≤ p) × (j ≡ k → ⊥)
+
+others-each : (p k : ℕ) → Each (Other p k) (others p k)
+unfolding others
+others-each p k =
+    each-gather (Other p k) (suc p) (λ j. cond (eqb j k) [] (j ∷ [])) (λ j h. go j h (eqb j k) refl)
+  where
+    go : (j : ℕ) → j < suc p → (b : Bool) → eqb j k ≡ b → Each (Other p k) (cond b [] (j ∷ []))
+    go j h true e = tt
+    go j h false e = ((omega arith, eqb-false j k e), tt)
 
 worker-round-allowed : (p k : ℕ) → 0 < k → k ≤ p → Each (Allowed p) (workerRound p k)
 unfolding workerRound
 worker-round-allowed p k h b =
     each-append (Allowed p) (map (turn k) (others p k)) _
     (each-map (Allowed p) (turn k) (others p k)
-    (each-mono (MayRead p k) (λ j. Allowed p (turn k j)) (λ j r. may j (or-left _ r)) (others p k) (others-each p k)))
-    (own treatNumber refl, (own sendNumber refl, (own answerNumber refl, tt)))
-  where
-    may : (d : ℕ) → workerMay p k d ≡ true → Allowed p (turn k d)
-    may d e = worker-allowed p k d h ∙ and-intro (le-leb k p b) e
-
-    own : (d : ℕ) → between treatNumber answerNumber d ≡ true → Allowed p (turn k d)
-    own d e = may d (or-right (leb d p && not (eqb d k)) e)
+    (each-mono (Other p k) (λ j. Allowed p (turn k j)) (λ j r. may-read p k j h b (r .0) (r .1)) (others p k)
+    (others-each p k)))
+    (may-work p k treatNumber h b refl, (may-work p k sendNumber h b refl, (may-work p k answerNumber h b refl, tt)))
 
 -- every turn of the round is allowed
 pub round-allowed : (p : ℕ) → Each (λ t. allowed p t ≡ true) (round p)
-unfolding round allowed
+unfolding round
 round-allowed p =
     each-append (Allowed p) (workerTurns p ++ controllerReads p) (turn 0 pollNumber ∷ [])
     (each-append (Allowed p) (workerTurns p) (controllerReads p)
     (each-gather (Allowed p) p (λ i. workerRound p (suc i)) (λ i h. worker-round-allowed p (suc i) (omega arith) h))
-    (each-gather (Allowed p) p (λ i. turn 0 (suc i) ∷ [])
-    (λ i h. (or-left _ (and-intro (le-leb 1 (suc i) (omega arith)) (le-leb (suc i) p h)), tt))))
-    (or-right (between 1 p pollNumber) refl, tt)
+    (each-gather (Allowed p) p (λ i. turn 0 (suc i) ∷ []) (λ i h. (may-hear p (suc i) (omega arith) h, tt))))
+    (may-poll p, tt)

@@ -36,6 +36,7 @@ pub mod Outgoing
 pub mod Overwritten
 pub mod Permitted
 pub mod Places
+pub mod Playing
 pub mod PollRead
 pub mod Polling
 pub mod Queue
@@ -46,6 +47,7 @@ pub mod Refined
 pub mod Regions
 pub mod Reported
 pub mod Room
+pub mod Rounding
 pub mod RoundsLeft
 pub mod RowsKept
 pub mod RunLaws
@@ -62,6 +64,7 @@ pub mod Touching
 pub mod TreatKeeps
 pub mod TreatLaws
 pub mod Treating
+pub mod TurnLists
 pub mod Underway
 pub mod Unmoved
 pub mod Walking

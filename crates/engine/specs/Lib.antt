@@ -6,6 +6,7 @@ pub mod Lists
 pub mod Load
 pub mod Memory
 pub mod Messages
+pub mod Play
 pub mod Run
 pub mod Step
 pub mod Treat

@@ -1,0 +1,52 @@
+-- Playing turns one after the other; and a loop that plays the list `f i` in step `i`, for each `i` below `n`.
+use Prim.Native.Nat.{ℕ, zero, suc, _+_, _<_, _≤_}
+use mathlib.Core.List.{List, _++_, map, map-append}
+use mathlib.Core.Path.{_≡_, refl, sym, _∙_, ap, subst}
+use native.Mathlib.Numerals.{add-one}
+use native.Mathlib.Omega.{arith}
+use lib.ListN.{length}
+use Rattle.base.specs.Below.{gatherBelow}
+use Rattle.disac4.specs.Turn.{Turn}
+use Rattle.engine.proofs.Underway.{plays-none, plays-then, still-going}
+use Rattle.engine.specs.Run.{Going, Plays}
+use Rattle.engine.specs.declared.Progress.{Progress}
+
+-- a run goes on after turns that keep the number of cells
+pub goes-after : (b : List ℕ) (us : List Turn) (cells cells′ : List ℕ) (g g′ : Progress) → Going b cells g
+    → length cells′ ≡ length cells → Plays b us cells g cells′ g′ → Going b cells′ g′
+goes-after b us cells cells′ g g′ go e p = still-going b us cells cells′ g g′ go (omega (arith, go .long)) p
+
+-- the loop's invariant before step `k`
+pub record Playing (b : List ℕ) (n : ℕ) (f : ℕ → List Turn) (cells₀ : List ℕ) (g₀ : Progress) (k : ℕ) (cells : List ℕ) (g : Progress)
+    : Type 0 where
+  pub passed : k ≤ n
+  pub same : length cells ≡ length cells₀
+  pub plays : Plays b (gatherBelow k f) cells₀ g₀ cells g
+
+pub none-played : (b : List ℕ) (n : ℕ) (f : ℕ → List Turn) (cells : List ℕ) (g : Progress) → Playing b n f cells g 0 cells g
+none-played b n f cells g = record { passed = omega arith; same = refl; plays = plays-none b cells g }
+
+module _ {b : List ℕ} {n : ℕ} {f : ℕ → List Turn} {cells₀ : List ℕ} {g₀ : Progress} {k : ℕ} {cells : List ℕ} {g : Progress}
+    (p : Playing b n f cells₀ g₀ k cells g) where
+  pub goes-on : Going b cells₀ g₀ → Going b cells g
+  goes-on go = goes-after b (gatherBelow k f) cells₀ cells g₀ g go (p .same) (p .plays)
+
+  pub one-more : (cells′ : List ℕ) (g′ : Progress) → k < n → length cells′ ≡ length cells → Plays b (f k) cells g cells′ g′
+      → Playing b n f cells₀ g₀ (k + 1) cells′ g′
+  one-more cells′ g′ h s q = record {
+    passed = omega arith;
+    same = s ∙ p .same;
+    plays = rw add-one (plays-then b (gatherBelow k f) (f k) cells₀ cells cells′ g₀ g g′ (p .plays) q);
+  }
+
+  pub all-played : n ≤ k → Plays b (gatherBelow n f) cells₀ g₀ cells g
+  all-played h =
+      let e : k ≡ n = omega (arith, p .passed) in
+      subst (λ (j : ℕ). Plays b (gatherBelow j f) cells₀ g₀ cells g) e (p .plays)
+
+-- a function of every member of joined lists
+pub map-gather : {A B : Type 0} (h : A → B) (n : ℕ) (f : ℕ → List A)
+    → gatherBelow n (λ i. map h (f i)) ≡ map h (gatherBelow n f)
+map-gather h zero f = refl
+map-gather h (suc n) f =
+    ap (λ l. l ++ map h (f n)) (map-gather h n f) ∙ sym (map-append h (gatherBelow n f) (f n))
