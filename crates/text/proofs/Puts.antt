@@ -1,13 +1,13 @@
 -- Laws of a buffer that takes a text.
-use Prim.Native.Nat.{ℕ, zero, suc, _+_, _<_, _≤_, min}
+use Prim.Native.Nat.{ℕ, suc, _+_, _<_, _≤_}
 use mathlib.Core.List.{List, [], _∷_, _++_, append-nil}
 use mathlib.Core.Logic.{⊎-elim}
 use mathlib.Core.Path.{_≡_, refl, sym, _∙_, ap}
 use native.Mathlib.Numerals.{add-one}
 use native.Mathlib.Omega.{arith}
 use borrow.Author.Tests.{lt-ltb, le-ltb}
-use lib.ListN.{length, getD, set, take, drop, length-append, length-take, length-drop, drop-of-length-le}
-use lib.Seq.{take-suc, take-all, drop-cons, set-at, append-snoc, take-append-le}
+use lib.ListN.{length, getD, set, take, drop, length-append, length-take, length-drop}
+use lib.Seq.{take-suc, take-all, drop-cons, set-at, append-snoc, take-append-le, take-at}
 use Rattle.base.proofs.Choice.{cond-true, cond-false}
 use Rattle.base.specs.Below.{gatherBelow}
 use Rattle.text.proofs.Decimal.{split}
@@ -82,13 +82,13 @@ module _ (before : List ℕ) where
       record {
         counted = omega arith;
         cells =
-          ap (λ (l : List ℕ). set l count b) (h .cells)
-          ∙ ap (λ (l : List ℕ). set (l ++ drop count before) count b) (take-all count text (omega arith))
-          ∙ ap (λ (l : List ℕ). set (text ++ l) count b) (drop-cons before count 0 room)
-          ∙ set-at text (getD before count 0) (drop (suc count) before) b count whole
-          ∙ sym (append-snoc text b (drop (suc count) before))
-          ∙ ap (λ (l : List ℕ). l ++ drop (suc count) before) (sym (take-all (count + 1) (text ++ b ∷ []) (omega arith)))
-          ∙ ap (λ (n : ℕ). take (count + 1) (text ++ b ∷ []) ++ drop n before) (sym (add-one count));
+            ap (λ (l : List ℕ). set l count b) (h .cells)
+            ∙ ap (λ (l : List ℕ). set (l ++ drop count before) count b) (take-all count text (omega arith))
+            ∙ ap (λ (l : List ℕ). set (text ++ l) count b) (drop-cons before count 0 room)
+            ∙ set-at text (getD before count 0) (drop (suc count) before) b count whole
+            ∙ sym (append-snoc text b (drop (suc count) before))
+            ∙ ap (λ (l : List ℕ). l ++ drop (suc count) before) (sym (take-all (count + 1) (text ++ b ∷ []) (omega arith)))
+            ∙ ap (λ (n : ℕ). take (count + 1) (text ++ b ∷ []) ++ drop n before) (sym (add-one count));
       }
 
   -- without, nothing changes
@@ -97,8 +97,8 @@ module _ (before : List ℕ) where
   holds-full text after count b h full = record {
     counted = omega (arith, h .counted, length-append text (b ∷ []));
     cells =
-      h .cells
-      ∙ ap (λ (l : List ℕ). l ++ drop count before) (sym (take-append-le count text (b ∷ []) (omega (arith, h .counted))));
+        h .cells
+        ∙ ap (λ (l : List ℕ). l ++ drop count before) (sym (take-append-le count text (b ∷ []) (omega (arith, h .counted))));
   }
 
   -- a text more
@@ -124,3 +124,10 @@ module _ (before : List ℕ) where
   pub holds-added : {text after : List ℕ} {count : ℕ} → Adds text before 0 after count → Holds text before after count
   holds-added {text} {after} {count} a =
       holds-puts text [] before after 0 count (record { counted = omega arith; cells = refl }) (a .done)
+
+-- a text that fits is held whole
+pub holds-whole : {text before after : List ℕ} {count : ℕ} → Holds text before after count → length text ≤ length before
+    → take count after ≡ text
+holds-whole {text} {before} {after} {count} h room =
+    let all : length text ≡ count = omega (arith, h .counted) in
+    rw (h .cells, take-all count text (omega arith)) (take-at text (drop count before) count all)

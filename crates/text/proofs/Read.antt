@@ -1,8 +1,8 @@
 -- The printed lines of slots by the bytes of their sections.
-use Prim.Native.Nat.{ℕ, zero, suc, _+_, _*_, _/_, _^_, _<_}
-use mathlib.Core.Bool.{Bool, cond}
-use mathlib.Core.List.{List, [], _++_}
-use mathlib.Core.Path.{_≡_, refl, sym, _∙_, ap}
+use Prim.Native.Nat.{ℕ, zero, suc, _+_, _/_, _^_, _<_}
+use mathlib.Core.Bool.{cond}
+use mathlib.Core.List.{List, []}
+use mathlib.Core.Path.{_≡_, refl, ap}
 use native.Mathlib.Nat.{le-step, le-refl, div-div-eq-div-mul, pow-suc}
 use native.Mathlib.Numerals.{add-one}
 use native.Mathlib.Omega.{arith}
@@ -13,8 +13,7 @@ use Rattle.base.specs.Row.{isOdd, bit}
 use Rattle.plan.proofs.Parts.{variables-read, variable-read, size-read, value-read}
 use Rattle.plan.specs.Decode.{variableAt, planOf}
 use Rattle.plan.specs.Format.{sectionStart, variableCount, ownerAt, valueCountAt, codeAt, sizeAt}
-use Rattle.plan.specs.Plan.{Variable, Value, variableOf, valueOf}
-use Rattle.plan.specs.WellFormed.{sizeOf}
+use Rattle.plan.specs.Plan.{Value, valueOf}
 use Rattle.text.proofs.Puts.{then-more}
 use Rattle.text.specs.Buffer.{Adds}
 use Rattle.text.specs.Printed.{spaced, listedCodes, slotLine, variableLine, variableLines}
@@ -51,9 +50,15 @@ pub line-read : (b lists : List ℕ) (x at slot row : ℕ) → x < variableCount
     → slotLine slot (ownerAt b at) (valueCountAt b at) (codeAt b at) row ≡ variableLine (planOf b) lists x
 unfolding variableLine slotLine variableAt
 line-read b lists x at slot row h e p q =
-    rw (e, p, q, variable-read b x h, size-read b x h,
-    codes-ext (sizeAt b (suc x)) (λ v. valueOf (planOf b) x v .code) (codeAt b (sectionStart b (suc x))) (getD lists x 0)
-    (λ v k. ap (λ (a : Value). a .code) (value-read b x h v k)))
+    rw (
+      e,
+      p,
+      q,
+      variable-read b x h,
+      size-read b x h,
+      codes-ext (sizeAt b (suc x)) (λ v. valueOf (planOf b) x v .code) (codeAt b (sectionStart b (suc x))) (getD lists x 0)
+          (λ v k. ap (λ (a : Value). a .code) (value-read b x h v k)),
+    )
 
 -- ---- the places of the sections
 

@@ -4,7 +4,11 @@ use mathlib.Core.List.{List, [], _∷_, _++_}
 use mathlib.Core.Path.{_≡_, refl}
 use Rattle.plan.specs.Fault.{decline}
 use Rattle.plan.specs.declared.Fault.the-variants.{BadVersion}
-use Rattle.disac4.specs.Worked.{planP}
+use Rattle.disac4.specs.Computes.{disac4-computes}
+use Rattle.disac4.specs.Outcome.{systemAt}
+use Rattle.disac4.specs.Report.{reportOf, listCells, final}
+use Rattle.disac4.specs.Turn.{turnsOf}
+use Rattle.disac4.specs.Worked.{planP, turnsT}
 use Rattle.disac4.specs.declared.Answer.the-variants.{Reported, Declined}
 use Rattle.disac4.specs.declared.Status.the-variants.{Closed}
 use Rattle.text.specs.Computes.{text-computes}
@@ -23,6 +27,14 @@ pub printed-T :
     ≡ linesT
 unfolding text-computes
 printed-T = refl
+
+-- the report and the cells are those of the turn run
+pub printed-run :
+    printed (Reported (reportOf (systemAt planP) (turnsOf turnsT))) planP
+    (listCells (systemAt planP) (final (systemAt planP) (turnsOf turnsT)))
+    ≡ linesT
+unfolding text-computes disac4-computes
+printed-run = refl
 
 -- version 2: `declined 2 0`
 pub printed-decline : (b lists : List ℕ) → printed (Declined (decline BadVersion 0)) b lists

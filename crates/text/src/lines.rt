@@ -9,7 +9,7 @@ ghost use Rattle.text.specs.Buffer.{Adds};
 ghost use Rattle.text.specs.Printed.{statusWord, reportLine, declineLine};
 
 // A status as its word.
-pub fn push_status(out: &mut [u8], at: usize, status: Status) -> usize
+fn push_status(out: &mut [u8], at: usize, status: Status) -> usize
     ensures { λ r. ⌜ Adds (statusWord status) (now (out .entry)) at (now (out .exit)) r ⌝ }
 {
     match status {

@@ -8,7 +8,7 @@ use plan::read::variable_count;
 ghost use mathlib.Core.Bool.{cond};
 ghost use mathlib.Core.List.{[]};
 ghost use mathlib.Core.Path.{_≡_};
-ghost use Prim.Native.Nat.{suc, _<_};
+ghost use Prim.Native.Nat.{_<_};
 ghost use lib.ListN.{getD};
 ghost use Rattle.base.specs.Row.{isOdd};
 ghost use Rattle.plan.specs.Decode.{planOf};
@@ -59,7 +59,14 @@ fn push_codes(out: &mut [u8], at: usize, plan: &[u8], section: usize, row: usize
 }
 
 // Slot, kitchen, colon, the listed codes.
-fn push_slot(out: &mut [u8], at: usize, plan: &[u8], section: usize, slot: usize, row: usize) -> usize
+fn push_slot(
+    out: &mut [u8],
+    at: usize,
+    plan: &[u8],
+    section: usize,
+    slot: usize,
+    row: usize,
+) -> usize
     requires { ⌜ section < 16777216 ⌝ }
     ensures { λ r. ⌜ Adds (slotLine slot (ownerAt (now (plan .entry)) section) (valueCountAt (now (plan .entry)) section) (codeAt (now (plan .entry)) section) row) (now (out .entry)) at (now (out .exit)) r ⌝ }
 {

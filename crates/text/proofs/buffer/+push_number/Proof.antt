@@ -1,11 +1,8 @@
 -- `text::buffer::push_number`, which calls itself: the measure is the number, whose tenth is less. Assumes nothing.
-use mathlib.Core.Path.{_≡_, sym, _∙_, ap}
 use native.Mathlib.Omega.{arith}
 use borrow.Author.Needs.{needs}
-use denote.Ref.{now}
 use Rattle.text.proofs.Decimal.{decimal-low, decimal-high}
 use Rattle.text.proofs.Puts.{_then_}
-use Rattle.text.specs.Decimal.{decimal}
 use Prim.Native.Nat.{ℕ, _<_}
 use borrow.Fn.Kinds.{In}
 use borrow.Fn.PlainCycle.{Measures, is, falls, and}

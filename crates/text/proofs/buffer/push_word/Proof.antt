@@ -1,12 +1,11 @@
 -- `text::buffer::push_word` puts a word's bytes. The loop's invariant: the bytes passed are put. The measure is what is left.
 -- Assumes nothing.
-use Prim.Native.Nat.{ℕ, _-_, _≤_}
-use mathlib.Core.List.{List}
-use mathlib.Core.Path.{_≡_, refl, sym, _∙_, ap}
+use Prim.Native.Nat.{_-_, _≤_}
+use mathlib.Core.Path.{_≡_, refl}
 use native.Mathlib.Omega.{arith}
 use borrow.Author.Needs.{needs}
 use denote.Ref.{now}
-use lib.ListN.{length, take, getD}
+use lib.ListN.{length, take}
 use lib.Seq.{take-all}
 use Rattle.text.proofs.Puts.{adds-none, then-next}
 use Rattle.text.specs.Buffer.{Adds}

@@ -1,7 +1,7 @@
 -- `text::slots::push_codes` puts the listed codes. The loop's invariant: those of the dishes passed are put, and `rest` has the bits
 -- of the others. The measure is what is left. Assumes nothing.
-use Prim.Native.Nat.{ℕ, _-_, _/_, _^_, _≤_}
-use mathlib.Core.Path.{_≡_, refl, sym, _∙_, ap}
+use Prim.Native.Nat.{_-_, _/_, _^_, _≤_}
+use mathlib.Core.Path.{_≡_, refl, sym}
 use native.Mathlib.Nat.{div-one}
 use native.Mathlib.Omega.{arith}
 use borrow.Author.Needs.{needs}

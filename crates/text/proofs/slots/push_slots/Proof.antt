@@ -1,7 +1,7 @@
 -- `text::slots::push_slots` puts the lines of all slots. The loop's invariant: those of the slots passed are put, and `section` is
 -- the place of the next one's section. The measure is what is left. Assumes nothing.
-use Prim.Native.Nat.{ℕ, suc, _+_, _-_, _*_, _≤_}
-use mathlib.Core.Path.{_≡_, refl, sym, _∙_, ap}
+use Prim.Native.Nat.{suc, _+_, _-_, _*_, _≤_}
+use mathlib.Core.Path.{_≡_, refl}
 use native.Mathlib.Numerals.{add-one}
 use native.Mathlib.Omega.{arith}
 use borrow.Author.Needs.{needs}
@@ -9,11 +9,11 @@ use denote.Ref.{now}
 use lib.ListN.{length}
 use Rattle.base.specs.Below.{gatherBelow}
 use Rattle.plan.specs.Decode.{planOf}
-use Rattle.plan.specs.Format.{sectionStart, variableCount}
+use Rattle.plan.specs.Format.{sectionStart}
 use Rattle.text.proofs.Puts.{adds-none, then-more}
 use Rattle.text.proofs.Read.{line-read, start-first, start-more, lines-all}
 use Rattle.text.specs.Buffer.{Adds}
-use Rattle.text.specs.Printed.{variableLine, variableLines}
+use Rattle.text.specs.Printed.{variableLine}
 use Rattle.text.proofs.slots.push_slots.Statement.{statement}
 use Rattle.text.proofs.slots.push_slots.Tie as tie
 
