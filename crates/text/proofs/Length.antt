@@ -1,0 +1,187 @@
+-- How long the printed text is: a buffer of 4,096 bytes takes the whole text of an accepted plan.
+use Prim.Native.Nat.{ℕ, zero, suc, _+_, _*_, _^_, _<_, _≤_}
+use mathlib.Core.Bool.{Bool, true, false, cond}
+use mathlib.Core.List.{List, []}
+use mathlib.Core.Option.{Option, none, some, Option·getD}
+use mathlib.Core.Path.{_≡_, ap}
+use native.Mathlib.Nat.{le-step, le-refl, suc-mul}
+use native.Mathlib.Omega.{arith}
+use lib.ListN.{length, getD, length-append}
+use Rattle.base.specs.Below.{gatherBelow, anyBelow, firstBelow}
+use Rattle.base.specs.Bytes.{byteAt, wordAt}
+use Rattle.base.specs.Choice.{firstOf}
+use Rattle.base.specs.Row.{bit}
+use Rattle.plan.proofs.Faults.{decode-plan}
+use Rattle.plan.proofs.Parts.{variables-read, size-read, value-read}
+use Rattle.plan.proofs.WellFormed.{read-well-formed}
+use Rattle.plan.specs.Decode.{planFault, planOf, accepted, decode}
+use Rattle.plan.specs.Fault.{numberOf}
+use Rattle.plan.specs.Format.{sectionStart}
+use Rattle.plan.specs.Network.{networkOf}
+use Rattle.plan.specs.Plan.{Plan, Value, variableOf, valueOf}
+use Rattle.plan.specs.WellFormed.{sizeOf, WellFormed}
+use Rattle.plan.specs.declared.Decline.{Decline}
+use Rattle.plan.specs.declared.Fault.{Fault}
+use Rattle.plan.specs.declared.Fault.the-variants.{Truncated, BadVersion, BadLength, BadCount, BadNumber, RepeatedCode, BadConstraint, TrailingBytes, ShortWork, ShortLists, BadTurnList, BadTurn}
+use Rattle.disac4.proofs.FiguresFit.{FiguresFit, figures-fit}
+use Rattle.disac4.specs.Outcome.{systemAt}
+use Rattle.disac4.specs.Report.{lowestEmpty, final, reportOf}
+use Rattle.disac4.specs.System.{systemOf}
+use Rattle.disac4.specs.Turn.{Turn}
+use Rattle.disac4.specs.declared.Answer.the-variants.{Reported, Declined}
+use Rattle.disac4.specs.declared.Report.{Report}
+use Rattle.disac4.specs.declared.Status.{Status}
+use Rattle.disac4.specs.declared.Status.the-variants.{Open, Closed, Bare}
+use Rattle.text.proofs.Decimal.{decimal-length}
+use Rattle.text.specs.Printed.{statusWord, declinedWord, spaced, reportLine, listedCodes, slotLine, variableLine, variableLines, declineLine, printed}
+
+gather-length : (n c : ℕ) (f : ℕ → List ℕ) → ((i : ℕ) → i < n → length (f i) ≤ c) → length (gatherBelow n f) ≤ n * c
+gather-length zero c f h = omega (arith)
+gather-length (suc n) c f h =
+    omega (
+      arith,
+      suc-mul n c,
+      length-append (gatherBelow n f) (f n),
+      gather-length n c f (λ i k. h i (le-step k)),
+      h n (le-refl (suc n)),
+    )
+
+-- a space and at most k + 1 digits
+spaced-length : (k n : ℕ) → n < 10 ^ suc k → length (spaced n) ≤ suc (suc k)
+unfolding spaced
+spaced-length k n h = omega (arith, decimal-length k n h)
+
+-- a number of 64 bits has at most 20 digits
+spaced-64 : (n : ℕ) → n < 2 ^ 64 → length (spaced n) ≤ 21
+spaced-64 n h = spaced-length 19 n (omega arith)
+
+status-length : (s : Status) → length (statusWord s) ≤ 6
+unfolding statusWord
+status-length Open = omega arith
+status-length Closed = omega arith
+status-length Bare = omega arith
+
+number-low : (f : Fault) → numberOf f ≤ 12
+number-low Truncated = omega arith
+number-low BadVersion = omega arith
+number-low BadLength = omega arith
+number-low BadCount = omega arith
+number-low BadNumber = omega arith
+number-low RepeatedCode = omega arith
+number-low BadConstraint = omega arith
+number-low TrailingBytes = omega arith
+number-low ShortWork = omega arith
+number-low ShortLists = omega arith
+number-low BadTurnList = omega arith
+number-low BadTurn = omega arith
+
+-- a report whose numbers fit 64 bits
+pub record Report64 (r : Report) : Type 0 where
+  pub changes : r .changes < 2 ^ 64
+  pub sends : r .sends < 2 ^ 64
+  pub polls : r .polls < 2 ^ 64
+  pub empty : r .empty < 2 ^ 64
+
+report-length : (r : Report) → Report64 r → length (reportLine r) ≤ 91
+unfolding reportLine
+report-length r h =
+    simp length-append
+    (omega (
+      arith,
+      status-length (r .status),
+      spaced-64 (r .changes) (h .changes),
+      spaced-64 (r .sends) (h .sends),
+      spaced-64 (r .polls) (h .polls),
+      spaced-64 (r .empty) (h .empty),
+    ))
+
+codes-length : (size : ℕ) (code : ℕ → ℕ) (row : ℕ) → ((v : ℕ) → v < size → code v < 65536)
+    → length (listedCodes size code row) ≤ size * 6
+unfolding listedCodes
+codes-length size code row h = gather-length size 6 _ (λ v k. one (bit row v) (code v) (h v k))
+  where
+    one : (b : Bool) (c : ℕ) → c < 65536 → length (cond b (spaced c) []) ≤ 6
+    one true c k = spaced-length 4 c (omega arith)
+    one false c k = omega arith
+
+slot-length : (slot owner size row : ℕ) (code : ℕ → ℕ) → slot ≤ 32 → owner ≤ 8 → size ≤ 16 → ((v : ℕ) → v < size → code v < 65536)
+    → length (slotLine slot owner size code row) ≤ 102
+unfolding slotLine
+slot-length slot owner size row code a b d h =
+    simp length-append
+    (omega (
+      arith,
+      decimal-length 1 slot (omega arith),
+      spaced-length 0 owner (omega arith),
+      codes-length size code row h,
+    ))
+
+module _ (b lists : List ℕ) where
+  pub decline-short : (d : Decline) → d .place < 2 ^ 64 → length (printed (Declined d) b lists) ≤ 4096
+  unfolding printed declineLine declinedWord
+  decline-short d h =
+      simp length-append
+      (omega (
+        arith,
+        spaced-length 1 (numberOf (d .fault)) (omega (arith, number-low (d .fault))),
+        spaced-64 (d .place) h,
+      ))
+
+  module _ (passed : planFault b ≡ none) (bytes : (i : ℕ) → byteAt b i < 256) where
+    fits : WellFormed (planOf b)
+    fits = read-well-formed b passed
+
+    code-small : (x : ℕ) → x < length (planOf b .variables) → (v : ℕ) → v < sizeOf (planOf b) x → valueOf (planOf b) x v .code < 65536
+    unfolding wordAt
+    code-small x h v k =
+        let at = sectionStart b (suc x) + 4 + 4 * v in
+        omega (
+          arith,
+          ap (λ (a : Value). a .code)
+              (value-read b x (omega (arith, variables-read b)) v (omega (arith, size-read b x (omega (arith, variables-read b))))),
+          bytes at,
+          bytes (at + 1),
+        )
+
+    lines-length : length (variableLines (planOf b) lists) ≤ 3264
+    unfolding variableLines variableLine
+    lines-length =
+        omega (
+          arith,
+          fits .variables-high,
+          gather-length (length (planOf b .variables)) 102 (variableLine (planOf b) lists)
+              (λ x h. slot-length (suc x) (variableOf (planOf b) x .owner) (sizeOf (planOf b) x) (getD lists x 0)
+              (λ v. valueOf (planOf b) x v .code) (omega (arith, fits .variables-high))
+              (omega (arith, fits .workers-high, fits .each-variable x h .owner-high))
+              (fits .each-variable x h .few-values) (code-small x h)),
+        )
+
+    pub report-short : (r : Report) → Report64 r → length (printed (Reported r) b lists) ≤ 4096
+    unfolding printed
+    report-short r h = simp length-append (omega (arith, report-length r h, lines-length))
+
+-- the lowest of some slots below n, or 0
+lowest-low : (n : ℕ) (t : ℕ → Bool) → Option·getD (firstBelow n (λ x. cond (t x) none (some (suc x)))) 0 ≤ n
+lowest-low zero t = omega arith
+lowest-low (suc n) t = go (firstBelow n (λ x. cond (t x) none (some (suc x)))) (t n) (lowest-low n t)
+  where
+    go : (o : Option ℕ) (b : Bool) → Option·getD o 0 ≤ n → Option·getD (firstOf o (cond b none (some (suc n)))) 0 ≤ suc n
+    go (some a) b h = omega arith
+    go none true h = omega arith
+    go none false h = omega arith
+
+-- the text of a run's report, whatever its turns
+pub run-short : (b lists : List ℕ) (plan : Plan) → decode b ≡ accepted plan → ((i : ℕ) → byteAt b i < 256) → (ts : List Turn)
+    → length (printed (Reported (reportOf (systemAt b) ts)) b lists) ≤ 4096
+unfolding systemAt reportOf systemOf networkOf lowestEmpty
+run-short b lists plan e bytes ts =
+    let read = decode-plan b plan e in
+    let fit : FiguresFit (systemAt b) ts = rw (read .1) at (figures-fit b plan e ts) in
+    let empty = lowest-low (systemAt b .net .variables) (λ x. anyBelow (systemAt b .net .size x) (final (systemAt b) ts .domain x)) in
+    report-short b lists (read .0) bytes (reportOf (systemAt b) ts)
+    (record {
+      changes = omega (arith, fit .turns, fit .bound);
+      sends = omega (arith, fit .sends);
+      polls = omega (arith, fit .polls);
+      empty = omega (arith, empty, read-well-formed b (read .0) .variables-high);
+    })

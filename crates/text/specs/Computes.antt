@@ -1,0 +1,10 @@
+-- Named on an `unfolding` line, this opens what the crate and those below it compute with, for facts that hold by computing.
+use Rattle.base.specs.Computes.{base-computes}
+use Rattle.plan.specs.Computes.{plan-computes}
+use Rattle.plan.specs.WellFormed.{sizeOf}
+use Rattle.text.specs.Decimal.{decimalIn, decimal}
+use Rattle.text.specs.Printed.{statusWord, declinedWord, spaced, reportLine, listedCodes, slotLine, variableLine, variableLines, declineLine, printed}
+
+unfoldable pub text-computes : Unit {0}
+unfolding decimalIn decimal statusWord declinedWord spaced reportLine listedCodes slotLine variableLine variableLines declineLine printed sizeOf base-computes plan-computes
+text-computes = tt

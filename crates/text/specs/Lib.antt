@@ -1,0 +1,4 @@
+pub mod Buffer
+pub mod Computes
+pub mod Decimal
+pub mod Printed
