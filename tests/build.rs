@@ -22,6 +22,9 @@ fn main() {
     if path.is_file() {
         println!("cargo:rustc-cfg=linked");
         println!("cargo:rustc-link-arg={}", path.display());
+        // A library without std brings its own panic handler; the one of the
+        // test program comes first and is taken.
+        println!("cargo:rustc-link-arg=-Wl,--allow-multiple-definition");
     } else if given.is_some() {
         panic!("TINSHREW_LIB names no file: {}", path.display());
     }

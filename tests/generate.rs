@@ -185,6 +185,23 @@ pub fn full_plan(rng: &mut Rng, strictly: bool) -> Plan {
     plan
 }
 
+/// A full plan with 128 tables of even density, `part` of 256 pairs allowed,
+/// on pairs of variables drawn evenly. Around 64 it loses a part of its labels.
+pub fn scattered_plan(rng: &mut Rng, part: usize) -> Plan {
+    let mut plan = chain_plan(rng, 8, 32, 16);
+    plan.rules.clear();
+    for _ in 0..128 {
+        let first = rng.between(1, 31);
+        let second = rng.between(first + 1, 32);
+        let row = |rng: &mut Rng| {
+            (0..16).filter(|_| rng.chance(part, 256)).fold(0, |row, bit| row | 1 << bit)
+        };
+        let rows = (0..16).map(|_| row(rng)).collect();
+        plan.rules.push(Rule { first, second, relation: Relation::Table(rows) });
+    }
+    plan
+}
+
 /// Allowed turns drawn evenly.
 pub fn random_turns(rng: &mut Rng, workers: usize, count: usize) -> Vec<u8> {
     let all = Turn::all(workers);
@@ -220,6 +237,16 @@ pub fn round_like_turns(rng: &mut Rng, workers: usize, rounds: usize) -> Vec<u8>
 pub fn guided_turns(rng: &mut Rng, plan: &Plan, most: usize, starving: bool) -> Vec<u8> {
     let all = Turn::all(plan.workers);
     let mut weights: Vec<usize> = all.iter().map(|_| 1 << rng.below(8)).collect();
+    // Sometimes workers seldom read each other's lists while all else goes
+    // on, so that counts of lists agree though the lists differ.
+    if rng.chance(1, 4) {
+        for (turn, weight) in all.iter().zip(&mut weights) {
+            *weight = match *turn {
+                Turn::Read { by, from } if by > 0 && from > 0 => 1,
+                _ => 16 << rng.below(3),
+            };
+        }
+    }
     let full = weights.clone();
     if starving {
         // A whole actor, or some deeds.

@@ -5,8 +5,8 @@
 use std::sync::OnceLock;
 
 use tinshrew_tests::generate::{
-    chain_plan, full_plan, guided_turns, random_plan, random_turns, round_like_turns, Size, FULL,
-    MEDIUM, SMALL,
+    chain_plan, full_plan, guided_turns, random_plan, random_turns, round_like_turns,
+    scattered_plan, Size, FULL, MEDIUM, SMALL,
 };
 use tinshrew_tests::reference::plan::{Plan, Relation};
 use tinshrew_tests::reference::worked::{no_values, plan_p, turns_t, worked};
@@ -163,18 +163,18 @@ const KINDS: &[(&str, usize)] = &[
     ("medium, round-like turns", 120),
     ("chain, guided turns", 200),
     ("chain, starving turns", 80),
-    ("full, guided turns", 12),
-    ("full, round-like turns", 8),
-    ("full chain, guided turns", 10),
-    ("full chain, starving turns", 6),
-    ("longest list", 12),
+    ("full, guided turns", 6),
+    ("full, round-like turns", 4),
+    ("full chain, guided turns", 6),
+    ("full chain, starving turns", 4),
+    ("longest list", 10),
     ("one byte changed", 1_000),
     ("cut", 500),
     ("extended", 300),
     ("two faults", 900),
     ("buffers", 400),
     ("bad turn", 500),
-    ("turn list length", 132),
+    ("turn list length", 100),
 ];
 
 /// A valid plan of a drawn size, mostly small.
@@ -182,7 +182,7 @@ fn some_plan(rng: &mut Rng) -> Plan {
     match rng.below(12) {
         0 => random_plan(rng, MEDIUM, false),
         1 => chain_plan(rng, 3, 6, 5),
-        2 if rng.chance(1, 10) => random_plan(rng, FULL, true),
+        2 if rng.chance(1, 25) => random_plan(rng, FULL, true),
         _ => random_plan(rng, SMALL, false),
     }
 }
@@ -227,7 +227,11 @@ fn drawn(rng: &mut Rng) -> Case {
             "plan P" => tinshrew_tests::reference::plan::decode(&plan_p()).unwrap(),
             "medium" => random_plan(rng, MEDIUM, false),
             "chain" => chain(rng),
-            "full" => random_plan(rng, FULL, true),
+            "full" if rng.chance(1, 4) => random_plan(rng, FULL, true),
+            "full" => {
+                let part = rng.between(35, 110);
+                scattered_plan(rng, part)
+            }
             _ => full_chain(rng),
         };
         let most = match sort {

@@ -1,6 +1,7 @@
 // Names the running cases when the library crashes or does not come back.
 // The C library's own functions are declared here; there are no crates.
 
+use std::cell::Cell;
 use std::sync::atomic::{AtomicU64, Ordering};
 
 pub const THREADS: usize = 64;
@@ -81,6 +82,17 @@ mod signals {
 
 pub use signals::install;
 
+thread_local! {
+    static MINE: Cell<u64> = const { Cell::new(NONE) };
+}
+
+/// The calling thread is at that case.
 pub fn at(thread: usize, case: u64) {
     CURRENT[thread % THREADS].store(case, Ordering::Relaxed);
+    MINE.set(case);
+}
+
+/// The calling thread's case.
+pub fn mine() -> Option<u64> {
+    Some(MINE.get()).filter(|&case| case != NONE)
 }

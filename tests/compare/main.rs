@@ -32,7 +32,8 @@ const STACK: usize = 64 << 20;
 
 #[derive(Default)]
 struct Totals {
-    kinds: BTreeMap<String, usize>,
+    /// By kind: the cases and the seconds they took, making them included.
+    kinds: BTreeMap<String, (usize, f64)>,
     tally: Tally,
 }
 
@@ -61,13 +62,15 @@ fn run_all(subject: &Subject, count: u64, seed: u64, threads: usize) -> (Totals,
                     if number >= limit.load(Ordering::Relaxed) {
                         break;
                     }
+                    let start = Instant::now();
                     let case = cases::make(seed, number);
                     crash::at(thread, number);
-                    let result = case.run(subject);
-                    match result {
+                    match case.run(subject) {
                         Ok(tally) => {
                             mine.tally.add(&tally);
-                            *mine.kinds.entry(case.kind).or_insert(0) += 1;
+                            let kind = mine.kinds.entry(case.kind).or_default();
+                            kind.0 += 1;
+                            kind.1 += start.elapsed().as_secs_f64();
                         }
                         Err(text) => {
                             limit.fetch_min(number, Ordering::Relaxed);
@@ -81,17 +84,17 @@ fn run_all(subject: &Subject, count: u64, seed: u64, threads: usize) -> (Totals,
                 crash::at(thread, crash::NONE);
                 let mut all = totals.lock().unwrap();
                 all.tally.add(&mine.tally);
-                for (kind, cases) in mine.kinds {
-                    *all.kinds.entry(kind).or_insert(0) += cases;
+                for (kind, (cases, seconds)) in mine.kinds {
+                    let kind = all.kinds.entry(kind).or_default();
+                    kind.0 += cases;
+                    kind.1 += seconds;
                 }
             };
             let builder = std::thread::Builder::new().stack_size(STACK);
             handles.push(builder.spawn_scoped(scope, work).expect("a thread"));
         }
         for handle in handles {
-            if handle.join().is_err() {
-                exit(2);
-            }
+            handle.join().expect("a thread that ends");
         }
         done.store(true, Ordering::Relaxed);
         watchdog.thread().unpark();
@@ -161,8 +164,8 @@ fn mutants(count: u64, seed: u64, threads: usize) -> bool {
 }
 
 fn print_totals(totals: &Totals) {
-    for (kind, cases) in &totals.kinds {
-        println!("{cases:9} {kind}");
+    for (kind, (cases, seconds)) in &totals.kinds {
+        println!("{cases:9} cases {seconds:7.1} s  {kind}");
     }
     let t = &totals.tally;
     println!("calls: {}, of them not declined: {}", t.calls, t.declined[0]);
@@ -210,6 +213,13 @@ fn main() {
     }
     let seed = numbers.get(1).copied().unwrap_or(1);
     crash::install();
+    std::panic::set_hook(Box::new(move |panic| {
+        println!("compare: {panic}");
+        if let Some(number) = crash::mine() {
+            write_case(seed, number, &cases::make(seed, number), "the call panics");
+        }
+        exit(1)
+    }));
 
     if wrong {
         let count = numbers.first().copied().unwrap_or(30_000);

@@ -50,10 +50,10 @@ faults! {
     AnswerAnyCount AnswerMoreLists UnreadyDropsPoll UnreadyCounts AnswersAgain
     ReplyCarriesWanted IdlePollCounted PollWhenOpen PollsCountedEach MarksKept
     WantedIsSent ListLeavesPoll EarlierReply LateReply OneMarkLess
-    DroppedReplyIdle ClosesWhenIdle GoesOnWhenClosed EveryTurnCounts
+    DroppedReplyIdle ClosesWhenIdle PollsWhenClosed EveryTurnCounts
     FirstTurnOnly
     // The round.
-    RoundTreatsFirst RoundAnswersFirst RoundPollsFirst
+    RoundTreatsFirst RoundReadsDown RoundPollsFirst
     // The report and the lent buffers.
     ClearsOneLess ClearsOneMore ClearsAll WritesAllLists NeverBare
     EmptyOnlyWhenClosed DeclineClears BadTurnLeavesLists

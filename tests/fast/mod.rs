@@ -370,7 +370,7 @@ impl<'a, F: Faults> Sim<'a, F> {
     /// Plays a turn; true when it did something.
     #[inline]
     fn play(&mut self, actor: usize, deed: usize) -> bool {
-        if self.closed && !self.f.has(Fault::GoesOnWhenClosed) {
+        if self.closed && !self.f.has(Fault::PollsWhenClosed) {
             return false;
         }
         if self.f.has(Fault::DeskSends) && actor == 0 && deed == 10
@@ -522,6 +522,9 @@ impl<'a, F: Faults> Sim<'a, F> {
                     let marked = self.marks.count_ones() as usize;
                     let needed = self.net.p - usize::from(self.f.has(Fault::OneMarkLess) && self.net.p > 1);
                     self.closed |= marked >= needed;
+                    if self.f.has(Fault::PollsWhenClosed) && self.closed {
+                        self.open = false;
+                    }
                 } else if self.f.has(Fault::DroppedReplyIdle) {
                     return false;
                 }
@@ -551,7 +554,9 @@ impl<'a, F: Faults> Sim<'a, F> {
             if self.f.has(Fault::RoundTreatsFirst) {
                 self.turn(k, 9);
             }
-            for from in 0..=p {
+            for place in 0..=p {
+                let down = self.f.has(Fault::RoundReadsDown) && place > 0;
+                let from = if down { p + 1 - place } else { place };
                 if from != k {
                     self.turn(k, from);
                 }
@@ -559,13 +564,8 @@ impl<'a, F: Faults> Sim<'a, F> {
             if !self.f.has(Fault::RoundTreatsFirst) {
                 self.turn(k, 9);
             }
-            if self.f.has(Fault::RoundAnswersFirst) {
-                self.turn(k, 11);
-            }
             self.turn(k, 10);
-            if !self.f.has(Fault::RoundAnswersFirst) {
-                self.turn(k, 11);
-            }
+            self.turn(k, 11);
         }
         if self.f.has(Fault::RoundPollsFirst) {
             self.turn(0, 12);

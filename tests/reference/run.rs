@@ -82,7 +82,7 @@ impl Run {
     }
 
     pub fn is_listed(&self, variable: usize, value: usize) -> bool {
-        self.state.is_listed(Label { variable, value })
+        self.state.is_listed(Label::new(variable, value))
     }
 
     /// One cell for each variable, lowest bit for its first value.

@@ -5,11 +5,26 @@ use std::sync::OnceLock;
 
 use super::plan::{Network, Plan};
 
-/// One value of one variable: the variable from 1, the value from 0.
+/// One value of one variable: the variable from 1, the value from 0. Kept in
+/// bytes, since states are copied and compared at each turn.
 #[derive(Clone, Copy, Debug, PartialEq, Eq, PartialOrd, Ord)]
 pub struct Label {
-    pub variable: usize,
-    pub value: usize,
+    variable: u8,
+    value: u8,
+}
+
+impl Label {
+    pub fn new(variable: usize, value: usize) -> Label {
+        Label { variable: variable as u8, value: value as u8 }
+    }
+
+    pub fn variable(self) -> usize {
+        usize::from(self.variable)
+    }
+
+    pub fn value(self) -> usize {
+        usize::from(self.value)
+    }
 }
 
 #[derive(Clone, Copy, Debug, PartialEq, Eq)]
@@ -151,7 +166,7 @@ impl Turn {
 
 impl State {
     fn at(label: Label) -> usize {
-        (label.variable - 1) * 16 + label.value
+        (label.variable() - 1) * 16 + label.value()
     }
 
     fn count_at(plan: &Plan, label: Label, other: usize) -> usize {
@@ -191,7 +206,7 @@ impl State {
         };
         for variable in 1..=n {
             for value in 0..plan.variables[variable - 1].values.len() {
-                let label = Label { variable, value };
+                let label = Label::new(variable, value);
                 state.listed[Self::at(label)] = true;
                 for other in (1..=n).filter(|&other| network.tied(variable, other)) {
                     let supports = (0..plan.variables[other - 1].values.len())
@@ -203,7 +218,7 @@ impl State {
         }
         for variable in 1..=n {
             for value in 0..plan.variables[variable - 1].values.len() {
-                let label = Label { variable, value };
+                let label = Label::new(variable, value);
                 let without = (1..=n).any(|other| {
                     network.tied(variable, other)
                         && state.counts[Self::count_at(plan, label, other)] == 0
@@ -218,7 +233,7 @@ impl State {
 
     /// The owner strikes a label and puts it at the end of both its lists.
     fn strike(&mut self, plan: &Plan, label: Label, events: &mut Vec<Event>) {
-        let by = plan.variables[label.variable - 1].owner;
+        let by = plan.variables[label.variable() - 1].owner;
         self.listed[Self::at(label)] = false;
         self.workers[by].work.push_back(label);
         self.workers[by].out.push(label);
@@ -250,13 +265,13 @@ impl State {
                 continue;
             }
             for value in 0..plan.variables[variable - 1].values.len() {
-                let label = Label { variable, value };
+                let label = Label::new(variable, value);
                 if !self.is_listed(label)
-                    || !network.allowed(variable, value, gone.variable, gone.value)
+                    || !network.allowed(variable, value, gone.variable(), gone.value())
                 {
                     continue;
                 }
-                let count = &mut self.counts[Self::count_at(plan, label, gone.variable)];
+                let count = &mut self.counts[Self::count_at(plan, label, gone.variable())];
                 *count -= 1;
                 if *count == 0 {
                     self.strike(plan, label, events);
