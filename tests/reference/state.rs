@@ -1,6 +1,7 @@
 // The state of a run, loading, and what each turn does to it.
 
 use std::collections::VecDeque;
+use std::rc::Rc;
 use std::sync::OnceLock;
 
 use super::plan::{Network, Plan};
@@ -35,7 +36,8 @@ pub struct Poll {
 
 #[derive(Clone, Debug, PartialEq, Eq)]
 pub enum Message {
-    List(Vec<Label>),
+    /// Shared between the mailboxes; compared by its labels.
+    List(Rc<[Label]>),
     Poll(Poll),
     Reply { number: usize },
 }
@@ -86,8 +88,8 @@ pub enum Turn {
 #[derive(Clone, Debug, PartialEq, Eq)]
 pub enum Event {
     Struck { by: usize, label: Label },
-    Sent { by: usize, labels: Vec<Label> },
-    Read { by: usize, labels: Vec<Label> },
+    Sent { by: usize, labels: Rc<[Label]> },
+    Read { by: usize, labels: Rc<[Label]> },
     Treated { by: usize, label: Label },
     Polled,
     /// The controller dropped a reply: to an earlier poll, or to the current
@@ -284,7 +286,7 @@ impl State {
         if self.workers[by].out.is_empty() {
             return;
         }
-        let labels = std::mem::take(&mut self.workers[by].out);
+        let labels: Rc<[Label]> = std::mem::take(&mut self.workers[by].out).into();
         for to in 0..=plan.workers {
             if to != by {
                 self.mailbox_mut(by, to).push_back(Message::List(labels.clone()));

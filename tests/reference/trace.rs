@@ -39,7 +39,7 @@ impl Trace {
             }
             Event::Sent { by, labels } => {
                 self.lists_sent += 1;
-                for label in labels {
+                for &label in labels.iter() {
                     match self.strikes.get_mut(&label) {
                         Some(strike) if strike.owner == by && !strike.sent => strike.sent = true,
                         _ => self.fail(format!("{label:?} sent wrongly by {by}")),
@@ -47,7 +47,7 @@ impl Trace {
                 }
             }
             Event::Read { by, labels } => {
-                for label in labels {
+                for &label in labels.iter() {
                     let right = self.strikes.get_mut(&label).is_some_and(|strike| {
                         strike.sent && by != strike.owner && strike.read_by.insert(by)
                     });
