@@ -1,0 +1,152 @@
+// Times the library against the efficient plain Rust implementation.
+//
+//   bench          the library
+//   bench --self   the reference in the library's place
+//   bench --fast   the efficient implementation itself, through the interface
+//
+// Both get the same bytes and the same lent buffers, filled with garbage
+// outside the timed part. The library sets the first 24,576 work cells to 0,
+// as it must; the Rust implementation does not use them, and is timed both
+// without clearing them and with. The plan is decoded in each timed run.
+
+use std::hint::black_box;
+use std::process::exit;
+use std::time::{Duration, Instant};
+
+use tinshrew_tests::fast::{self, Sound};
+use tinshrew_tests::generate::{full_plan, random_turns, scattered_plan};
+use tinshrew_tests::reference::state::Turn;
+use tinshrew_tests::rng::Rng;
+use tinshrew_tests::subject::{self, Subject};
+
+const WORK: usize = 24_576;
+const LISTS: usize = 32;
+const LEAST_RUNS: usize = 15;
+const LEAST_TIME: Duration = Duration::from_millis(400);
+
+struct Buffers {
+    work: Vec<u16>,
+    lists: Vec<u16>,
+    rng: Rng,
+}
+
+impl Buffers {
+    fn fill(&mut self) {
+        let word = self.rng.word();
+        self.work.fill(word);
+        self.lists.fill(!word);
+    }
+}
+
+/// The median time of a call, each time with buffers full of garbage.
+fn time(buffers: &mut Buffers, mut call: impl FnMut(&mut [u16], &mut [u16])) -> f64 {
+    let mut times = Vec::new();
+    let begin = Instant::now();
+    while times.len() < LEAST_RUNS || begin.elapsed() < LEAST_TIME {
+        buffers.fill();
+        let start = Instant::now();
+        call(black_box(&mut buffers.work), black_box(&mut buffers.lists));
+        times.push(start.elapsed().as_secs_f64());
+    }
+    times.sort_by(f64::total_cmp);
+    times[times.len() / 2] * 1e6
+}
+
+fn call(
+    subject: &Subject,
+    plan: &[u8],
+    turns: Option<&[u8]>,
+    work: &mut [u16],
+    lists: &mut [u16],
+) -> [usize; 6] {
+    let mut out = [usize::MAX; 6];
+    let (w, l) = (work.len(), lists.len());
+    let (work, lists, answer) = (work.as_mut_ptr(), lists.as_mut_ptr(), out.as_mut_ptr());
+    // SAFETY: each pointer has as many elements as stated, `out` has 6.
+    unsafe {
+        match turns {
+            Some(turns) => (subject.run_turns)(
+                plan.as_ptr(), plan.len(), turns.as_ptr(), turns.len(), work, w, lists, l, answer,
+            ),
+            None => (subject.run_round)(plan.as_ptr(), plan.len(), work, w, lists, l, answer),
+        }
+    }
+    out
+}
+
+fn rust(plan: &[u8], turns: Option<&[u8]>, work: &mut [u16], lists: &mut [u16], clear: bool) -> [usize; 6] {
+    let result = match turns {
+        Some(turns) => fast::run_turns(Sound, plan, turns, work, lists, clear),
+        None => fast::run_round(Sound, plan, work, lists, clear),
+    };
+    match result {
+        Ok([a, b, c, d, e]) => [0, a, b, c, d, e],
+        Err((number, place)) => [number, place, 0, 0, 0, 0],
+    }
+}
+
+fn measure(subject: &Subject, what: &str, plan: &[u8], turns: Option<&[u8]>) {
+    let mut buffers =
+        Buffers { work: vec![0; WORK], lists: vec![0; LISTS], rng: Rng::new(3) };
+    buffers.fill();
+    let found = call(subject, plan, turns, &mut buffers.work, &mut buffers.lists);
+    let lists = buffers.lists.clone();
+    buffers.fill();
+    let expected = rust(plan, turns, &mut buffers.work, &mut buffers.lists, true);
+    let n = usize::from(plan[4]);
+    if found != expected || lists[..n] != buffers.lists[..n] {
+        eprintln!("bench: {what}: the answers differ, {found:?} and {expected:?}");
+        exit(1);
+    }
+    let listed: usize = lists[..n].iter().map(|cell| cell.count_ones() as usize).sum();
+    let loaded = fast::check_plan(Sound, plan).map_or(0, |numbers| numbers[3]);
+    let status = ["open", "closed", "bare"][found[1]];
+    println!("{what}: {status}, {} strikes, {} changing turns", loaded - listed, found[2]);
+    let theirs = time(&mut buffers, |work, lists| {
+        black_box(call(subject, black_box(plan), turns, work, lists));
+    });
+    println!("  {:32} {theirs:12.1} us", subject.name);
+    for (name, clear) in [("Rust", false), ("Rust, work cells cleared", true)] {
+        let ours = time(&mut buffers, |work, lists| {
+            black_box(rust(black_box(plan), turns, work, lists, clear));
+        });
+        println!("  {name:32} {ours:12.1} us   ratio {:8.2}", theirs / ours);
+    }
+}
+
+/// 32,768 turns, most of them idle: one worker's deeds are left out so that
+/// the plan stays open, and the others soon have nothing to do.
+fn idle_list(rng: &mut Rng) -> Vec<u8> {
+    let turns: Vec<Turn> =
+        Turn::all(8).iter().copied().filter(|turn| turn.encode()[0] != 1).collect();
+    (0..32_768).flat_map(|_| rng.pick(&turns).encode()).collect()
+}
+
+fn main() {
+    let stand_in = match std::env::args().nth(1).as_deref() {
+        None => subject::library(),
+        Some("--self") => Some(subject::reference()),
+        Some("--fast") => Some(subject::efficient()),
+        Some(_) => {
+            eprintln!("usage: bench [--self | --fast]");
+            exit(2)
+        }
+    };
+    let Some(subject) = stand_in else {
+        eprintln!("bench: built without the library; set TINSHREW_LIB and build again");
+        exit(2)
+    };
+    println!("median times; lent buffers hold garbage before each run, filled untimed");
+    let mut rng = Rng::new(11);
+    let all_struck = full_plan(&mut rng, true).encode();
+    let core_kept = full_plan(&mut rng, false).encode();
+    let scattered = scattered_plan(&mut rng, 64).encode();
+    measure(&subject, "round, full plan, every label struck", &all_struck, None);
+    measure(&subject, "round, full plan, a core kept", &core_kept, None);
+    measure(&subject, "round, full random plan", &scattered, None);
+    let idle = idle_list(&mut rng);
+    measure(&subject, "32,768 turns, mostly idle, full plan", &core_kept, Some(&idle));
+    let even = random_turns(&mut rng, 8, 32_768);
+    measure(&subject, "32,768 turns drawn evenly, full plan", &core_kept, Some(&even));
+    measure(&subject, "no turns, full plan", &core_kept, Some(&[]));
+}

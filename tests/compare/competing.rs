@@ -1,0 +1,237 @@
+// Plans and calls with two faults at once, to see which one is declined.
+
+use tinshrew_tests::generate::random_turns;
+use tinshrew_tests::reference::plan::{Plan, Relation};
+use tinshrew_tests::rng::Rng;
+
+/// A section as it will stand in the file.
+#[derive(Clone, Debug)]
+struct Raw {
+    /// The length that is written, if not the content's own.
+    length: Option<usize>,
+    content: Vec<u8>,
+}
+
+impl Raw {
+    fn set(&mut self, at: usize, byte: u8) {
+        if let Some(cell) = self.content.get_mut(at) {
+            *cell = byte;
+        }
+    }
+
+    fn get(&self, at: usize) -> u8 {
+        self.content.get(at).copied().unwrap_or(0)
+    }
+}
+
+/// A call to be made wrong.
+#[derive(Clone, Debug)]
+pub struct Draft {
+    version: u8,
+    head: Raw,
+    variables: Vec<Raw>,
+    rules: Vec<Raw>,
+    tail: Vec<u8>,
+    /// Bytes to keep, from the end.
+    cut: usize,
+    emptied: bool,
+    variable: usize,
+    rule: usize,
+    tables: Vec<usize>,
+    limits: Vec<usize>,
+    pub turns: Vec<u8>,
+    pub work: usize,
+    pub lists: usize,
+}
+
+type Spoil = fn(&mut Draft, &mut Rng);
+
+/// Every single fault.
+pub const FAULTS: &[(&str, Spoil)] = &[
+    ("9 work", |d, r| d.work = r.pick(&[0, 1, 24_575])),
+    ("10 lists", |d, r| d.lists = r.pick(&[0, 1, 31])),
+    ("11 odd", |d, _| d.turns.push(9)),
+    ("11 long", |d, r| d.turns.resize(r.pick(&[65_537, 65_538, 65_540, 70_000]), 0)),
+    ("12 bad turn", |d, r| {
+        let at = r.below(d.turns.len() / 2 + 1) * 2;
+        let bad = r.pick(&[[1, 1], [9, 0], [0, 0], [0, 9], [1, 12], [1, 8], [255, 255]]);
+        d.turns.splice(at..at, bad);
+    }),
+    ("1 empty", |d, _| d.emptied = true),
+    ("1 cut", |d, r| d.cut = r.between(1, 40)),
+    ("1 cut by one", |d, _| d.cut = 1),
+    ("1 head length", |d, r| d.head.length = Some(r.pick(&[256, 4_096, 65_535]))),
+    ("1 variable length", |d, r| d.variable().length = Some(r.pick(&[1_024, 65_535]))),
+    ("1 rule length", |d, r| d.rule().length = Some(r.pick(&[1_024, 65_535]))),
+    ("1 one rule more", |d, _| d.head.set(2, d.rules.len() as u8 + 1)),
+    ("1 one variable more", |d, _| d.head.set(1, d.variables.len() as u8 + 1)),
+    ("2 version", |d, r| d.version = r.pick(&[0, 2, 255])),
+    ("3 head short", |d, r| d.head.content.truncate(r.below(3))),
+    ("3 head long", |d, r| d.head.content.push(r.byte())),
+    ("3 variable under 2", |d, r| {
+        let length = r.below(2);
+        d.variable().content.truncate(length);
+    }),
+    ("3 variable short", |d, r| {
+        let short = r.between(1, 4);
+        let length = d.variable().content.len().saturating_sub(short).max(2);
+        d.variable().content.truncate(length);
+    }),
+    ("3 variable long", |d, r| {
+        let more: Vec<u8> = (0..r.between(1, 4)).map(|_| r.byte()).collect();
+        d.variable().content.extend(more);
+    }),
+    ("3 variable count", |d, _| {
+        let count = d.variable().get(1);
+        d.variable().set(1, count + 1);
+    }),
+    ("3 rule under 3", |d, r| {
+        let length = r.below(3);
+        d.rule().content.truncate(length);
+    }),
+    ("3 rule short", |d, r| {
+        let short = r.between(1, 2);
+        let length = d.rule().content.len().saturating_sub(short).max(3);
+        d.rule().content.truncate(length);
+    }),
+    ("3 rule long", |d, r| {
+        let more: Vec<u8> = (0..r.between(1, 2)).map(|_| r.byte()).collect();
+        d.rule().content.extend(more);
+    }),
+    ("3 other kind", |d, _| {
+        let kind = d.rule().get(2);
+        d.rule().set(2, kind ^ 1);
+    }),
+    ("4 workers", |d, r| d.head.set(0, r.pick(&[0, 9, 255]))),
+    ("4 variables", |d, r| d.head.set(1, r.pick(&[0, 33, 255]))),
+    ("4 rules", |d, r| d.head.set(2, r.pick(&[129, 255]))),
+    ("4 count", |d, r| {
+        let count = r.pick(&[17, 18, 255]);
+        d.variable().set(1, count);
+    }),
+    ("4 count with its length", |d, r| {
+        let count = r.pick(&[17u8, 18, 255]);
+        let more: Vec<u8> = (0..4 * usize::from(count)).map(|_| r.byte()).collect();
+        d.variable().content.truncate(2);
+        d.variable().set(1, count);
+        d.variable().content.extend(more);
+    }),
+    ("5 owner 0", |d, _| d.variable().set(0, 0)),
+    ("5 owner", |d, r| {
+        let owner = r.pick(&[d.head.get(0).wrapping_add(1), 255]);
+        d.variable().set(0, owner);
+    }),
+    ("5 first 0", |d, _| d.rule().set(0, 0)),
+    ("5 both the same", |d, _| {
+        let second = d.rule().get(1);
+        d.rule().set(0, second);
+    }),
+    ("5 exchanged", |d, _| {
+        let (first, second) = (d.rule().get(0), d.rule().get(1));
+        d.rule().set(0, second);
+        d.rule().set(1, first);
+    }),
+    ("5 second", |d, r| {
+        let second = r.pick(&[d.head.get(1).wrapping_add(1), 255]);
+        d.rule().set(1, second);
+    }),
+    ("6 code", |d, r| {
+        let count = d.variable().content.len().saturating_sub(2) / 4;
+        if count >= 2 {
+            let later = r.between(1, count - 1);
+            let earlier = r.below(later);
+            for byte in 2..4 {
+                let copy = d.variable().get(4 * earlier + byte);
+                d.variable().set(4 * later + byte, copy);
+            }
+        }
+    }),
+    ("7 kind", |d, r| {
+        let kind = r.pick(&[2, 3, 128, 255]);
+        d.rule().set(2, kind);
+    }),
+    ("7 bits", |d, r| {
+        if !d.tables.is_empty() && !d.tables.contains(&d.rule) {
+            d.rule = r.pick(&d.tables);
+        }
+        let rows = d.rule().content.len().saturating_sub(3) / 2;
+        if rows > 0 {
+            let at = 3 + 2 * r.below(rows);
+            let high = d.rule().get(at) | 0x80 >> r.below(4);
+            d.rule().set(at, high);
+        }
+    }),
+    ("8 tail", |d, r| d.tail = (0..r.between(1, 9)).map(|_| r.byte()).collect()),
+    ("8 one rule fewer", |d, _| d.head.set(2, d.rules.len() as u8 - 1)),
+];
+
+impl Draft {
+    pub fn new(plan: &Plan, rng: &mut Rng) -> Draft {
+        let bytes = plan.encode();
+        let mut sections = Vec::new();
+        let mut at = 1;
+        while at < bytes.len() {
+            let end = at + 2 + usize::from(bytes[at]) * 256 + usize::from(bytes[at + 1]);
+            sections.push(Raw { length: None, content: bytes[at + 2..end].to_vec() });
+            at = end;
+        }
+        let rules = sections.split_off(1 + plan.variables.len());
+        let variables = sections.split_off(1);
+        let of_kind = |table: bool| -> Vec<usize> {
+            let numbered = plan.rules.iter().enumerate();
+            numbered
+                .filter(|(_, rule)| matches!(rule.relation, Relation::Table(_)) == table)
+                .map(|(number, _)| number)
+                .collect()
+        };
+        let count = rng.below(6);
+        Draft {
+            version: 1,
+            head: sections.remove(0),
+            variable: rng.below(variables.len()),
+            rule: rng.below(rules.len()),
+            tables: of_kind(true),
+            limits: of_kind(false),
+            variables,
+            rules,
+            tail: Vec::new(),
+            cut: 0,
+            emptied: false,
+            turns: random_turns(rng, plan.workers, count),
+            work: 24_576 + rng.below(3),
+            lists: 32 + rng.below(3),
+        }
+    }
+
+    fn variable(&mut self) -> &mut Raw {
+        &mut self.variables[self.variable]
+    }
+
+    fn rule(&mut self) -> &mut Raw {
+        &mut self.rules[self.rule]
+    }
+
+    /// Turns to other sections for the next fault.
+    pub fn move_on(&mut self, rng: &mut Rng) {
+        self.variable = rng.below(self.variables.len());
+        self.rule = match rng.below(3) {
+            0 if !self.tables.is_empty() => rng.pick(&self.tables),
+            1 if !self.limits.is_empty() => rng.pick(&self.limits),
+            _ => rng.below(self.rules.len()),
+        };
+    }
+
+    /// The file's bytes, and the bytes that were cut off.
+    pub fn encode(&self) -> (Vec<u8>, Vec<u8>) {
+        let mut bytes = vec![self.version];
+        for raw in [&self.head].into_iter().chain(&self.variables).chain(&self.rules) {
+            let length = raw.length.unwrap_or(raw.content.len()) as u16;
+            bytes.extend_from_slice(&length.to_be_bytes());
+            bytes.extend_from_slice(&raw.content);
+        }
+        bytes.extend_from_slice(&self.tail);
+        let keep = if self.emptied { 0 } else { bytes.len().saturating_sub(self.cut) };
+        let after = bytes.split_off(keep);
+        (bytes, after)
+    }
+}

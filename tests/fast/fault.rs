@@ -1,0 +1,63 @@
+// Deliberately wrong variants. `Sound` has none of them and costs nothing.
+
+pub trait Faults: Copy {
+    fn has(self, fault: Fault) -> bool;
+}
+
+#[derive(Clone, Copy)]
+pub struct Sound;
+
+impl Faults for Sound {
+    #[inline(always)]
+    fn has(self, _: Fault) -> bool {
+        false
+    }
+}
+
+#[derive(Clone, Copy)]
+pub struct Faulty(pub Fault);
+
+impl Faults for Faulty {
+    #[inline(always)]
+    fn has(self, fault: Fault) -> bool {
+        self.0 == fault
+    }
+}
+
+macro_rules! faults {
+    ($($name:ident)*) => {
+        #[derive(Clone, Copy, Debug, PartialEq, Eq)]
+        pub enum Fault { $($name),* }
+        /// Every fault, in the order of its number.
+        pub const ALL: &[Fault] = &[$(Fault::$name),*];
+    };
+}
+
+faults! {
+    // Plan bytes.
+    CutPlaceIsEnd BoundaryPlaceIsHead HeadRangeFirst Rules129 LengthBeforeCount
+    OwnerBeforeCount CodeBeforeOwner OwnerZero LastCodeUnseen SameVariable
+    SlotsBeforeKind LastRowUnseen TailPlaceIsEnd
+    // Rules.
+    Wraps LimitExcluded UnrecordedJudged ZeroUnrecorded UnjudgedUntied
+    EitherRule LastRuleOnly OneWay
+    // Loading and strikes.
+    CountAfterStrikes NoStrikeAtLoading AllAtLoading OwnStrikeUntreated
+    UnlistedLoses StruckAtOne Descending NewestFirst
+    // Messages and polls.
+    EmptySend SendsOne DeskNotSent SendsCountedEach SenderUncounted
+    ReadGoesFirst CountsLabels FirstPollKept AnswerWithWork AnswerWithOut
+    AnswerAnyCount AnswerMoreLists UnreadyDropsPoll UnreadyCounts AnswersAgain
+    ReplyCarriesWanted IdlePollCounted PollWhenOpen PollsCountedEach MarksKept
+    WantedIsSent ListLeavesPoll EarlierReply LateReply OneMarkLess
+    DroppedReplyIdle ClosesWhenIdle PollsWhenClosed EveryTurnCounts
+    FirstTurnOnly
+    // The round.
+    RoundTreatsFirst RoundReadsDown RoundPollsFirst
+    // The report and the lent buffers.
+    ClearsOneLess ClearsOneMore ClearsAll WritesAllLists NeverBare
+    EmptyOnlyWhenClosed DeclineClears BadTurnLeavesLists
+    // The order of declines and the turn list.
+    ListsBeforeWork WorkOneLess LongestRefused PlanBeforeLength
+    TurnsBeforePlan DeskSends ReadsItself WorkerPolls TurnPlaceInBytes
+}

@@ -1,0 +1,29 @@
+// A plain implementation of the scope document, written from that document
+// alone. Everything is done in the simplest way that can be read next to the
+// text: mailboxes are queues of messages, states are compared as values, the
+// largest lists come from striking unsupported labels until nothing changes.
+
+pub mod largest;
+pub mod plan;
+pub mod run;
+pub mod state;
+pub mod trace;
+pub mod worked;
+
+/// Work cells a run needs and leaves at 0.
+pub const WORK_CELLS: usize = 24_576;
+/// List cells a run needs.
+pub const LIST_CELLS: usize = 32;
+/// Longest turn list in bytes.
+pub const TURN_BYTES: usize = 65_536;
+
+/// A declined call: the number of the reason and its place.
+#[derive(Clone, Copy, Debug, PartialEq, Eq)]
+pub struct Decline {
+    pub number: usize,
+    pub place: usize,
+}
+
+pub fn decline<T>(number: usize, place: usize) -> Result<T, Decline> {
+    Err(Decline { number, place })
+}

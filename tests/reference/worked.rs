@@ -1,0 +1,309 @@
+// The plans worked by hand, for the test program, and the reference's own
+// tests on them.
+
+use super::plan::{Plan, Relation, Rule, Value, Variable, NOT_RECORDED};
+
+/// Bytes from hex digits; blanks do not count.
+pub fn hex(text: &str) -> Vec<u8> {
+    let digits: Vec<u8> =
+        text.chars().filter_map(|c| c.to_digit(16)).map(|digit| digit as u8).collect();
+    digits.chunks(2).map(|pair| pair[0] << 4 | pair[1]).collect()
+}
+
+pub fn plan_p() -> Vec<u8> {
+    hex("01 0003020302 000A 0102 000B012C 000C0384 000A 0202 001501F4 00160320 \
+         000A 0202 001F0064 0020FFFF 0005 010201 04B0 0007 010300 0001 0002")
+}
+
+pub fn turns_t() -> Vec<u8> {
+    hex("0109 010A 0201 0209 0209 020A 0102 0109 0001 0002 000C 0100 0200 010B 020B 0001 0002")
+}
+
+fn variable(owner: usize, values: &[(u16, u16)]) -> Variable {
+    let values = values.iter().map(|&(code, sodium)| Value { code, sodium }).collect();
+    Variable { owner, values }
+}
+
+fn table(first: usize, second: usize, rows: &[u16]) -> Rule {
+    Rule { first, second, relation: Relation::Table(rows.to_vec()) }
+}
+
+fn sodium(first: usize, second: usize, limit: u16) -> Rule {
+    Rule { first, second, relation: Relation::Sodium(limit) }
+}
+
+pub fn no_values() -> Vec<u8> {
+    Plan { workers: 1, variables: vec![variable(1, &[])], rules: vec![] }.encode()
+}
+
+/// One value against one, under a sodium rule.
+pub fn two_figures(limit: u16, one: u16, other: u16) -> Vec<u8> {
+    Plan {
+        workers: 1,
+        variables: vec![variable(1, &[(1, one)]), variable(1, &[(2, other)])],
+        rules: vec![sodium(1, 2, limit)],
+    }
+    .encode()
+}
+
+/// One value against two; each table allows one pair only.
+pub fn half_supports() -> Vec<u8> {
+    Plan {
+        workers: 2,
+        variables: vec![variable(1, &[(1, 0)]), variable(2, &[(1, 0), (2, 0)])],
+        rules: vec![table(1, 2, &[1]), table(1, 2, &[2])],
+    }
+    .encode()
+}
+
+/// Three variables of two values, each two different: consistent, no solution.
+pub fn three_differ() -> Vec<u8> {
+    let values = [(7, 0), (8, NOT_RECORDED)];
+    Plan {
+        workers: 1,
+        variables: vec![variable(1, &values); 3],
+        rules: vec![table(1, 2, &[2, 1]), table(1, 3, &[2, 1]), table(2, 3, &[2, 1])],
+    }
+    .encode()
+}
+
+/// Every worked plan with a turn list, in the document's order.
+pub fn worked() -> Vec<(Vec<u8>, Vec<u8>)> {
+    let (p, t) = (plan_p(), turns_t());
+    let mut cases = vec![(p.clone(), t.clone())];
+    for turns in 0..=t.len() / 2 {
+        cases.push((p.clone(), t[..2 * turns].to_vec()));
+    }
+    for more in ["0109", "000C", "0001", "0201", "020B", "010A"] {
+        cases.push((p.clone(), [t.clone(), hex(more)].concat()));
+    }
+    cases.push((p.clone(), hex("000C 0200 020B 0109 0100 010B")));
+    cases.push((no_values(), hex("000C 0100 010B 0001")));
+    for (limit, one, other) in [
+        (1200, 700, 500),
+        (1200, 700, 501),
+        (0, 300, NOT_RECORDED),
+        (0, 300, 0),
+        (0, 0, 0),
+        (65_535, 65_534, 1),
+        (65_535, 65_534, 2),
+        (65_535, 40_000, 40_000),
+        (10_000, 40_000, 40_000),
+        (0, NOT_RECORDED, NOT_RECORDED),
+    ] {
+        cases.push((two_figures(limit, one, other), vec![]));
+    }
+    cases.push((half_supports(), vec![]));
+    cases.push((three_differ(), vec![]));
+    cases.push((vec![], vec![]));
+    cases.push((vec![1], vec![]));
+    let mut second_version = p.clone();
+    second_version[0] = 2;
+    cases.push((second_version, t.clone()));
+    let seventeen: Vec<(u16, u16)> = (0..17).map(|code| (code, 0)).collect();
+    let too_many = Plan { workers: 1, variables: vec![variable(1, &seventeen)], rules: vec![] };
+    cases.push((too_many.encode(), vec![]));
+    let pair = vec![variable(1, &[(1, 1)]), variable(1, &[(1, 1)])];
+    for rules in [128, 129] {
+        let rules = vec![sodium(1, 2, 2); rules];
+        cases.push((Plan { workers: 1, variables: pair.clone(), rules }.encode(), vec![]));
+    }
+    cases.push((p, hex("0101")));
+    cases
+}
+
+#[cfg(test)]
+mod tests {
+    use super::super::largest::largest_lists;
+    use super::super::plan::{decode, Network};
+    use super::super::run::{check_plan, run_round, run_turns, Report, Run, Status};
+    use super::super::state::Turn;
+    use super::super::{Decline, LIST_CELLS, WORK_CELLS};
+    use super::*;
+
+    fn play(plan: &[u8], turns: &[u8]) -> Result<(Report, Vec<u16>), Decline> {
+        let mut work = vec![7; WORK_CELLS + 1];
+        let mut lists = vec![9; LIST_CELLS + 1];
+        let result = run_turns(plan, turns, &mut work, &mut lists, &mut |_| {});
+        read(result, work, lists)
+    }
+
+    fn round(plan: &[u8]) -> Result<(Report, Vec<u16>), Decline> {
+        let mut work = vec![7; WORK_CELLS + 1];
+        let mut lists = vec![9; LIST_CELLS + 1];
+        let result = run_round(plan, &mut work, &mut lists, &mut |_| {});
+        read(result, work, lists)
+    }
+
+    fn read(
+        result: Result<Run, Decline>,
+        work: Vec<u16>,
+        lists: Vec<u16>,
+    ) -> Result<(Report, Vec<u16>), Decline> {
+        match result {
+            Ok(run) => {
+                let n = run.plan.variables.len();
+                assert!(work[..WORK_CELLS].iter().all(|&cell| cell == 0));
+                assert_eq!(work[WORK_CELLS], 7);
+                assert!(lists[n..].iter().all(|&cell| cell == 9));
+                Ok((run.report(), lists[..n].to_vec()))
+            }
+            Err(decline) => {
+                assert!(work.iter().all(|&cell| cell == 7));
+                assert!(lists.iter().all(|&cell| cell == 9));
+                Err(decline)
+            }
+        }
+    }
+
+    fn report(status: Status, numbers: [usize; 4]) -> Report {
+        let [changed, lists_sent, polls_sent, lowest_empty] = numbers;
+        Report { status, changed, lists_sent, polls_sent, lowest_empty }
+    }
+
+    fn declined(number: usize, place: usize) -> Decline {
+        Decline { number, place }
+    }
+
+    #[test]
+    fn plan_p_and_list_t() {
+        let (p, t) = (plan_p(), turns_t());
+        assert_eq!(p.len(), 58);
+        assert_eq!(decode(&p).unwrap().encode(), p);
+        assert_eq!(check_plan(&p), Ok([2, 3, 2, 6]));
+        let closed = (report(Status::Closed, [17, 2, 1, 0]), vec![1, 3, 1]);
+        assert_eq!(play(&p, &t), Ok(closed.clone()));
+        assert_eq!(play(&p, &[]), Ok((report(Status::Open, [0, 0, 0, 0]), vec![1, 3, 3])));
+        let open = (report(Status::Open, [16, 2, 1, 0]), vec![1, 3, 1]);
+        assert_eq!(play(&p, &t[..32]), Ok(open));
+        for &turn in Turn::all(2) {
+            assert_eq!(play(&p, &[t.clone(), turn.encode().to_vec()].concat()), Ok(closed.clone()));
+        }
+        let early = play(&p, &hex("000C 0200 020B 0109 0100 010B")).unwrap().0;
+        assert_eq!(early, report(Status::Open, [5, 0, 1, 0]));
+        let (rounds, cells) = round(&p).unwrap();
+        assert_eq!((rounds.status, cells), (Status::Closed, vec![1, 3, 1]));
+    }
+
+    #[test]
+    fn bare_plan_meets_its_bound() {
+        let (result, cells) = play(&no_values(), &hex("000C 0100 010B 0001")).unwrap();
+        assert_eq!(result, report(Status::Bare, [4, 0, 1, 1]));
+        assert_eq!(cells, vec![0]);
+        assert_eq!(decode(&no_values()).unwrap().bound(), 4);
+        assert_eq!(play(&no_values(), &[]).unwrap().0.lowest_empty, 1);
+    }
+
+    #[test]
+    fn sodium_limits() {
+        let listed = |limit, one, other| play(&two_figures(limit, one, other), &[]).unwrap().1;
+        assert_eq!(listed(1200, 700, 500), vec![1, 1]);
+        assert_eq!(listed(1200, 700, 501), vec![0, 0]);
+        assert_eq!(listed(0, 300, NOT_RECORDED), vec![1, 1]);
+        assert_eq!(listed(0, 300, 0), vec![0, 0]);
+        assert_eq!(listed(65_535, 65_534, 1), vec![1, 1]);
+        assert_eq!(listed(65_535, 40_000, 40_000), vec![0, 0]);
+    }
+
+    #[test]
+    fn rules_act_together() {
+        assert_eq!(play(&half_supports(), &[]).unwrap().1, vec![0, 0]);
+        let (result, cells) = round(&three_differ()).unwrap();
+        assert_eq!((result.status, result.lists_sent, cells), (Status::Closed, 0, vec![3, 3, 3]));
+    }
+
+    #[test]
+    fn unjudged_rule_ties() {
+        let plan = Plan {
+            workers: 1,
+            variables: vec![variable(1, &[(1, NOT_RECORDED)]), variable(1, &[])],
+            rules: vec![sodium(1, 2, 0)],
+        };
+        assert_eq!(play(&plan.encode(), &[]).unwrap().1, vec![0, 0]);
+    }
+
+    #[test]
+    fn declines() {
+        let p = plan_p();
+        assert_eq!(check_plan(&[]), Err(declined(1, 0)));
+        assert_eq!(check_plan(&[1]), Err(declined(1, 1)));
+        assert_eq!(check_plan(&[2]), Err(declined(2, 0)));
+        for cut in 1..p.len() {
+            assert_eq!(check_plan(&p[..cut]).unwrap_err().number, 1);
+        }
+        assert_eq!(check_plan(&p[..6]), Err(declined(1, 6)));
+        assert_eq!(check_plan(&p[..57]), Err(declined(1, 49)));
+        let changed = |at: usize, byte: u8| {
+            let mut bytes = p.clone();
+            bytes[at] = byte;
+            check_plan(&bytes).unwrap_err()
+        };
+        assert_eq!(changed(2, 2), declined(3, 1));
+        assert_eq!(changed(3, 0), declined(4, 1));
+        assert_eq!(changed(3, 9), declined(4, 1));
+        assert_eq!(changed(4, 33), declined(4, 1));
+        assert_eq!(changed(5, 129), declined(4, 1));
+        assert_eq!(changed(7, 1), declined(3, 6));
+        assert_eq!(changed(9, 17), declined(4, 6));
+        assert_eq!(changed(9, 1), declined(3, 6));
+        assert_eq!(changed(8, 0), declined(5, 6));
+        assert_eq!(changed(8, 3), declined(5, 6));
+        assert_eq!(changed(15, 11), declined(6, 6));
+        assert_eq!(changed(46, 2), declined(7, 42));
+        assert_eq!(changed(44, 2), declined(5, 42));
+        assert_eq!(changed(45, 4), declined(5, 42));
+        assert_eq!(changed(46, 0), declined(3, 42));
+        assert_eq!(changed(55, 4), declined(7, 49));
+        assert_eq!(check_plan(&[p.clone(), vec![0]].concat()), Err(declined(8, 58)));
+        assert_eq!(play(&p, &hex("0101")), Err(declined(12, 0)));
+        assert_eq!(play(&p, &hex("0109 000C 0009 0101")), Err(declined(12, 2)));
+        assert_eq!(play(&[], &[1]), Err(declined(11, 0)));
+        assert_eq!(play(&p, &vec![0; 65_538]), Err(declined(11, 0)));
+        assert_eq!(play(&p, &hex("000C").repeat(32_768)).unwrap().0.changed, 1);
+        let mut work = vec![0; WORK_CELLS];
+        let mut lists = vec![0; LIST_CELLS];
+        let mut call = |w: usize, l: usize| {
+            run_turns(&[], &[1], &mut work[..w], &mut lists[..l], &mut |_| {}).unwrap_err()
+        };
+        assert_eq!(call(WORK_CELLS - 1, 0), declined(9, 0));
+        assert_eq!(call(WORK_CELLS, 31), declined(10, 0));
+        assert_eq!(call(WORK_CELLS, 32), declined(11, 0));
+    }
+
+    #[test]
+    fn allowed_turns() {
+        for p in 1..=8 {
+            // A worker reads from p actors and has three more deeds.
+            assert_eq!(Turn::all(p).len(), p * (p + 3) + p + 1);
+            for &turn in Turn::all(p) {
+                let [actor, deed] = turn.encode();
+                assert_eq!(Turn::decode(p, actor, deed), Some(turn));
+            }
+        }
+    }
+
+    #[test]
+    fn idle_turns_are_those_without_use() {
+        for (plan, turns) in worked() {
+            let (Ok(plan), [_, _, ..]) = (decode(&plan), &turns[..]) else { continue };
+            let mut run = Run::load(plan);
+            for pair in turns.chunks(2) {
+                for &turn in Turn::all(run.plan.workers) {
+                    let mut other = run.clone();
+                    other.turn(turn);
+                    assert_eq!(other.changed > run.changed, run.state.has_use(turn));
+                }
+                let Some(turn) = Turn::decode(run.plan.workers, pair[0], pair[1]) else { break };
+                run.turn(turn);
+            }
+        }
+    }
+
+    #[test]
+    fn largest_lists_of_p() {
+        let plan = decode(&plan_p()).unwrap();
+        let network = Network::new(&plan);
+        let largest = largest_lists(&plan, &network);
+        assert_eq!(largest, vec![vec![true, false], vec![true, true], vec![true, false]]);
+    }
+}
