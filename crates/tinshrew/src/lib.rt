@@ -1,5 +1,5 @@
 // The library that is delivered: the plan check, the turn run and the round run. None of them asks anything of its caller.
-// What a caller may conclude stands in proofs/Conclusions.antt.
+// What their outcomes promise is proved of `turnRun` and `roundRun` in the crate disac4 (proofs/Demands.antt).
 use disac4::Answer;
 use disac4::Report;
 use engine::Progress;
