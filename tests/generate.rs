@@ -186,7 +186,8 @@ pub fn full_plan(rng: &mut Rng, strictly: bool) -> Plan {
 }
 
 /// A full plan with 128 tables of even density, `part` of 256 pairs allowed,
-/// on pairs of variables drawn evenly. Around 64 it loses a part of its labels.
+/// on pairs of variables drawn evenly. Below about 90 it mostly loses every
+/// label, above about 100 only some.
 pub fn scattered_plan(rng: &mut Rng, part: usize) -> Plan {
     let mut plan = chain_plan(rng, 8, 32, 16);
     plan.rules.clear();

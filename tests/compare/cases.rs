@@ -229,7 +229,7 @@ fn drawn(rng: &mut Rng) -> Case {
             "chain" => chain(rng),
             "full" if rng.chance(1, 4) => random_plan(rng, FULL, true),
             "full" => {
-                let part = rng.between(35, 110);
+                let part = rng.between(50, 130);
                 scattered_plan(rng, part)
             }
             _ => full_chain(rng),
