@@ -15,16 +15,17 @@ use Rattle.disac4.specs.System.{System, systemOf}
 use Rattle.disac4.specs.Turn.{Turn, turn, isSome}
 use Rattle.disac4.specs.declared.Tally.{Tally}
 use Rattle.engine.proofs.RunLaws.{workers-are, one-and}
-use Rattle.engine.proofs.Start.{fits-regions}
-use Rattle.engine.proofs.Underway.{under-inv, under-ready, under-small, at-next}
-use Rattle.engine.specs.Allowed.{Listed}
-use Rattle.engine.specs.Inv.{Inv, Code}
-use Rattle.engine.specs.Layout.{WORKERS, WORK, HEAD, TAIL}
-use Rattle.engine.specs.Memory.{memOf}
-use Rattle.engine.specs.Run.{turnOn, At, Going, Plays, Playable}
-use Rattle.engine.specs.Step.{Machine, machine, Hears, stepM, afterM}
-use Rattle.engine.specs.declared.Heard.{Heard}
-use Rattle.engine.specs.declared.Progress.{Progress}
+use Rattle.refinement.proofs.Start.{fits-regions}
+use Rattle.refinement.proofs.Underway.{under-inv, under-ready, under-small, at-next}
+use Rattle.index.specs.Allowed.{Listed}
+use Rattle.refinement.specs.Inv.{Inv, Code}
+use Rattle.cells.specs.Layout.{WORKERS, WORK, HEAD, TAIL}
+use Rattle.cells.specs.Memory.{memOf}
+use Rattle.refinement.specs.Run.{turnOn, At, Going, Plays, Playable}
+use Rattle.controller.specs.Controller.{Machine, machine, Hears}
+use Rattle.refinement.specs.Step.{stepM, afterM}
+use Rattle.controller.specs.declared.Heard.{Heard}
+use Rattle.refinement.specs.declared.Progress.{Progress}
 use Rattle.plan.proofs.Parts.{variables-read}
 use Rattle.plan.specs.Decode.{planFault, planOf}
 use Rattle.plan.specs.Format.{workerCount, variableCount}

@@ -10,14 +10,14 @@ use Rattle.disac4.specs.State.{State}
 use Rattle.disac4.specs.System.{System, systemOf}
 use Rattle.disac4.specs.Turn.{Turn}
 use Rattle.disac4.specs.declared.Report.{Report}
-use Rattle.engine.proofs.Behind.{behind-same}
-use Rattle.engine.proofs.Underway.{under-ready, under-view, under-behind, under-changes, under-sends, under-polls}
-use Rattle.engine.specs.Memory.{Mem, memOf}
-use Rattle.engine.specs.Index.{Ready}
-use Rattle.engine.specs.Run.{viewOf, At, Going, reportM, Finishes}
-use Rattle.engine.specs.Step.{machine}
-use Rattle.engine.specs.View.{view}
-use Rattle.engine.specs.declared.Progress.{Progress}
+use Rattle.refinement.proofs.Behind.{behind-same}
+use Rattle.refinement.proofs.Underway.{under-ready, under-view, under-behind, under-changes, under-sends, under-polls}
+use Rattle.cells.specs.Memory.{Mem, memOf}
+use Rattle.index.specs.Index.{Ready}
+use Rattle.refinement.specs.Run.{viewOf, At, Going, reportM, Finishes}
+use Rattle.controller.specs.Controller.{machine}
+use Rattle.cells.specs.View.{view}
+use Rattle.refinement.specs.declared.Progress.{Progress}
 use Rattle.plan.specs.Decode.{planFault, planOf}
 
 module _ (b : List ℕ) (sound : planFault b ≡ none) (m : Mem) (ts : List Turn) (cells : List ℕ) (g : Progress)

@@ -7,9 +7,9 @@ use native.Mathlib.Omega.{arith}
 use lib.ListN.{length}
 use Rattle.base.specs.Below.{gatherBelow}
 use Rattle.disac4.specs.Turn.{Turn}
-use Rattle.engine.proofs.Underway.{plays-none, plays-then, still-going}
-use Rattle.engine.specs.Run.{Going, Plays}
-use Rattle.engine.specs.declared.Progress.{Progress}
+use Rattle.refinement.proofs.Underway.{plays-none, plays-then, still-going}
+use Rattle.refinement.specs.Run.{Going, Plays}
+use Rattle.refinement.specs.declared.Progress.{Progress}
 
 -- a run goes on after turns that keep the number of cells
 pub goes-after : (b : List ℕ) (us : List Turn) (cells cells′ : List ℕ) (g g′ : Progress) → Going b cells g

@@ -18,13 +18,13 @@ use Rattle.disac4.specs.Turn.{Turn, play}
 use Rattle.engine.proofs.Playing.{goes-after}
 use Rattle.engine.proofs.RoundsLeft.{left, roundOn, left-loaded, left-closed, left-lowers, left-open}
 use Rattle.engine.proofs.RunLaws.{workers-are}
-use Rattle.engine.proofs.Start.{fits-regions}
-use Rattle.engine.proofs.Underway.{under-view, plays-none, plays-then}
+use Rattle.refinement.proofs.Start.{fits-regions}
+use Rattle.refinement.proofs.Underway.{under-view, plays-none, plays-then}
 use Rattle.engine.specs.Play.{Begun, PlaysRounds}
-use Rattle.engine.specs.Run.{viewOf, At, Going, Plays}
-use Rattle.engine.specs.Step.{machine}
-use Rattle.engine.specs.View.{view}
-use Rattle.engine.specs.declared.Progress.{Progress}
+use Rattle.refinement.specs.Run.{viewOf, At, Going, Plays}
+use Rattle.controller.specs.Controller.{machine}
+use Rattle.cells.specs.View.{view}
+use Rattle.refinement.specs.declared.Progress.{Progress}
 use Rattle.plan.specs.Format.{workerCount}
 
 -- the state that the cells and the tally stand for

@@ -17,17 +17,18 @@ use Rattle.disac4.specs.Outcome.{overwrite, workNeed, systemAt}
 use Rattle.disac4.specs.System.{System, systemOf}
 use Rattle.disac4.specs.Turn.{Turn, turn, isSome, allowed, treatNumber, sendNumber, answerNumber, pollNumber}
 use Rattle.disac4.specs.declared.Tally.{Tally}
-use Rattle.engine.proofs.Behind.{cleared-memory}
-use Rattle.engine.proofs.Chains.{indexed}
-use Rattle.engine.specs.Index.{Ready, Indexed, indexM}
-use Rattle.engine.specs.Layout.{HEADS}
-use Rattle.engine.specs.Load.{clearedM, loadM}
-use Rattle.engine.specs.Memory.{Mem, memOf, left, changed, Acts}
-use Rattle.engine.specs.Messages.{sendM, answerM, readPollM, readListM}
-use Rattle.engine.specs.Run.{freshTally, startM, workerOn, turnOn}
-use Rattle.engine.specs.Step.{Machine, machine, Hears, withMem, readM, workerM, hearM, pollM, stepM}
-use Rattle.engine.specs.Treat.{treatM}
-use Rattle.engine.specs.declared.Heard.{Heard}
+use Rattle.refinement.proofs.Behind.{cleared-memory}
+use Rattle.index.proofs.Chains.{indexed}
+use Rattle.index.specs.Index.{Ready, Indexed, indexM}
+use Rattle.cells.specs.Layout.{HEADS}
+use Rattle.counters.specs.Load.{clearedM, loadM}
+use Rattle.cells.specs.Memory.{Mem, memOf, left, changed, Acts}
+use Rattle.messages.specs.Messages.{sendM, answerM, readPollM, readListM}
+use Rattle.refinement.specs.Run.{freshTally, startM, workerOn, turnOn}
+use Rattle.controller.specs.Controller.{Machine, machine, Hears, hearM, pollM}
+use Rattle.refinement.specs.Step.{withMem, readM, workerM, stepM}
+use Rattle.counters.specs.Treat.{treatM}
+use Rattle.controller.specs.declared.Heard.{Heard}
 use Rattle.plan.specs.Decode.{planFault, planOf}
 use Rattle.plan.specs.Format.{workerCount}
 

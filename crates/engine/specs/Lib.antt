@@ -1,13 +1,1 @@
-pub mod Allowed
-pub mod Index
-pub mod Inv
-pub mod Layout
-pub mod Lists
-pub mod Load
-pub mod Memory
-pub mod Messages
 pub mod Play
-pub mod Run
-pub mod Step
-pub mod Treat
-pub mod View

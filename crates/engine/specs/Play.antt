@@ -8,9 +8,9 @@ use lib.Dec.{ltb}
 use lib.ListN.{length}
 use Rattle.disac4.specs.Outcome.{systemAt}
 use Rattle.disac4.specs.Round.{roundRunTurns}
-use Rattle.engine.specs.Memory.{Mem}
-use Rattle.engine.specs.Run.{At}
-use Rattle.engine.specs.declared.Progress.{Progress}
+use Rattle.cells.specs.Memory.{Mem}
+use Rattle.refinement.specs.Run.{At}
+use Rattle.refinement.specs.declared.Progress.{Progress}
 use Rattle.plan.specs.Decode.{planFault}
 use Rattle.plan.specs.Fault.{decline}
 use Rattle.plan.specs.declared.Decline.{Decline}

@@ -1,15 +1,15 @@
 // A list of turns: whether all of them are allowed, and playing them in turn.
-use crate::Progress;
 use crate::run;
 use crate::turns;
 use base::byte_at;
+use refinement::Progress;
 ghost use mathlib.Core.Option.{none};
 ghost use mathlib.Core.Path.{_≡_};
 ghost use Prim.Native.Nat.{_/_, _≤_};
 ghost use lib.ListN.{length};
 ghost use Rattle.disac4.specs.Turn.{turnFault, turnsOf};
 ghost use Rattle.engine.specs.Play.{badTurn};
-ghost use Rattle.engine.specs.Run.{Going, Plays};
+ghost use Rattle.refinement.specs.Run.{Going, Plays};
 ghost use Rattle.plan.specs.Format.{workerCount};
 
 // The number of the first turn that p workers do not allow; where all are allowed, how many there are.

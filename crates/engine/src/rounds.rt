@@ -1,6 +1,6 @@
 // The round, and rounds until the plan is closed.
-use crate::Progress;
 use crate::run;
+use refinement::Progress;
 ghost use mathlib.Core.Bool.{cond};
 ghost use mathlib.Core.List.{[], _∷_, map};
 ghost use mathlib.Core.Path.{_≡_};
@@ -10,7 +10,7 @@ ghost use Rattle.base.specs.Below.{gatherBelow, listBelow};
 ghost use Rattle.disac4.specs.Round.{others, workerRound, round};
 ghost use Rattle.disac4.specs.Turn.{turn};
 ghost use Rattle.engine.specs.Play.{Begun, PlaysRounds};
-ghost use Rattle.engine.specs.Run.{Going, Plays};
+ghost use Rattle.refinement.specs.Run.{Going, Plays};
 ghost use Rattle.plan.specs.Format.{workerCount};
 
 // Worker k reads from actor j, unless that is itself.

@@ -1,15 +1,13 @@
 // A run: the plan is loaded, and turns are played one after the other.
-use crate::Heard;
-use crate::Progress;
-use crate::clear;
-use crate::controller;
-use crate::index;
-use crate::load;
-use crate::messages;
-use crate::treat;
+use cells::clear;
+use controller::Heard;
+use counters::load;
+use counters::treat;
 use disac4::ListCounter;
 use disac4::Tally;
 use disac4::Timestamp;
+use index::build;
+use refinement::Progress;
 ghost use mathlib.Core.Bool.{true, cond};
 ghost use mathlib.Core.List.{[], _∷_};
 ghost use mathlib.Core.Option.{none};
@@ -19,9 +17,9 @@ ghost use lib.ListN.{length};
 ghost use Rattle.disac4.specs.Outcome.{systemAt};
 ghost use Rattle.disac4.specs.Report.{isSend, isPoll};
 ghost use Rattle.disac4.specs.Turn.{allowed, turn};
-ghost use Rattle.engine.specs.Memory.{memOf, Acts};
-ghost use Rattle.engine.specs.Run.{freshTally, startM, Playable, workerOn, turnOn, Going, Plays};
-ghost use Rattle.engine.specs.Step.{machine, Hears};
+ghost use Rattle.cells.specs.Memory.{memOf, Acts};
+ghost use Rattle.refinement.specs.Run.{freshTally, startM, Playable, workerOn, turnOn, Going, Plays};
+ghost use Rattle.controller.specs.Controller.{machine, Hears};
 ghost use Rattle.plan.specs.Decode.{planFault};
 ghost use Rattle.plan.specs.Format.{workerCount};
 
@@ -44,7 +42,7 @@ pub fn start(b: &[u8], cells: &mut [u16]) -> Tally
     ensures { λ r. ⌜ machine (now (cells .exit)) r ≡ startM (now (b .entry)) (memOf (now (cells .entry))) ⌝ }
 {
     clear::clear(cells);
-    index::index_plan(b, cells);
+    build::index_plan(b, cells);
     load::load_plan(b, cells);
     fresh()
 }

@@ -16,11 +16,11 @@ use Rattle.disac4.specs.declared.Answer.the-variants.{Reported, Declined}
 use Rattle.disac4.specs.declared.Report.{Report}
 use Rattle.disac4.specs.declared.Tally.{Tally}
 use Rattle.engine.proofs.Finishing.{work-of-turns}
-use Rattle.engine.specs.Memory.{Mem, memOf}
+use Rattle.cells.specs.Memory.{Mem, memOf}
 use Rattle.engine.specs.Play.{Begun, PlaysRounds, badTurn}
-use Rattle.engine.specs.Run.{startM, playM, countM, At, Going, Plays, Finishes}
-use Rattle.engine.specs.Step.{machine}
-use Rattle.engine.specs.declared.Progress.{Progress}
+use Rattle.refinement.specs.Run.{startM, playM, countM, At, Going, Plays, Finishes}
+use Rattle.controller.specs.Controller.{machine}
+use Rattle.refinement.specs.declared.Progress.{Progress}
 use Rattle.plan.specs.Decode.{planFault}
 use Rattle.plan.specs.Fault.{decline}
 use Rattle.plan.specs.Format.{workerCount}

@@ -2,10 +2,10 @@
 // What their outcomes promise is proved of `turnRun` and `roundRun` in the crate disac4 (proofs/Demands.antt).
 use disac4::Answer;
 use disac4::Report;
-use engine::Progress;
 use plan::Checked;
 use plan::Decline;
 use plan::Fault;
+use refinement::Progress;
 ghost use mathlib.Core.Bool.{true};
 ghost use mathlib.Core.List.{[]};
 ghost use mathlib.Core.Option.{none};
@@ -15,8 +15,8 @@ ghost use lib.ListN.{length};
 ghost use Rattle.disac4.specs.Outcome.{turnRun, roundRun, systemAt};
 ghost use Rattle.disac4.specs.Round.{roundRunTurns};
 ghost use Rattle.disac4.specs.Turn.{turnListFits, turnFault, turnsOf};
-ghost use Rattle.engine.specs.Memory.{memOf};
-ghost use Rattle.engine.specs.Run.{At};
+ghost use Rattle.cells.specs.Memory.{memOf};
+ghost use Rattle.refinement.specs.Run.{At};
 ghost use Rattle.plan.specs.Answer.{planCheck};
 ghost use Rattle.plan.specs.Decode.{planFault};
 ghost use Rattle.plan.specs.Fault.{decline};

@@ -4,8 +4,8 @@ use denote.Ref.{now}
 use mathlib.Core.Path.{_∙_}
 use native.Mathlib.Omega.{arith}
 use Rattle.disac4.specs.Turn.{turnsOf}
-use Rattle.engine.specs.Memory.{memOf}
-use Rattle.engine.specs.Run.{At}
+use Rattle.cells.specs.Memory.{memOf}
+use Rattle.refinement.specs.Run.{At}
 use Rattle.tinshrew.proofs.Outcomes.{goes, turns-from, ends}
 use Rattle.tinshrew.proofs.play_list.Statement.{statement}
 use Rattle.tinshrew.proofs.play_list.Tie as tie

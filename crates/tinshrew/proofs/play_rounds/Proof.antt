@@ -5,8 +5,8 @@ use mathlib.Core.Path.{_∙_}
 use native.Mathlib.Omega.{arith}
 use Rattle.disac4.specs.Outcome.{systemAt}
 use Rattle.disac4.specs.Round.{roundRunTurns}
-use Rattle.engine.specs.Memory.{memOf}
-use Rattle.engine.specs.Run.{At}
+use Rattle.cells.specs.Memory.{memOf}
+use Rattle.refinement.specs.Run.{At}
 use Rattle.tinshrew.proofs.Outcomes.{loaded, goes, rounds-from, ends}
 use Rattle.tinshrew.proofs.play_rounds.Statement.{statement}
 use Rattle.tinshrew.proofs.play_rounds.Tie as tie

@@ -8,8 +8,8 @@ use Rattle.disac4.proofs.Rounds.{may-poll}
 use Rattle.disac4.specs.Round.{workerRound, round}
 use Rattle.disac4.specs.Turn.{turn}
 use Rattle.engine.proofs.Playing.{goes-after}
-use Rattle.engine.proofs.Underway.{plays-then}
-use Rattle.engine.specs.Run.{Going}
+use Rattle.refinement.proofs.Underway.{plays-then}
+use Rattle.refinement.specs.Run.{Going}
 use Rattle.engine.proofs.rounds.play_round.Statement.{statement}
 use Rattle.engine.proofs.rounds.play_round.Tie as tie
 

@@ -3,7 +3,7 @@ use borrow.Author.Needs.{needs}
 use borrow.Author.Tests.{eq-eqb, ne-eqb}
 use denote.Ref.{now}
 use Rattle.disac4.proofs.Rounds.{may-read}
-use Rattle.engine.proofs.Underway.{plays-none}
+use Rattle.refinement.proofs.Underway.{plays-none}
 use Rattle.engine.proofs.rounds.read_other.Statement.{statement}
 use Rattle.engine.proofs.rounds.read_other.Tie as tie
 

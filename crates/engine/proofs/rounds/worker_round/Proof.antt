@@ -7,8 +7,8 @@ use Rattle.disac4.proofs.Rounds.{may-work}
 use Rattle.disac4.specs.Round.{others, workerRound}
 use Rattle.disac4.specs.Turn.{turn}
 use Rattle.engine.proofs.Playing.{goes-after}
-use Rattle.engine.proofs.Underway.{plays-then}
-use Rattle.engine.specs.Run.{Going}
+use Rattle.refinement.proofs.Underway.{plays-then}
+use Rattle.refinement.specs.Run.{Going}
 use Rattle.engine.proofs.rounds.worker_round.Statement.{statement}
 use Rattle.engine.proofs.rounds.worker_round.Tie as tie
 

@@ -7,8 +7,9 @@ use denote.Ref.{now}
 use Rattle.disac4.specs.Outcome.{systemAt}
 use Rattle.disac4.specs.Turn.{allowed, turn}
 use Rattle.engine.proofs.RunLaws.{hears-as, hears-idle, hears-acts, turn-closed, turn-polls, turn-hears, turn-works, may-work, may-hear, workers-are}
-use Rattle.engine.specs.Run.{turnOn}
-use Rattle.engine.specs.Step.{machine, withMem, workerM, hearM, pollM}
+use Rattle.refinement.specs.Run.{turnOn}
+use Rattle.controller.specs.Controller.{machine, hearM, pollM}
+use Rattle.refinement.specs.Step.{withMem, workerM}
 use borrow.Author.Needs.{needs}
 use Rattle.engine.proofs.run.step.Statement.{statement}
 use Rattle.engine.proofs.run.step.Tie as tie

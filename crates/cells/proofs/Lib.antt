@@ -1,0 +1,6 @@
+pub mod Acting
+pub mod Cleared
+pub mod ListLaws
+pub mod Overwritten
+pub mod Ranges
+pub mod Regions

@@ -1,0 +1,41 @@
+-- Laws by which the code of the lists meets its definitions, over plain memories and numbers.
+use Prim.Native.Nat.{ℕ, _+_, _<_, _≤_}
+use mathlib.Core.Path.{_≡_, sym, _∙_, ap}
+use native.Mathlib.Numerals.{add-one}
+use borrow.Author.Tests.{lt-ltb, le-ltb}
+use Rattle.base.proofs.Choice.{cond-true, cond-false}
+use Rattle.cells.specs.Layout.{WORKERS, LOG, WORK, DOMAIN, TAIL, LOGEND}
+use Rattle.cells.specs.Lists.{pushM, deleteM, copyM}
+use Rattle.cells.specs.Memory.{Mem, store}
+use Rattle.cells.specs.View.{codeOf}
+
+-- ---- a push
+
+module _ (r col i c e : ℕ) (m : Mem) (q : e ≡ m WORKERS i col) where
+  pub pushed : (m₁ m₂ : Mem) → e < 512 → m₁ ≡ store m r i e c → m₂ ≡ store m₁ WORKERS i col (e + 1) → m₂ ≡ pushM r col i c m
+  unfolding pushM
+  pushed m₁ m₂ h p₁ p₂ =
+      p₂ ∙ ap (λ (n : Mem). store n WORKERS i col (e + 1)) p₁
+      ∙ ap (λ (k : ℕ). store (store m r i k c) WORKERS i col (k + 1)) q
+      ∙ sym (cond-true _ m (lt-ltb (m WORKERS i col) 512 (rw q at h)))
+
+  pub unpushed : 512 ≤ e → m ≡ pushM r col i c m
+  unfolding pushM
+  unpushed h = sym (cond-false _ m (le-ltb (m WORKERS i col) 512 (rw q at h)))
+
+-- ---- a deletion
+
+pub deleted : (i x v : ℕ) (m m₁ m₂ m₃ : Mem) → m₁ ≡ store m DOMAIN x v 0 → m₂ ≡ pushM LOG LOGEND i (codeOf x v) m₁
+    → m₃ ≡ pushM WORK TAIL i (codeOf x v) m₂ → m₃ ≡ deleteM i x v m
+unfolding deleteM
+deleted i x v m m₁ m₂ m₃ p₁ p₂ p₃ =
+    p₃ ∙ ap (pushM WORK TAIL i (codeOf x v)) (p₂ ∙ ap (pushM LOG LOGEND i (codeOf x v)) p₁)
+
+-- ---- a copy takes one label more
+
+pub copied : (j i from k c : ℕ) (m m₁ m₂ : Mem) → m₁ ≡ copyM j i from k m → c ≡ m₁ LOG j (from + k)
+    → m₂ ≡ pushM WORK TAIL i c m₁ → m₂ ≡ copyM j i from (k + 1) m
+unfolding copyM
+copied j i from k c m m₁ m₂ p₁ q p₂ =
+    p₂ ∙ ap (λ (d : ℕ). pushM WORK TAIL i d m₁) q ∙ ap (λ (n : Mem). pushM WORK TAIL i (n LOG j (from + k)) n) p₁
+    ∙ ap (λ (n : ℕ). copyM j i from n m) (sym (add-one k))

@@ -1,0 +1,179 @@
+-- The regions lie apart, so a store changes one point of the memory.
+use Prim.Native.Nat.{ℕ, zero, suc, _+_, _*_, _^_, _<_, _≤_}
+use mathlib.Core.Bool.{Bool, true, false, cond, _&&_}
+use mathlib.Core.List.{List}
+use mathlib.Core.Logic.{_⊎_, inl, inr, ⊎-elim}
+use mathlib.Core.Path.{_≡_, refl, sym, _∙_, ap, subst, fun-ext}
+use native.Mathlib.Decide.{ℕ-discrete, decLt}
+use native.Mathlib.Nat.{mul-le-mul-right}
+use native.Mathlib.Omega.{arith}
+use borrow.Author.Tests.{leb-true, lt-ltb, le-ltb, ltb-true, ltb-false, eq-eqb, ne-eqb, eqb-true}
+use lib.Dec.{leb, ltb, eqb}
+use lib.ListN.{length, getD, set, List·getD-eq-default}
+use lib.Seq.{getD-set-same, getD-set-other}
+use Rattle.base.proofs.Below.{all-below, below-cases}
+use Rattle.base.proofs.Bools.{and-left, and-right, and-intro, and-false-left, and-false-right, refuted, clash}
+use Rattle.base.proofs.Choice.{cond-true, cond-false}
+use Rattle.base.specs.Below.{allBelow}
+use Rattle.cells.specs.Layout.{BEHIND, regions, region, regionAt, address, Fits}
+use Rattle.cells.specs.Memory.{Mem, memOf, store}
+use Rattle.cells.specs.declared.Region.{Region}
+
+-- where a region ends
+abbrev ends : Region → ℕ
+ends g = g .base + g .rows * g .cols
+
+-- each region ends before the next begins, computed over the table
+apart : allBelow BEHIND (λ r. leb (ends (regionAt r)) (regionAt (suc r) .base)) ≡ true
+apart = refl
+
+next-apart : (r : ℕ) → r < BEHIND → ends (regionAt r) ≤ regionAt (suc r) .base
+next-apart r h =
+    leb-true (ends (regionAt r)) (regionAt (suc r) .base)
+    (all-below BEHIND (λ r. leb (ends (regionAt r)) (regionAt (suc r) .base)) apart r h)
+
+-- behind the table all is one region
+pub past-table : (r : ℕ) → BEHIND ≤ r → regionAt r ≡ region BEHIND 24576 1 (2 ^ 64)
+past-table r h = List·getD-eq-default regions (region BEHIND 24576 1 (2 ^ 64)) h
+
+before : (r s : ℕ) → r < BEHIND → r < s → ends (regionAt r) ≤ regionAt s .base
+before r zero h l = omega arith
+before r (suc s) h l = ⊎-elim here (λ x. later (before r s h x) x) (below-cases l)
+  where
+    here : r ≡ s → ends (regionAt r) ≤ regionAt (suc s) .base
+    here e = subst (λ (t : ℕ). ends (regionAt r) ≤ regionAt (suc t) .base) e (next-apart r h)
+
+    later : ends (regionAt r) ≤ regionAt s .base → r < s → ends (regionAt r) ≤ regionAt (suc s) .base
+    later ih x =
+        elim (decLt s BEHIND) [
+          | yes y ↦ omega (arith, next-apart s y)
+          | no n ↦ rw (past-table (suc s) (omega arith)) (rw (past-table s (omega arith)) at ih)
+        ]
+
+-- a place lies within its region
+within : (g : Region) (i j : ℕ) → i < g .rows → j < g .cols → address g i j < ends g
+within g i j h l = omega (arith, mul-le-mul-right (g .cols) h)
+
+-- a place of a region of the table is one of the needed cells
+pub place-low : (r i j : ℕ) → r < BEHIND → i < regionAt r .rows → j < regionAt r .cols → address (regionAt r) i j < 24576
+place-low r i j h row col = omega (arith, within (regionAt r) i j row col, before r BEHIND h h)
+
+-- within a region, two places are one only if row and column are
+same-place : (n i j i′ j′ : ℕ) → j < n → j′ < n → i * n + j ≡ i′ * n + j′ → (i ≡ i′) × (j ≡ j′)
+same-place n i j i′ j′ h h′ e =
+    elim (decLt i i′) [
+      | yes l ↦ absurd (omega (arith, mul-le-mul-right n l))
+      | no x ↦ elim (decLt i′ i) [
+        | yes l ↦ absurd (omega (arith, mul-le-mul-right n l))
+        | no y ↦ let s : i ≡ i′ = omega arith in (s, omega (arith, ap (λ (k : ℕ). k * n) s))
+      ]
+    ]
+
+module _ (cells : List ℕ) (r i j : ℕ) (low : r < BEHIND) (row : i < regionAt r .rows) (col : j < regionAt r .cols)
+    (long : 24576 ≤ length cells) where
+  -- the place lies in the cells
+  in-cells : address (regionAt r) i j < length cells
+  in-cells = omega (arith, within (regionAt r) i j row col, before r BEHIND low low)
+
+  -- another place of a region is another cell
+  other-cell : (s k l : ℕ) → k < regionAt s .rows → l < regionAt s .cols → (s ≡ r → l ≡ j → k ≡ i → ⊥)
+      → address (regionAt s) k l ≡ address (regionAt r) i j → ⊥
+  other-cell s k l row′ col′ n e =
+      elim (ℕ-discrete s r) [
+        | yes p ↦ same p
+        | no q ↦ elim (decLt s r) [
+          | yes x ↦ omega (arith, within (regionAt s) k l row′ col′, before s r (omega arith) x)
+          | no y ↦ omega (arith, within (regionAt r) i j row col, before r s low (omega arith))
+        ]
+      ]
+    where
+      same : s ≡ r → ⊥
+      same p =
+          let e′ : address (regionAt r) k l ≡ address (regionAt r) i j =
+          subst (λ (t : ℕ). address (regionAt t) k l ≡ address (regionAt r) i j) p e in
+          let c′ : l < regionAt r .cols = subst (λ (t : ℕ). l < regionAt t .cols) p col′ in
+          let q = same-place (regionAt r .cols) k l i j c′ col (omega arith) in
+          n p (q .1) (q .0)
+
+  -- a read
+  pub mem-get : memOf cells r i j ≡ getD cells (address (regionAt r) i j) 0
+  unfolding memOf
+  mem-get = cond-true _ 0 (and-intro (lt-ltb i (regionAt r .rows) row) (lt-ltb j (regionAt r .cols) col))
+
+  -- a store
+  pub mem-put : (v : ℕ) → memOf (set cells (address (regionAt r) i j) v) ≡ store (memOf cells) r i j v
+  unfolding memOf
+  mem-put v = fun-ext λ s. fun-ext λ k. fun-ext λ l. at-place s k l
+    where
+      inside : ℕ → ℕ → ℕ → Bool
+      inside s k l = ltb k (regionAt s .rows) && ltb l (regionAt s .cols)
+
+      here : ℕ → ℕ → ℕ → Bool
+      here s k l = eqb s r && eqb l j && eqb k i
+
+      new : List ℕ
+      new = set cells (address (regionAt r) i j) v
+
+      apart-here : (s k l : ℕ) → here s k l ≡ false → s ≡ r → l ≡ j → k ≡ i → ⊥
+      apart-here s k l e p q t = clash (and-intro (and-intro (eq-eqb s r p) (eq-eqb l j q)) (eq-eqb k i t)) e
+
+      at-place : (s k l : ℕ)
+          → cond (inside s k l) (getD new (address (regionAt s) k l) 0) 0
+          ≡ cond (here s k l) v (cond (inside s k l) (getD cells (address (regionAt s) k l) 0) 0)
+      at-place s k l = go (inside s k l) refl (here s k l) refl
+        where
+          go : (a : Bool) → inside s k l ≡ a → (b : Bool) → here s k l ≡ b
+              → cond a (getD new (address (regionAt s) k l) 0) 0
+              ≡ cond b v (cond a (getD cells (address (regionAt s) k l) 0) 0)
+          go a e true f =
+              let p : s ≡ r = eqb-true s r (and-left (eqb s r) (eqb l j) (and-left (eqb s r && eqb l j) (eqb k i) f)) in
+              let q : l ≡ j = eqb-true l j (and-right (eqb s r) (eqb l j) (and-left (eqb s r && eqb l j) (eqb k i) f)) in
+              let t : k ≡ i = eqb-true k i (and-right (eqb s r && eqb l j) (eqb k i) f) in
+              cond-true (getD new (address (regionAt s) k l) 0) 0 (sym e ∙ in-range p q t) ∙ at-changed p q t
+            where
+              in-range : s ≡ r → l ≡ j → k ≡ i → inside s k l ≡ true
+              in-range p q t =
+                  rw (p, q, t) (and-intro (lt-ltb i (regionAt r .rows) row) (lt-ltb j (regionAt r .cols) col))
+
+              at-changed : s ≡ r → l ≡ j → k ≡ i → getD new (address (regionAt s) k l) 0 ≡ v
+              at-changed p q t = rw (p, q, t) (getD-set-same cells (address (regionAt r) i j) v 0 in-cells)
+          go true e false f =
+              getD-set-other cells (address (regionAt r) i j) (address (regionAt s) k l) v 0
+              (other-cell s k l
+              (ltb-true k (regionAt s .rows) (and-left (ltb k (regionAt s .rows)) (ltb l (regionAt s .cols)) e))
+              (ltb-true l (regionAt s .cols) (and-right (ltb k (regionAt s .rows)) (ltb l (regionAt s .cols)) e))
+              (apart-here s k l f))
+          go false e false f = refl
+
+-- ---- the same for a region that the code names
+
+module _ (cells : List ℕ) (g : Region) (i j : ℕ) (fits : Fits cells g i j) where
+  -- what holds of the place by the table holds of it by the region
+  by-table : (P : Region → Type 0) → P (regionAt (g .id)) → P g
+  by-table P h = subst P (fits .known) h
+
+  row-known : i < regionAt (g .id) .rows
+  row-known = subst (λ (h : Region). i < h .rows) (sym (fits .known)) (fits .row)
+
+  col-known : j < regionAt (g .id) .cols
+  col-known = subst (λ (h : Region). j < h .cols) (sym (fits .known)) (fits .col)
+
+  -- a place is one of the needed cells
+  pub place-needed : address g i j < 24576
+  place-needed =
+      by-table (λ h. address h i j < 24576)
+      (omega (
+        arith,
+        within (regionAt (g .id)) i j row-known col-known,
+        before (g .id) BEHIND (fits .writable) (fits .writable),
+      ))
+
+  pub get-law : memOf cells (g .id) i j ≡ getD cells (address g i j) 0
+  get-law =
+      by-table (λ h. memOf cells (g .id) i j ≡ getD cells (address h i j) 0)
+      (mem-get cells (g .id) i j (fits .writable) row-known col-known (fits .long))
+
+  pub put-law : (v : ℕ) → memOf (set cells (address g i j) v) ≡ store (memOf cells) (g .id) i j v
+  put-law v =
+      by-table (λ h. memOf (set cells (address h i j) v) ≡ store (memOf cells) (g .id) i j v)
+      (mem-put cells (g .id) i j (fits .writable) row-known col-known (fits .long) v)

@@ -1,0 +1,132 @@
+-- Where everything stands in the work cells: one table of regions. The constants of `src/layout.rt` are its lines.
+use Prim.Native.Nat.{ℕ, _+_, _*_, _^_, _<_, _≤_}
+use mathlib.Core.List.{List, [], _∷_}
+use mathlib.Core.Path.{_≡_}
+use lib.ListN.{length, getD}
+use Rattle.cells.specs.declared.Region.{Region}
+
+-- ---- the regions' numbers
+
+-- a row for each worker: the columns below
+abbrev pub WORKERS : ℕ
+WORKERS = 0
+
+-- how many lists of a sender (row) a reader (column) has read
+abbrev pub CURSORS : ℕ
+CURSORS = 1
+
+-- where each list message of a worker begins in its log, and where the last one ends
+abbrev pub BOUNDS : ℕ
+BOUNDS = 2
+
+-- the labels that a worker has deleted, in order; those behind its last list message are still to be sent
+abbrev pub LOG : ℕ
+LOG = 3
+
+-- each worker's work list, written once from left to right
+abbrev pub WORK : ℕ
+WORK = 4
+
+-- the messages from a worker to the controller: a reply's number, or 1,024 and the number of a list message
+abbrev pub OUT : ℕ
+OUT = 5
+
+-- the wanted count of each poll, by its number
+abbrev pub WANTED : ℕ
+WANTED = 6
+
+-- 65,535 for each value that is in its variable's domain
+abbrev pub DOMAIN : ℕ
+DOMAIN = 7
+
+-- the counters of a variable's values against another: a row for each two variables and side
+abbrev pub COUNTERS : ℕ
+COUNTERS = 8
+
+-- one more than the last constraint over two variables, 0 for none
+abbrev pub HEADS : ℕ
+HEADS = 9
+
+-- where each section of the plan starts
+abbrev pub PLACES : ℕ
+PLACES = 10
+
+-- one more than the constraint before over the same two variables, 0 for none
+abbrev pub NEXT : ℕ
+NEXT = 11
+
+-- the cells behind the needed ones, which no run touches
+abbrev pub BEHIND : ℕ
+BEHIND = 12
+
+-- ---- the columns of a worker's row
+
+-- the work list is what stands from HEAD to TAIL
+abbrev pub HEAD : ℕ
+HEAD = 0
+
+abbrev pub TAIL : ℕ
+TAIL = 1
+
+-- the end of the log
+abbrev pub LOGEND : ℕ
+LOGEND = 2
+
+-- list messages sent
+abbrev pub SENDS : ℕ
+SENDS = 3
+
+-- the list counter
+abbrev pub LISTS : ℕ
+LISTS = 4
+
+-- the number of the held poll, 0 for none
+abbrev pub HELD : ℕ
+HELD = 5
+
+-- polls read
+abbrev pub POLLS : ℕ
+POLLS = 6
+
+-- messages put for the controller, and those that it has read
+abbrev pub OUTEND : ℕ
+OUTEND = 7
+
+abbrev pub OUTREAD : ℕ
+OUTREAD = 8
+
+-- ---- the table
+
+abbrev pub region : ℕ → ℕ → ℕ → ℕ → Region
+region id base rows cols = record { id = id; base = base; rows = rows; cols = cols }
+
+abbrev pub regions : List Region
+regions =
+    region WORKERS 0 8 16
+    ∷ region CURSORS 128 8 16
+    ∷ region BOUNDS 256 8 520
+    ∷ region LOG 4416 8 512
+    ∷ region WORK 8512 8 512
+    ∷ region OUT 12608 8 520
+    ∷ region WANTED 16768 1 520
+    ∷ region DOMAIN 17288 32 16
+    ∷ region COUNTERS 17800 257 16
+    ∷ region HEADS 21912 32 32
+    ∷ region PLACES 22936 1 176
+    ∷ region NEXT 23112 1 128
+    ∷ []
+
+abbrev pub regionAt : ℕ → Region
+regionAt r = getD regions r (region BEHIND 24576 1 (2 ^ 64))
+
+-- the place of a row and column in the cells
+abbrev pub address : Region → ℕ → ℕ → ℕ
+address g i j = g .base + i * g .cols + j
+
+-- the place lies in the region, and the cells are as many as are needed
+pub record Fits (cells : List ℕ) (g : Region) (i j : ℕ) : Type 0 where
+  pub known : regionAt (g .id) ≡ g
+  pub writable : g .id < BEHIND
+  pub row : i < g .rows
+  pub col : j < g .cols
+  pub long : 24576 ≤ length cells

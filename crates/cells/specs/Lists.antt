@@ -1,0 +1,39 @@
+-- The work list and the log in memory: pushing a label, deleting one, and copying a list message.
+use Prim.Native.Nat.{ℕ, zero, suc, _+_, _-_, _<_, _≤_}
+use mathlib.Core.Bool.{cond}
+use mathlib.Core.List.{List}
+use mathlib.Core.Path.{_≡_}
+use lib.Dec.{ltb}
+use lib.ListN.{length}
+use Rattle.cells.specs.Layout.{WORKERS, LOG, WORK, DOMAIN, BEHIND, TAIL, LOGEND, regionAt}
+use Rattle.cells.specs.Memory.{Mem, store}
+use Rattle.cells.specs.View.{codeOf}
+use Rattle.cells.specs.declared.Region.{Region}
+
+-- a push fits: the region is one of lists, LOG or WORK, and row, column and number are in range
+pub record Pushes (cells : List ℕ) (g : Region) (col i c : ℕ) : Type 0 where
+  pub known : regionAt (g .id) ≡ g
+  pub writable : g .id < BEHIND
+  pub rows : g .rows ≡ 8
+  pub cols : g .cols ≡ 512
+  pub row : i < 8
+  pub end : col < 16
+  pub small : c < 65536
+  pub long : 24576 ≤ length cells
+
+-- `c` at the end of row `i` of a region whose end is kept in a column of the worker's row; there is room for 512
+unfoldable pub pushM : ℕ → ℕ → ℕ → ℕ → Mem → Mem
+pushM r col i c m =
+    cond (ltb (m WORKERS i col) 512)
+    (store (store m r i (m WORKERS i col) c) WORKERS i col (m WORKERS i col + 1))
+    m
+
+-- row `i` deletes label `v` of `x`: out of the domain, and at the end of the log and of the work list
+unfoldable pub deleteM : ℕ → ℕ → ℕ → Mem → Mem
+deleteM i x v m =
+    pushM WORK TAIL i (codeOf x v) (pushM LOG LOGEND i (codeOf x v) (store m DOMAIN x v 0))
+
+-- the first `n` labels behind `from` in row `j`'s log join the end of row `i`'s work list
+unfoldable pub copyM : ℕ → ℕ → ℕ → ℕ → Mem → Mem
+copyM j i from zero m = m
+copyM j i from (suc n) m = pushM WORK TAIL i (copyM j i from n m LOG j (from + n)) (copyM j i from n m)

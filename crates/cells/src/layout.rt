@@ -1,0 +1,132 @@
+// The regions of the work cells: the lines of the table in specs/Layout.antt; and reads and stores by row and column.
+use crate::Region;
+ghost use mathlib.Core.Path.{_≡_};
+ghost use Prim.Native.Nat.{_<_};
+ghost use Rattle.cells.specs.Layout.{Fits};
+ghost use Rattle.cells.specs.Memory.{memOf, store};
+
+pub const WORKERS: Region = Region {
+    id: 0,
+    base: 0,
+    rows: 8,
+    cols: 16,
+};
+
+pub const CURSORS: Region = Region {
+    id: 1,
+    base: 128,
+    rows: 8,
+    cols: 16,
+};
+
+pub const BOUNDS: Region = Region {
+    id: 2,
+    base: 256,
+    rows: 8,
+    cols: 520,
+};
+
+pub const LOG: Region = Region {
+    id: 3,
+    base: 4416,
+    rows: 8,
+    cols: 512,
+};
+
+pub const WORK: Region = Region {
+    id: 4,
+    base: 8512,
+    rows: 8,
+    cols: 512,
+};
+
+pub const OUT: Region = Region {
+    id: 5,
+    base: 12608,
+    rows: 8,
+    cols: 520,
+};
+
+pub const WANTED: Region = Region {
+    id: 6,
+    base: 16768,
+    rows: 1,
+    cols: 520,
+};
+
+pub const DOMAIN: Region = Region {
+    id: 7,
+    base: 17288,
+    rows: 32,
+    cols: 16,
+};
+
+pub const COUNTERS: Region = Region {
+    id: 8,
+    base: 17800,
+    rows: 257,
+    cols: 16,
+};
+
+pub const HEADS: Region = Region {
+    id: 9,
+    base: 21912,
+    rows: 32,
+    cols: 32,
+};
+
+pub const PLACES: Region = Region {
+    id: 10,
+    base: 22936,
+    rows: 1,
+    cols: 176,
+};
+
+pub const NEXT: Region = Region {
+    id: 11,
+    base: 23112,
+    rows: 1,
+    cols: 128,
+};
+
+// The columns of a worker's row.
+pub const HEAD: usize = 0;
+
+pub const TAIL: usize = 1;
+
+pub const LOGEND: usize = 2;
+
+pub const SENDS: usize = 3;
+
+pub const LISTS: usize = 4;
+
+pub const HELD: usize = 5;
+
+pub const POLLS: usize = 6;
+
+pub const OUTEND: usize = 7;
+
+pub const OUTREAD: usize = 8;
+
+// The mark of a list message among the messages to the controller.
+pub const LISTMARK: usize = 1024;
+
+// What stands at a row and column of a region.
+pub fn get(cells: &[u16], g: Region, i: usize, j: usize) -> usize
+    requires { ⌜ Fits (now cells) g i j ⌝ }
+    ensures { λ r. ⌜ (r ≡ memOf (now (cells .entry)) (g .id) i j) × (r < 65536) ⌝ }
+{
+    let base = g.base;
+    let cols = g.cols;
+    cells[base + i * cols + j] as usize
+}
+
+// Puts a number at a row and column of a region.
+pub fn put(cells: &mut [u16], g: Region, i: usize, j: usize, v: usize)
+    requires { ⌜ Fits (now cells) g i j × (v < 65536) ⌝ }
+    ensures { λ r. ⌜ memOf (now (cells .exit)) ≡ store (memOf (now (cells .entry))) (g .id) i j v ⌝ }
+{
+    let base = g.base;
+    let cols = g.cols;
+    cells[base + i * cols + j] = v as u16;
+}

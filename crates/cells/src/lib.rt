@@ -1,0 +1,12 @@
+// The work cells: where each part of a state stands, and the lists that workers keep in them.
+pub mod clear;
+pub mod layout;
+pub mod lists;
+
+// A part of the work cells: rows of as many columns, from a fixed place on.
+pub struct Region {
+    pub id: usize,
+    pub base: usize,
+    pub rows: usize,
+    pub cols: usize,
+}

@@ -1,0 +1,15 @@
+-- `controller::asks` says whether a poll is sent. Assumes nothing.
+use Rattle.controller.proofs.asks.Statement.{statement}
+use Rattle.controller.proofs.asks.Tie as tie
+use Rattle.controller.specs.Controller.{asksT}
+
+returns : tie.Need-returns
+unfolding asksT
+returns c = rw (c .if1 .taken)
+
+returns-2 : tie.Need-returns-2
+unfolding asksT
+returns-2 c = rw (c .if1 .left)
+
+pub asks-spec : {M : Type 1} → statement M
+asks-spec = tie.close (tie.spec returns returns-2)

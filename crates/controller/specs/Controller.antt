@@ -1,0 +1,104 @@
+-- The controller's actions in memory: poll and read, on the work cells and the tally beside them. A test against a region's
+-- size stands for room that the refinement shows is never lacking.
+use Prim.Native.Nat.{ℕ, _+_, _^_}
+use mathlib.Core.Bool.{Bool, true, false, cond, _&&_, not}
+use mathlib.Core.List.{List}
+use mathlib.Core.Option.{Option, none, some, Option·getD}
+use mathlib.Core.Path.{_≡_}
+use lib.Dec.{leb, ltb, eqb}
+use Rattle.base.specs.Row.{bit}
+use Rattle.cells.specs.Layout.{OUT, WANTED, WORKERS, OUTEND, OUTREAD}
+use Rattle.cells.specs.Memory.{Mem, memOf, store, changed}
+use Rattle.cells.specs.View.{LISTMARK}
+use Rattle.disac4.specs.System.{System}
+use Rattle.disac4.specs.declared.ListCounter.{ListCounter}
+use Rattle.disac4.specs.declared.Tally.{Tally}
+use Rattle.disac4.specs.declared.Timestamp.{Timestamp}
+use Rattle.controller.specs.declared.Heard.{Heard}
+
+-- the work cells as a memory, and the tally beside them
+pub record Machine : Type 0 where
+  pub mem : Mem
+  pub tally : Tally
+
+abbrev pub machine : List ℕ → Tally → Machine
+machine cells t = record { mem = memOf cells; tally = t }
+
+-- what an action of the controller does to cells and tally: what its definition leaves, and 1 where that changes something
+pub record Hears (act : Machine → Option Machine) (before : List ℕ) (t : Tally) (after : List ℕ) (r : Heard) : Type 0 where
+  pub mem : memOf after ≡ Option·getD (act (machine before t)) (machine before t) .mem
+  pub tally : r .tally ≡ Option·getD (act (machine before t)) (machine before t) .tally
+  pub count : r .changed ≡ changed (act (machine before t))
+
+-- ---- Poll
+
+-- the tally after a poll was sent
+unfoldable pub askedT : Tally → Tally
+askedT t = record {
+  lists = t .lists;
+  timestamp = record { 0 = t .timestamp .0 + 1 };
+  polling = true;
+  marks = 0;
+  closed = t .closed;
+}
+
+-- whether a poll is sent
+unfoldable pub asksT : Tally → Bool
+asksT t = not (t .polling) && ltb (t .timestamp .0) 519
+
+unfoldable pub askM : Tally → Mem → Mem
+askM t m = store m WANTED 0 (t .timestamp .0 + 1) (t .lists .0)
+
+-- the controller polls
+unfoldable pub pollM : Machine → Option Machine
+pollM s =
+    cond (asksT (s .tally)) (some (record { mem = askM (s .tally) (s .mem); tally = askedT (s .tally) })) none
+
+-- ---- Read, controller
+
+-- a list message adds one to the count and ends an open poll
+unfoldable pub countedT : Tally → Tally
+countedT t = record {
+  lists = record { 0 = t .lists .0 + 1 };
+  timestamp = t .timestamp;
+  polling = false;
+  marks = t .marks;
+  closed = t .closed;
+}
+
+-- a row of marks with that of row `i`
+unfoldable pub withMark : ℕ → ℕ → ℕ
+withMark marks i = cond (bit marks i) marks (marks + 2 ^ i)
+
+-- a reply to the open poll marks its worker; with all `p` marked, the plan is closed
+unfoldable pub markedT : ℕ → ℕ → Tally → Tally
+markedT p i t = record {
+  lists = t .lists;
+  timestamp = t .timestamp;
+  polling = t .polling;
+  marks = withMark (t .marks) i;
+  closed = eqb (withMark (t .marks) i + 1) (2 ^ p);
+}
+
+-- the tally after a message from row `i` was read: a list message, a reply to the open poll, or another reply
+unfoldable pub toldT : ℕ → ℕ → ℕ → Tally → Tally
+toldT p i c t =
+    cond (leb LISTMARK c) (countedT t) (cond (t .polling) (cond (eqb c (t .timestamp .0)) (markedT p i t) t) t)
+
+-- whether the controller finds a message from row `i`
+unfoldable pub hasOut : ℕ → Tally → Mem → Bool
+hasOut i t m =
+    ltb (m WORKERS i OUTREAD) (m WORKERS i OUTEND) && ltb (m WORKERS i OUTREAD) 520 && ltb (t .lists .0) 65535
+
+unfoldable pub outReadM : ℕ → Mem → Mem
+outReadM i m = store m WORKERS i OUTREAD (m WORKERS i OUTREAD + 1)
+
+-- the controller reads from row `i`
+unfoldable pub hearM : System → ℕ → Machine → Option Machine
+hearM sys i s =
+    cond (hasOut i (s .tally) (s .mem))
+    (some (record {
+      mem = outReadM i (s .mem);
+      tally = toldT (sys .workers) i (s .mem OUT i (s .mem WORKERS i OUTREAD)) (s .tally);
+    }))
+    none

@@ -1,0 +1,173 @@
+// The controller's tally by value, and the controller's actions: poll and read.
+use cells::layout::LISTMARK;
+use cells::layout::OUT;
+use cells::layout::OUTEND;
+use cells::layout::OUTREAD;
+use cells::layout::WANTED;
+use cells::layout::WORKERS;
+use cells::layout::get;
+use cells::layout::put;
+use disac4::ListCounter;
+use disac4::Tally;
+use disac4::Timestamp;
+ghost use mathlib.Core.Path.{_≡_};
+ghost use Prim.Native.Nat.{_<_, _≤_};
+ghost use lib.ListN.{length};
+ghost use Rattle.disac4.specs.System.{System};
+ghost use Rattle.controller.specs.Controller.{askedT, asksT, countedT, withMark, markedT, toldT};
+ghost use Rattle.controller.specs.Controller.{pollM, hearM, Hears};
+
+// What an action of the controller gives: 1 where it changed something, and the tally after it.
+pub struct Heard {
+    pub changed: usize,
+    pub tally: Tally,
+}
+
+// The tally after a poll was sent.
+pub fn asked(t: Tally) -> Tally
+    requires { ⌜ t .timestamp .0 < 519 ⌝ }
+    ensures { λ r. ⌜ r ≡ askedT t ⌝ }
+{
+    let lists = t.lists;
+    let at = t.timestamp;
+    Tally {
+        lists: lists,
+        timestamp: Timestamp(at.0 + 1),
+        polling: true,
+        marks: 0,
+        closed: t.closed,
+    }
+}
+
+// Whether a poll is sent: none is open, and there is room for its number.
+pub fn asks(t: Tally) -> bool
+    ensures { λ r. ⌜ r ≡ asksT t ⌝ }
+{
+    let at = t.timestamp;
+    let n = at.0;
+    if t.polling {
+        return false;
+    }
+    n < 519
+}
+
+// A list message adds one to the count and ends an open poll.
+fn counted(t: Tally) -> Tally
+    requires { ⌜ t .lists .0 < 65535 ⌝ }
+    ensures { λ r. ⌜ r ≡ countedT t ⌝ }
+{
+    let lists = t.lists;
+    let at = t.timestamp;
+    Tally {
+        lists: ListCounter(lists.0 + 1),
+        timestamp: at,
+        polling: false,
+        marks: t.marks,
+        closed: t.closed,
+    }
+}
+
+// A row of marks with that of row `i`.
+fn with_mark(marks: usize, i: usize) -> usize
+    requires { ⌜ (marks < 256) × (i < 8) ⌝ }
+    ensures { λ r. ⌜ (r ≡ withMark marks i) × (r < 256) ⌝ }
+{
+    if (marks >> i) % 2 == 1 {
+        marks
+    } else {
+        marks + (1 << i)
+    }
+}
+
+// A reply to the open poll marks its worker; with all `p` marked, the plan is closed.
+fn marked(t: Tally, p: usize, i: usize) -> Tally
+    requires { ⌜ (t .marks < 256) × (i < 8) × (p ≤ 8) ⌝ }
+    ensures { λ r. ⌜ r ≡ markedT p i t ⌝ }
+{
+    let lists = t.lists;
+    let at = t.timestamp;
+    let marks = with_mark(t.marks, i);
+    Tally {
+        lists: lists,
+        timestamp: at,
+        polling: t.polling,
+        marks: marks,
+        closed: marks + 1 == 1 << p,
+    }
+}
+
+// The tally after the message `c` from row `i` was read.
+pub fn told(t: Tally, p: usize, i: usize, c: usize) -> Tally
+    requires { ⌜ (t .lists .0 < 65535) × (t .marks < 256) × (i < 8) × (p ≤ 8) ⌝ }
+    ensures { λ r. ⌜ r ≡ toldT p i c t ⌝ }
+{
+    let at = t.timestamp;
+    let n = at.0 as usize;
+    if c >= LISTMARK {
+        return counted(t);
+    }
+    if !t.polling {
+        return t;
+    }
+    if c != n {
+        return t;
+    }
+    marked(t, p, i)
+}
+
+// Poll: where none is open, the controller sends the next one, with its count of lists.
+pub fn poll(cells: &mut [u16], t: Tally) -> Heard
+    requires { ⌜ 24576 ≤ length (now cells) ⌝ }
+    ensures { λ r. ⌜ Hears pollM (now (cells .entry)) t (now (cells .exit)) r ⌝ }
+{
+    if !asks(t) {
+        return Heard {
+            changed: 0,
+            tally: t,
+        };
+    }
+    let at = t.timestamp;
+    let n = at.0 as usize;
+    let lists = t.lists;
+    let wanted = lists.0 as usize;
+    put(cells, WANTED, 0, n + 1, wanted);
+    Heard {
+        changed: 1,
+        tally: asked(t),
+    }
+}
+
+// Read: the controller takes the next message of row `i`, of `p` workers.
+pub fn hear(cells: &mut [u16], t: Tally, p: usize, i: usize) -> Heard
+    requires { ⌜ (24576 ≤ length (now cells)) × (t .marks < 256) × (i < 8) × (p ≤ 8) ⌝ }
+    ensures { λ r. ⌜ ((sys : System) → sys .workers ≡ p → Hears (hearM sys i) (now (cells .entry)) t (now (cells .exit)) r) ⌝ }
+{
+    let lists = t.lists;
+    let n = lists.0;
+    let read = get(cells, WORKERS, i, OUTREAD);
+    let end = get(cells, WORKERS, i, OUTEND);
+    if read >= end {
+        return Heard {
+            changed: 0,
+            tally: t,
+        };
+    }
+    if read >= 520 {
+        return Heard {
+            changed: 0,
+            tally: t,
+        };
+    }
+    if n >= 65535 {
+        return Heard {
+            changed: 0,
+            tally: t,
+        };
+    }
+    let c = get(cells, OUT, i, read);
+    put(cells, WORKERS, i, OUTREAD, read + 1);
+    Heard {
+        changed: 1,
+        tally: told(t, p, i, c),
+    }
+}

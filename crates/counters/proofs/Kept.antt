@@ -1,0 +1,133 @@
+-- The index stays as it is: neither treating nor loading labels stores into its regions.
+use Prim.Native.Nat.{ℕ, zero, suc, _+_, _*_, _-_, _<_}
+use mathlib.Core.Bool.{Bool, true, false, cond}
+use mathlib.Core.List.{List}
+use mathlib.Core.Path.{_≡_, refl, _∙_, ap}
+use native.Mathlib.Omega.{arith}
+use lib.Dec.{ltb, eqb}
+use lib.ListN.{length}
+use Rattle.base.specs.Below.{one}
+use Rattle.disac4.specs.Loading.{unsupported}
+use Rattle.disac4.specs.System.{System}
+use Rattle.network.specs.Network.{supportCount}
+use Rattle.index.proofs.Chains.{store-apart, indexed-kept}
+use Rattle.index.specs.Index.{Ready}
+use Rattle.cells.specs.Layout.{WORKERS, LOG, WORK, DOMAIN, COUNTERS, HEADS, PLACES, NEXT, TAIL, LOGEND}
+use Rattle.cells.specs.Lists.{pushM, deleteM}
+use Rattle.counters.specs.Load.{countM, loadLabelM, loadValuesM, loadVariablesM}
+use Rattle.cells.specs.Memory.{Mem, memOf, store}
+use Rattle.counters.specs.Treat.{loseM, touchM, touchValuesM, touchVariableM, touchVariablesM}
+use Rattle.cells.specs.View.{LISTED, codeOf, counterRow}
+
+-- the regions of the index are in `n` what they are in `m`
+pub record Kept (m n : Mem) : Type 0 where
+  pub heads : (i j : ℕ) → n HEADS i j ≡ m HEADS i j
+  pub places : (i j : ℕ) → n PLACES i j ≡ m PLACES i j
+  pub nexts : (i j : ℕ) → n NEXT i j ≡ m NEXT i j
+
+-- cells of the same length whose memory keeps the index are ready too
+pub ready-kept : (b old new : List ℕ) {n : Mem} → Ready b old → length new ≡ length old → memOf new ≡ n
+    → Kept (memOf old) n → Ready b new
+ready-kept b old new r l e k =
+    let p : Kept (memOf old) (memOf new) = rw e k in
+    record {
+      long = omega (arith, r .long);
+      sound = r .sound;
+      index = indexed-kept b (memOf old) (memOf new) (p .heads) (p .places) (p .nexts) (r .index);
+    }
+
+-- the row of two variables' counters stays too
+pub row-kept : (m n : Mem) (x y : ℕ) → Kept m n → counterRow n x y ≡ counterRow m x y
+unfolding counterRow
+row-kept m n x y e = ap (λ (h : ℕ). 2 * h - 1 + one (ltb y x)) (e .heads x y)
+
+pub same : {m : Mem} → Kept m m
+same = record { heads = λ i j. refl; places = λ i j. refl; nexts = λ i j. refl }
+
+then : {m n o : Mem} → Kept m n → Kept n o → Kept m o
+then p q = record {
+  heads = λ i j. q .heads i j ∙ p .heads i j;
+  places = λ i j. q .places i j ∙ p .places i j;
+  nexts = λ i j. q .nexts i j ∙ p .nexts i j;
+}
+
+either : (t : Bool) {m n o : Mem} → Kept m n → Kept m o → Kept m (cond t n o)
+either true p q = p
+either false p q = q
+
+-- a store before the index keeps it
+pub stored : (r i j v : ℕ) {m n : Mem} → r < HEADS → Kept m n → Kept m (store n r i j v)
+stored r i j v {n = n} h p = record {
+  heads = λ k l. store-apart n r i j v HEADS k l (λ e. omega arith) ∙ p .heads k l;
+  places = λ k l. store-apart n r i j v PLACES k l (λ e. omega arith) ∙ p .places k l;
+  nexts = λ k l. store-apart n r i j v NEXT k l (λ e. omega arith) ∙ p .nexts k l;
+}
+
+push-kept : (r col i c : ℕ) {m n : Mem} → r < HEADS → Kept m n → Kept m (pushM r col i c n)
+unfolding pushM
+push-kept r col i c {n = n} h p =
+    either (ltb (n WORKERS i col) 512) (stored WORKERS i col (n WORKERS i col + 1) (omega arith) (stored r i (n WORKERS i col) c h p)) p
+
+pub delete-kept : (i x v : ℕ) {m n : Mem} → Kept m n → Kept m (deleteM i x v n)
+unfolding deleteM
+delete-kept i x v p =
+    push-kept WORK TAIL i (codeOf x v) (omega arith)
+    (push-kept LOG LOGEND i (codeOf x v) (omega arith) (stored DOMAIN x v 0 (omega arith) p))
+
+-- ---- treating
+
+pub lose-kept : (i x v y : ℕ) (m : Mem) → Kept m (loseM i x v y m)
+unfolding loseM
+lose-kept i x v y m =
+    let p : Kept m (store m COUNTERS (counterRow m x y) v (m COUNTERS (counterRow m x y) v - 1)) =
+    stored COUNTERS (counterRow m x y) v (m COUNTERS (counterRow m x y) v - 1) (omega arith) same in
+    either (eqb (m COUNTERS (counterRow m x y) v - 1) 0) (delete-kept i x v p) p
+
+module _ (sys : System) (i y w : ℕ) where
+  pub touch-kept : (x v : ℕ) (m : Mem) → Kept m (touchM sys i y w x v m)
+  unfolding touchM
+  touch-kept x v m = either (eqb (m DOMAIN x v) LISTED) (either (sys .net .allows x v y w) (lose-kept i x v y m) same) same
+
+  pub touch-values-kept : (x n : ℕ) (m : Mem) → Kept m (touchValuesM sys i y w x n m)
+  unfolding touchValuesM
+  touch-values-kept x zero m = same
+  touch-values-kept x (suc n) m = then (touch-values-kept x n m) (touch-kept x n (touchValuesM sys i y w x n m))
+
+  pub touch-variable-kept : (x : ℕ) (m : Mem) → Kept m (touchVariableM sys i y w x m)
+  unfolding touchVariableM
+  touch-variable-kept x m =
+      either (eqb (sys .owner x) (suc i)) (either (sys .net .linked x y) (touch-values-kept x (sys .net .size x) m) same) same
+
+  pub touch-variables-kept : (n : ℕ) (m : Mem) → Kept m (touchVariablesM sys i y w n m)
+  unfolding touchVariablesM
+  touch-variables-kept zero m = same
+  touch-variables-kept (suc n) m = then (touch-variables-kept n m) (touch-variable-kept n (touchVariablesM sys i y w n m))
+
+-- ---- loading
+
+module _ (sys : System) (x : ℕ) where
+  pub count-kept : (v n : ℕ) {m o : Mem} → Kept m o → Kept m (countM sys x v n o)
+  unfolding countM
+  count-kept v zero p = p
+  count-kept v (suc n) {o = o} p =
+      either (sys .net .linked x n)
+      (stored COUNTERS (counterRow o x n) v (supportCount (sys .net) x v n) (omega arith) (count-kept v n p))
+      (count-kept v n p)
+
+  pub load-label-kept : (v : ℕ) (m : Mem) → Kept m (loadLabelM sys x v m)
+  unfolding loadLabelM
+  load-label-kept v m =
+      let p : Kept m (countM sys x v (sys .net .variables) (store m DOMAIN x v LISTED)) =
+      count-kept v (sys .net .variables) (stored DOMAIN x v LISTED (omega arith) same) in
+      either (unsupported (sys .net) x v) (delete-kept (sys .owner x - 1) x v p) p
+
+  pub load-values-kept : (n : ℕ) (m : Mem) → Kept m (loadValuesM sys x n m)
+  unfolding loadValuesM
+  load-values-kept zero m = same
+  load-values-kept (suc n) m = then (load-values-kept n m) (load-label-kept n (loadValuesM sys x n m))
+
+pub load-variables-kept : (sys : System) (n : ℕ) (m : Mem) → Kept m (loadVariablesM sys n m)
+unfolding loadVariablesM
+load-variables-kept sys zero m = same
+load-variables-kept sys (suc n) m =
+    then (load-variables-kept sys n m) (load-values-kept sys n (sys .net .size n) (loadVariablesM sys n m))

@@ -1,0 +1,121 @@
+-- Laws that the code of a treatment meets its definitions in memory by.
+use Prim.Native.Nat.{ℕ, suc, _+_, _*_, _-_, _/_, _%_, _<_, _≤_}
+use mathlib.Core.Bool.{Bool, true, false, cond}
+use mathlib.Core.List.{List}
+use mathlib.Core.Option.{none, some}
+use mathlib.Core.Path.{_≡_, refl, sym, _∙_, ap}
+use native.Mathlib.Numerals.{add-one}
+use native.Mathlib.Omega.{arith}
+use borrow.Author.Tests.{lt-ltb, le-ltb, eq-eqb, ne-eqb}
+use lib.Dec.{eqb}
+use Rattle.base.proofs.Choice.{cond-true, cond-false}
+use Rattle.disac4.specs.System.{System}
+use Rattle.index.specs.Allowed.{Listed}
+use Rattle.cells.specs.Layout.{WORKERS, WORK, DOMAIN, COUNTERS, HEAD, TAIL}
+use Rattle.cells.specs.Lists.{deleteM}
+use Rattle.cells.specs.Memory.{Mem, store}
+use Rattle.counters.specs.Treat.{loseM, touchM, touchValuesM, touchVariableM, touchVariablesM, treatM}
+use Rattle.cells.specs.View.{LISTED, counterRow}
+
+-- ---- a loop makes one step more
+
+pub one-more : (f : ℕ → Mem) (g : Mem → Mem) (k : ℕ) (m n : Mem) → f (suc k) ≡ g (f k) → m ≡ f k → n ≡ g m → n ≡ f (k + 1)
+one-more f g k m n e p q = q ∙ ap g p ∙ sym e ∙ ap f (sym (add-one k))
+
+-- ---- a count goes down
+
+module _ (i x v y r n : ℕ) (m m₁ : Mem) (row : r ≡ counterRow m x y) (count : n ≡ m COUNTERS r v) where
+  counted : n ≡ m COUNTERS (counterRow m x y) v
+  counted = count ∙ ap (λ (k : ℕ). m COUNTERS k v) row
+
+  pub lost-last : (m₂ : Mem) → n ≤ 1 → m₁ ≡ store m COUNTERS r v 0 → m₂ ≡ deleteM i x v m₁ → m₂ ≡ loseM i x v y m
+  unfolding loseM
+  lost-last m₂ h p q =
+      let z : m COUNTERS (counterRow m x y) v - 1 ≡ 0 = omega (arith, counted) in
+      q ∙ ap (deleteM i x v) (p ∙ ap (λ (k : ℕ). store m COUNTERS k v 0) row ∙ ap (store m COUNTERS (counterRow m x y) v) (sym z))
+      ∙ sym (cond-true _ _ (eq-eqb _ 0 z))
+
+  pub lost-one : 1 < n → m₁ ≡ store m COUNTERS r v (n - 1) → m₁ ≡ loseM i x v y m
+  unfolding loseM
+  lost-one h p =
+      p ∙ ap (λ (k : ℕ). store m COUNTERS k v (n - 1)) row
+      ∙ ap (λ (k : ℕ). store m COUNTERS (counterRow m x y) v (k - 1)) counted
+      ∙ sym (cond-false _ _ (ne-eqb (m COUNTERS (counterRow m x y) v - 1) 0 (omega (arith, counted))))
+
+-- ---- a label
+
+-- the second of two tests fails
+second-fails : (t : Bool) {u : Bool} (n m : Mem) → u ≡ false → m ≡ cond t (cond u n m) m
+second-fails true n m e = sym (cond-false n m e)
+second-fails false n m e = refl
+
+module _ (sys : System) (i y w x v : ℕ) (m : Mem) where
+  pub touched : (n : Mem) → m DOMAIN x v ≡ LISTED → sys .net .allows x v y w ≡ true → n ≡ loseM i x v y m
+      → n ≡ touchM sys i y w x v m
+  unfolding touchM
+  touched n d a e = e ∙ sym (cond-true _ _ (eq-eqb (m DOMAIN x v) LISTED d) ∙ cond-true _ _ a)
+
+  pub not-allowed : sys .net .allows x v y w ≡ false → m ≡ touchM sys i y w x v m
+  unfolding touchM
+  not-allowed a = second-fails (eqb (m DOMAIN x v) LISTED) (loseM i x v y m) m a
+
+  pub not-listed : (m DOMAIN x v ≡ LISTED → ⊥) → m ≡ touchM sys i y w x v m
+  unfolding touchM
+  not-listed d = sym (cond-false _ _ (ne-eqb (m DOMAIN x v) LISTED d))
+
+-- ---- a variable
+
+module _ (sys : System) (i y w x : ℕ) (m : Mem) where
+  pub variable-touched : (n : Mem) (k : ℕ) → sys .owner x ≡ suc i → sys .net .linked x y ≡ true → k ≡ sys .net .size x
+      → n ≡ touchValuesM sys i y w x k m → n ≡ touchVariableM sys i y w x m
+  unfolding touchVariableM
+  variable-touched n k o l s e =
+      e ∙ ap (λ (k : ℕ). touchValuesM sys i y w x k m) s
+      ∙ sym (cond-true _ _ (eq-eqb (sys .owner x) (suc i) o) ∙ cond-true _ _ l)
+
+  pub not-linked : sys .net .linked x y ≡ false → m ≡ touchVariableM sys i y w x m
+  unfolding touchVariableM
+  not-linked l = second-fails (eqb (sys .owner x) (suc i)) (touchValuesM sys i y w x (sys .net .size x) m) m l
+
+  pub not-owned : (sys .owner x ≡ suc i → ⊥) → m ≡ touchVariableM sys i y w x m
+  unfolding touchVariableM
+  not-owned o = sym (cond-false _ _ (ne-eqb (sys .owner x) (suc i) o))
+
+module _ (sys : System) (i y w : ℕ) (m m₁ m₂ : Mem) where
+  pub value-more : (x v : ℕ) → m₁ ≡ touchValuesM sys i y w x v m → m₂ ≡ touchM sys i y w x v m₁
+      → m₂ ≡ touchValuesM sys i y w x (v + 1) m
+  unfolding touchValuesM
+  value-more x v = one-more (λ n. touchValuesM sys i y w x n m) (touchM sys i y w x v) v m₁ m₂ refl
+
+  pub variable-more : (x : ℕ) → m₁ ≡ touchVariablesM sys i y w x m → m₂ ≡ touchVariableM sys i y w x m₁
+      → m₂ ≡ touchVariablesM sys i y w (x + 1) m
+  unfolding touchVariablesM
+  variable-more x = one-more (λ n. touchVariablesM sys i y w n m) (touchVariableM sys i y w x) x m₁ m₂ refl
+
+-- ---- the label at the head of the work list
+
+module _ (sys : System) (i head tail : ℕ) (m : Mem) (h : head ≡ m WORKERS i HEAD) (t : tail ≡ m WORKERS i TAIL) where
+  pub no-work : tail ≤ head → treatM sys i m ≡ none
+  unfolding treatM
+  no-work l = cond-false _ none (le-ltb (m WORKERS i HEAD) (m WORKERS i TAIL) (omega arith))
+
+  pub no-room : head < tail → 512 ≤ head → treatM sys i m ≡ none
+  unfolding treatM
+  no-room l r =
+      cond-true _ none (lt-ltb (m WORKERS i HEAD) (m WORKERS i TAIL) (omega arith))
+      ∙ cond-false _ none (le-ltb (m WORKERS i HEAD) 512 (omega arith))
+
+  pub treated : (c : ℕ) → head < tail → head < 512 → c ≡ m WORK i head
+      → treatM sys i m
+      ≡ some (touchVariablesM sys i (c / 16) (c % 16) (sys .net .variables) (store m WORKERS i HEAD (head + 1)))
+  unfolding treatM
+  treated c l r e =
+      cond-true _ none (lt-ltb (m WORKERS i HEAD) (m WORKERS i TAIL) (omega arith))
+      ∙ cond-true _ none (lt-ltb (m WORKERS i HEAD) 512 (omega arith)) ∙ rw (e, h)
+
+  -- it was loaded
+  pub head-listed : (b : List ℕ) (c : ℕ) → head < tail → c ≡ m WORK i head
+      → (m WORKERS i HEAD < m WORKERS i TAIL
+      → Listed b (m WORK i (m WORKERS i HEAD) / 16) (m WORK i (m WORKERS i HEAD) % 16))
+      → Listed b (c / 16) (c % 16)
+  head-listed b c l e f = rw (e, h) (f (omega arith))

@@ -1,0 +1,48 @@
+-- Treating a label in memory: the owner's variables that share a constraint with it, ascending, and their values.
+use Prim.Native.Nat.{ℕ, zero, suc, _+_, _-_, _/_, _%_}
+use mathlib.Core.Bool.{cond, _&&_}
+use mathlib.Core.Option.{Option, none, some}
+use lib.Dec.{ltb, eqb}
+use Rattle.disac4.specs.System.{System}
+use Rattle.cells.specs.Layout.{WORKERS, WORK, DOMAIN, COUNTERS, HEAD, TAIL}
+use Rattle.cells.specs.Lists.{deleteM}
+use Rattle.cells.specs.Memory.{Mem, store}
+use Rattle.cells.specs.View.{LISTED, counterRow}
+
+-- label `v` of `x` loses one from its count against `y`; at 0 it is deleted
+unfoldable pub loseM : ℕ → ℕ → ℕ → ℕ → Mem → Mem
+loseM i x v y m =
+    cond (eqb (m COUNTERS (counterRow m x y) v - 1) 0)
+    (deleteM i x v (store m COUNTERS (counterRow m x y) v (m COUNTERS (counterRow m x y) v - 1)))
+    (store m COUNTERS (counterRow m x y) v (m COUNTERS (counterRow m x y) v - 1))
+
+-- label `v` of `x`, if it is in its domain and had label `w` of `y` as a support
+unfoldable pub touchM : System → ℕ → ℕ → ℕ → ℕ → ℕ → Mem → Mem
+touchM sys i y w x v m =
+    cond (eqb (m DOMAIN x v) LISTED) (cond (sys .net .allows x v y w) (loseM i x v y m) m) m
+
+-- the first `n` values of `x`
+unfoldable pub touchValuesM : System → ℕ → ℕ → ℕ → ℕ → ℕ → Mem → Mem
+touchValuesM sys i y w x zero m = m
+touchValuesM sys i y w x (suc n) m = touchM sys i y w x n (touchValuesM sys i y w x n m)
+
+-- variable `x`, if row `i` owns it and it shares a constraint with `y`
+unfoldable pub touchVariableM : System → ℕ → ℕ → ℕ → ℕ → Mem → Mem
+touchVariableM sys i y w x m =
+    cond (eqb (sys .owner x) (suc i)) (cond (sys .net .linked x y) (touchValuesM sys i y w x (sys .net .size x) m) m) m
+
+-- the first `n` variables
+unfoldable pub touchVariablesM : System → ℕ → ℕ → ℕ → ℕ → Mem → Mem
+touchVariablesM sys i y w zero m = m
+touchVariablesM sys i y w (suc n) m = touchVariableM sys i y w n (touchVariablesM sys i y w n m)
+
+-- row `i` takes the oldest label from its work list
+unfoldable pub treatM : System → ℕ → Mem → Option Mem
+treatM sys i m =
+    cond (ltb (m WORKERS i HEAD) (m WORKERS i TAIL))
+    (cond (ltb (m WORKERS i HEAD) 512)
+    (some
+    (touchVariablesM sys i (m WORK i (m WORKERS i HEAD) / 16) (m WORK i (m WORKERS i HEAD) % 16) (sys .net .variables)
+    (store m WORKERS i HEAD (m WORKERS i HEAD + 1))))
+    none)
+    none

@@ -1,0 +1,104 @@
+// Treating a label: which labels lose it as a support, and which of them are deleted.
+use cells::layout;
+use cells::lists;
+use index::pairs;
+use index::parts;
+use plan::read;
+ghost use mathlib.Core.Bool.{true};
+ghost use mathlib.Core.Path.{_≡_};
+ghost use Prim.Native.Nat.{_<_, _≤_, _/_, _%_};
+ghost use lib.ListN.{length};
+ghost use Rattle.disac4.specs.System.{systemOf};
+ghost use Rattle.plan.specs.Decode.{planOf};
+ghost use Rattle.plan.specs.Format.{variableCount};
+ghost use Rattle.plan.specs.Network.{shareConstraint};
+ghost use Rattle.plan.specs.WellFormed.{sizeOf};
+ghost use Rattle.index.specs.Allowed.{Listed};
+ghost use Rattle.index.specs.Index.{Ready};
+ghost use Rattle.cells.specs.Layout.{WORKERS, WORK, HEAD, TAIL};
+ghost use Rattle.cells.specs.Memory.{memOf, Acts};
+ghost use Rattle.counters.specs.Treat.{loseM, touchM, touchValuesM, touchVariableM, touchVariablesM, treatM};
+ghost use Rattle.cells.specs.View.{Numbered};
+
+// Label v of x loses one from its count against y; at 0 row i deletes it.
+fn lose(cells: &mut [u16], i: usize, x: usize, v: usize, y: usize)
+    requires { ⌜ (24576 ≤ length (now cells)) × (i < 8) × (x < 32) × (v < 16) × (y < 32) × Numbered (memOf (now cells)) x y ⌝ }
+    ensures { λ _. ⌜ memOf (now (cells .exit)) ≡ loseM i x v y (memOf (now (cells .entry))) ⌝ }
+{
+    let row = parts::counter_row(cells, x, y);
+    let count = layout::get(cells, layout::COUNTERS, row, v);
+    if count <= 1 {
+        layout::put(cells, layout::COUNTERS, row, v, 0);
+        lists::delete(cells, i, x, v);
+    } else {
+        layout::put(cells, layout::COUNTERS, row, v, count - 1);
+    }
+}
+
+// Label v of x, if it is in its domain and had label w of y as a support.
+fn touch(b: &[u8], cells: &mut [u16], i: usize, y: usize, w: usize, x: usize, v: usize)
+    requires { ⌜ Ready (now b) (now cells) × (i < 8) × Listed (now b) y w × Listed (now b) x v × (shareConstraint (planOf (now b)) x y ≡ true) ⌝ }
+    ensures { λ _. ⌜ memOf (now (cells .exit)) ≡ touchM (systemOf (planOf (now (b .entry)))) i y w x v (memOf (now (cells .entry))) ⌝ }
+{
+    if layout::get(cells, layout::DOMAIN, x, v) == 65535 {
+        if pairs::pair_allowed(b, cells, x, v, y, w) {
+            lose(cells, i, x, v, y);
+        }
+    }
+}
+
+// The first n values of x.
+fn touch_values(b: &[u8], cells: &mut [u16], i: usize, y: usize, w: usize, x: usize, n: usize)
+    requires { ⌜ Ready (now b) (now cells) × (i < 8) × Listed (now b) y w × (x < variableCount (now b)) × (n ≤ sizeOf (planOf (now b)) x) × (shareConstraint (planOf (now b)) x y ≡ true) ⌝ }
+    ensures { λ _. ⌜ memOf (now (cells .exit)) ≡ touchValuesM (systemOf (planOf (now (b .entry)))) i y w x n (memOf (now (cells .entry))) ⌝ }
+{
+    let mut v = 0;
+    while v < n {
+        touch(b, cells, i, y, w, x, v);
+        v += 1;
+    }
+}
+
+// Variable x, if row i owns it and it shares a constraint with y.
+fn touch_variable(b: &[u8], cells: &mut [u16], i: usize, y: usize, w: usize, x: usize)
+    requires { ⌜ Ready (now b) (now cells) × (i < 8) × Listed (now b) y w × (x < variableCount (now b)) ⌝ }
+    ensures { λ _. ⌜ memOf (now (cells .exit)) ≡ touchVariableM (systemOf (planOf (now (b .entry)))) i y w x (memOf (now (cells .entry))) ⌝ }
+{
+    if parts::owner(b, cells, x) == i + 1 {
+        if pairs::linked(cells, x, y) {
+            let n = pairs::size(b, cells, x);
+            touch_values(b, cells, i, y, w, x, n);
+        }
+    }
+}
+
+// Every variable.
+fn touch_variables(b: &[u8], cells: &mut [u16], i: usize, y: usize, w: usize)
+    requires { ⌜ Ready (now b) (now cells) × (i < 8) × Listed (now b) y w ⌝ }
+    ensures { λ _. ⌜ memOf (now (cells .exit)) ≡ touchVariablesM (systemOf (planOf (now (b .entry)))) i y w (systemOf (planOf (now (b .entry))) .net .variables) (memOf (now (cells .entry))) ⌝ }
+{
+    let n = read::variable_count(b);
+    let mut x = 0;
+    while x < n {
+        touch_variable(b, cells, i, y, w, x);
+        x += 1;
+    }
+}
+
+// Row i takes the oldest label from its work list: 1 if there is one, and 0 if not.
+pub fn treat(b: &[u8], cells: &mut [u16], i: usize) -> usize
+    requires { ⌜ Ready (now b) (now cells) × (i < 8) × (memOf (now cells) WORKERS i HEAD < memOf (now cells) WORKERS i TAIL → Listed (now b) (memOf (now cells) WORK i (memOf (now cells) WORKERS i HEAD) / 16) (memOf (now cells) WORK i (memOf (now cells) WORKERS i HEAD) % 16)) ⌝ }
+    ensures { λ r. ⌜ Acts (treatM (systemOf (planOf (now (b .entry)))) i) (now (cells .entry)) (now (cells .exit)) r ⌝ }
+{
+    let head = layout::get(cells, layout::WORKERS, i, layout::HEAD);
+    if head >= layout::get(cells, layout::WORKERS, i, layout::TAIL) {
+        return 0;
+    }
+    if head >= 512 {
+        return 0;
+    }
+    let c = layout::get(cells, layout::WORK, i, head);
+    layout::put(cells, layout::WORKERS, i, layout::HEAD, head + 1);
+    touch_variables(b, cells, i, c / 16, c % 16);
+    1
+}

@@ -1,0 +1,19 @@
+-- Each side of a pair of variables has its own row of counters.
+use Prim.Native.Nat.{ℕ, _+_, _*_, _-_, _<_, _≤_}
+use mathlib.Core.Bool.{Bool}
+use mathlib.Core.Path.{_≡_, ap}
+use native.Mathlib.Omega.{arith}
+use borrow.Author.Tests.{lt-ltb, le-ltb}
+use Rattle.base.specs.Below.{one}
+use Rattle.cells.specs.Layout.{HEADS}
+use Rattle.cells.specs.Memory.{Mem}
+use Rattle.cells.specs.View.{counterRow}
+
+module _ (m : Mem) (x y : ℕ) where
+  pub row-higher : y < x → counterRow m x y ≡ 2 * m HEADS x y - 1 + 1
+  unfolding counterRow
+  row-higher h = ap (λ (t : Bool). 2 * m HEADS x y - 1 + one t) (lt-ltb y x h)
+
+  pub row-lower : x ≤ y → counterRow m x y ≡ 2 * m HEADS x y - 1
+  unfolding counterRow
+  row-lower h = omega (arith, ap one (le-ltb y x h))

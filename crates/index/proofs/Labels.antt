@@ -1,0 +1,72 @@
+-- What an accepted plan says of its labels: they fit the regions, each variable has its owner, and linked ones are numbered.
+use Prim.Native.Nat.{ℕ, suc, _<_, _≤_}
+use mathlib.Core.Bool.{true}
+use mathlib.Core.List.{List}
+use mathlib.Core.Option.{none}
+use mathlib.Core.Path.{_≡_, refl, sym, _∙_, ap}
+use native.Mathlib.Omega.{arith}
+use borrow.Author.Tests.{lt-ltb}
+use Rattle.base.proofs.Bools.{and-intro}
+use Rattle.disac4.specs.System.{systemOf}
+use Rattle.network.specs.Network.{loaded}
+use Rattle.plan.proofs.Parts.{variables-read, variable-read, size-read}
+use Rattle.plan.proofs.WellFormed.{read-well-formed}
+use Rattle.plan.specs.Decode.{planFault, planOf, variableAt}
+use Rattle.plan.specs.Format.{sectionStart, variableCount, ownerAt}
+use Rattle.plan.specs.Network.{shareConstraint, networkOf}
+use Rattle.plan.specs.Plan.{Variable}
+use Rattle.plan.specs.WellFormed.{WellFormed, sizeOf}
+use Rattle.index.proofs.Pairing.{paired}
+use Rattle.index.proofs.Permitted.{linked-inside}
+use Rattle.index.proofs.Places.{few-sections, few-values}
+use Rattle.index.specs.Allowed.{Listed}
+use Rattle.index.specs.Index.{Indexed}
+use Rattle.cells.specs.Memory.{Mem}
+use Rattle.cells.specs.View.{Numbered}
+
+-- the system's figures are those that the plan's bytes give
+pub variables-are : (b : List ℕ) → systemOf (planOf b) .net .variables ≡ variableCount b
+unfolding systemOf networkOf
+variables-are b = variables-read b
+
+pub size-is : (b : List ℕ) (x : ℕ) → sizeOf (planOf b) x ≡ systemOf (planOf b) .net .size x
+unfolding systemOf networkOf sizeOf
+size-is b x = refl
+
+-- a listed label was loaded
+pub listed-loaded : (b : List ℕ) (x v : ℕ) → Listed b x v → loaded (systemOf (planOf b) .net) x v ≡ true
+unfolding loaded
+listed-loaded b x v l =
+    and-intro (lt-ltb x (systemOf (planOf b) .net .variables) (omega (arith, variables-are b)))
+    (lt-ltb v (systemOf (planOf b) .net .size x) (omega (arith, size-is b x)))
+
+module _ (b : List ℕ) (sound : planFault b ≡ none) where
+  pub label-small : (x v : ℕ) → Listed b x v → (x < 32) × (v < 16)
+  label-small x v l =
+      omega (arith, few-sections b sound, few-values b sound x (l .variable), size-read b x (l .variable))
+
+  owner-range : (x : ℕ) → x < variableCount b
+      → (0 < systemOf (planOf b) .owner x) × (systemOf (planOf b) .owner x ≤ 8)
+  unfolding systemOf
+  owner-range x h =
+      let fits : WellFormed (planOf b) = read-well-formed b sound in
+      let fit = fits .each-variable x (omega (arith, variables-read b)) in
+      omega (arith, fits .workers-high)
+
+  -- what is read at a variable's place
+  pub owner-there : (x at r : ℕ) → x < variableCount b → at ≡ sectionStart b (suc x) → r ≡ ownerAt b at
+      → (r ≡ systemOf (planOf b) .owner x) × (0 < r) × (r ≤ 8)
+  unfolding systemOf variableAt
+  owner-there x at r h e q =
+      let o : r ≡ systemOf (planOf b) .owner x =
+      q ∙ ap (ownerAt b) e ∙ sym (ap (λ (a : Variable). a .owner) (variable-read b x h)) in
+      (o, omega (arith, owner-range x h), omega (arith, owner-range x h))
+
+  -- linked variables are two of the plan's, and have a row of counters
+  pub numbered : (m : Mem) → Indexed b m → (x y : ℕ) → shareConstraint (planOf b) x y ≡ true
+      → (x < variableCount b) × (y < variableCount b) × Numbered m x y
+  unfolding systemOf networkOf
+  numbered m index x y e =
+      let i = linked-inside b sound x y e in
+      let p = paired b sound m index in
+      (i .0, i .1, record { low = p .low x y e; high = p .high x y e })

@@ -1,0 +1,6 @@
+pub mod Chains
+pub mod CounterRows
+pub mod Labels
+pub mod Pairing
+pub mod Permitted
+pub mod Places

@@ -1,0 +1,82 @@
+-- From rows to actors: what a function of rows says of a worker, and what changes at one worker.
+use Prim.Native.Nat.{ℕ, suc, _+_, _-_, _<_, _≤_}
+use mathlib.Core.Bool.{Bool, true, false, cond}
+use mathlib.Core.Path.{_≡_, refl, sym, _∙_, ap}
+use native.Mathlib.Decide.{ℕ-discrete}
+use native.Mathlib.Omega.{arith}
+use borrow.Author.Tests.{le-leb, ne-eqb}
+use lib.Dec.{eqb}
+use Rattle.base.proofs.Bools.{and-intro}
+use Rattle.base.proofs.Choice.{cond-true, cond-false, update-same, update-other, between-low, between-high}
+use Rattle.base.specs.Choice.{update}
+use Rattle.disac4.specs.System.{System}
+use Rattle.cells.specs.View.{isWorker}
+
+-- row `i` for worker `i + 1`, and `none` for all others
+abbrev pub atActor {ℓ} : {A : Type ℓ} → System → (ℕ → A) → A → ℕ → A
+atActor sys f none k = cond (isWorker sys k) (f (k - 1)) none
+
+-- worker `i + 1` is a worker
+pub worker-row : (sys : System) (i : ℕ) → i < sys .workers → isWorker sys (suc i) ≡ true
+worker-row sys i h = and-intro (le-leb 1 (suc i) (omega arith)) (le-leb (suc i) (sys .workers) (omega arith))
+
+module _ {ℓ} {A : Type ℓ} (sys : System) where
+  -- a worker's part is its row's
+  pub at-worker : (f : ℕ → A) (none : A) (i : ℕ) → i < sys .workers → atActor sys f none (suc i) ≡ f i
+  at-worker f none i h =
+      let e : suc i - 1 ≡ i = omega arith in
+      cond-true (f (suc i - 1)) none (worker-row sys i h) ∙ ap f e
+
+  -- rows that agree
+  pub actors-same : (f g : ℕ → A) (none : A) → ((i : ℕ) → i < sys .workers → g i ≡ f i) → (k : ℕ)
+      → atActor sys g none k ≡ atActor sys f none k
+  actors-same f g none h k = go (isWorker sys k) refl
+    where
+      go : (b : Bool) → isWorker sys k ≡ b → cond b (g (k - 1)) none ≡ cond b (f (k - 1)) none
+      go true p =
+          let low : 1 ≤ k = between-low 1 (sys .workers) k p in
+          let high : k ≤ sys .workers = between-high 1 (sys .workers) k p in
+          h (k - 1) (omega arith)
+      go false p = refl
+
+  -- one row changes
+  pub actors-update : (f g : ℕ → A) (none : A) (i : ℕ) (a : A) → i < sys .workers → g i ≡ a
+      → ((j : ℕ) → j < sys .workers → (j ≡ i → ⊥) → g j ≡ f j) → (k : ℕ)
+      → atActor sys g none k ≡ update (atActor sys f none) (suc i) a k
+  actors-update f g none i a h e r k =
+      elim (ℕ-discrete k (suc i)) [
+        | yes p ↦ ap (atActor sys g none) p
+            ∙ at-worker g none i h
+            ∙ e
+            ∙ sym (ap (update (atActor sys f none) (suc i) a) p ∙ update-same (atActor sys f none) (suc i) a)
+        | no n ↦ go (isWorker sys k) refl n ∙ sym (update-other (atActor sys f none) (suc i) a k n)
+      ]
+    where
+      go : (b : Bool) → isWorker sys k ≡ b → (k ≡ suc i → ⊥) → cond b (g (k - 1)) none ≡ cond b (f (k - 1)) none
+      go true p n =
+          let low : 1 ≤ k = between-low 1 (sys .workers) k p in
+          let high : k ≤ sys .workers = between-high 1 (sys .workers) k p in
+          r (k - 1) (omega arith) (λ q. n (omega arith))
+      go false p n = refl
+
+-- row `i`'s counter, beside the controller's
+pub counter-worker : (sys : System) (f : ℕ → ℕ) (c i : ℕ) → i < sys .workers
+    → cond (eqb (suc i) 0) c (atActor sys f 0 (suc i)) ≡ f i
+counter-worker sys f c i h =
+    cond-false c (atActor sys f 0 (suc i)) (ne-eqb (suc i) 0 (λ q. omega arith)) ∙ at-worker sys f 0 i h
+
+-- one list more on row `i`'s counter, beside the controller's
+pub counters-more : (sys : System) (f g : ℕ → ℕ) (c i : ℕ) → i < sys .workers → g i ≡ f i + 1
+    → ((j : ℕ) → j < sys .workers → (j ≡ i → ⊥) → g j ≡ f j) → (k : ℕ)
+    → cond (eqb k 0) c (atActor sys g 0 k)
+    ≡ update (λ k. cond (eqb k 0) c (atActor sys f 0 k)) (suc i) (suc (cond (eqb (suc i) 0) c (atActor sys f 0 (suc i)))) k
+counters-more sys f g c i h e r k =
+    elim (ℕ-discrete k 0) [
+      | yes z ↦ rw z (sym (update-other lists (suc i) (suc (lists (suc i))) 0 (λ q. omega arith)))
+      | no n ↦ cond-false c (atActor sys g 0 k) (ne-eqb k 0 n)
+          ∙ actors-update sys f g 0 i (suc (lists (suc i))) h (omega (arith, counter-worker sys f c i h)) r k
+          ∙ ap (λ (x : ℕ). cond (eqb k (suc i)) (suc (lists (suc i))) x) (sym (cond-false c (atActor sys f 0 k) (ne-eqb k 0 n)))
+    ]
+  where
+    lists : ℕ → ℕ
+    lists k = cond (eqb k 0) c (atActor sys f 0 k)

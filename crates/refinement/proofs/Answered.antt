@@ -1,0 +1,165 @@
+-- Answer in memory is answer.
+use Prim.Native.Nat.{ℕ, suc, _+_, _<_}
+use mathlib.Core.Bool.{Bool, true, false, cond, _&&_}
+use mathlib.Core.List.{List, [], _∷_, _++_}
+use mathlib.Core.Option.{none, some}
+use mathlib.Core.Path.{_≡_, refl, sym, _∙_, ap, ap₂}
+use native.Mathlib.Omega.{arith}
+use borrow.Author.Tests.{lt-ltb}
+use lib.Dec.{eqb}
+use Rattle.base.proofs.Choice.{update-same, update-other, update₂-same}
+use Rattle.disac4.specs.Action.{isEmpty, pollOf, afterAnswer, ready, answerTo, answer}
+use Rattle.disac4.specs.State.{Poll, Message, reply}
+use Rattle.disac4.specs.System.{System}
+use Rattle.disac4.specs.declared.Tally.{Tally}
+use Rattle.cells.specs.Layout.{WORKERS, BOUNDS, WORK, OUT, WANTED, HEAD, TAIL, LOGEND, SENDS, LISTS, HELD, OUTEND}
+use Rattle.cells.specs.Memory.{Mem}
+use Rattle.messages.specs.Messages.{answeredM, answerM}
+use Rattle.controller.specs.Controller.{Machine}
+use Rattle.cells.specs.View.{labelOf, labelsBetween, messageOf, pollAt, view, viewWork, viewLists, viewOut}
+use Rattle.refinement.proofs.Actors.{at-worker, counter-worker}
+use Rattle.refinement.proofs.Capacity.{sends-few, outend-few, held-few, timestamp-few}
+use Rattle.refinement.proofs.ChannelRows.{at-out, Stays, Beside, channels-update}
+use Rattle.refinement.proofs.Grown.{Grown, behind, outQueue, out-kept, channels-kept}
+use Rattle.refinement.proofs.HeldPoll.{heldAt, held-worker, held-update}
+use Rattle.refinement.specs.Inv.{Small, Inv}
+use Rattle.refinement.proofs.Queue.{queue, queue-put, queue-empty}
+use Rattle.refinement.proofs.Seen.{mapO, mapO-cond, viewOf, view-parts, rowsOf, reply-code, same-state}
+use Rattle.refinement.proofs.Sent.{nothing-to-send}
+
+-- three tests one in another are one test
+nested : {A : Type 0} (a b c : Bool) (x y : A) → cond a (cond b (cond c x y) y) y ≡ cond (a && b && c) x y
+nested true true c x y = refl
+nested true false c x y = refl
+nested false b c x y = refl
+
+module _ (sys : System) (small : Small sys) (s : Machine) (inv : Inv sys s) (i : ℕ) (h : i < sys .workers) where
+  abbrev m : Mem
+  m = s .mem
+
+  abbrev t : Tally
+  t = s .tally
+
+  abbrev m′ : Mem
+  m′ = answeredM i m
+
+  held : Poll
+  held = pollAt m (m WORKERS i HELD)
+
+  held-small : m WORKERS i HELD < 520
+  held-small = omega (arith, held-few sys small s inv i h, timestamp-few sys small s inv)
+
+  answer-grown : Grown sys m t m′
+  unfolding answeredM
+  answer-grown = record {
+    logs = λ j hj d l. refl;
+    bounds = λ j hj n l. refl;
+    outs = λ j hj n l. behind (m OUT) i (m WORKERS i OUTEND) (m WORKERS i HELD) j n
+        (λ e f. omega (arith, ap (λ (k : ℕ). m WORKERS k OUTEND) e));
+    wanted = λ n l. refl;
+  }
+
+  other-channels : Stays sys (Beside (suc i) 0) (rowsOf m t) (rowsOf m′ t)
+  unfolding answeredM
+  other-channels = channels-kept sys small s inv m′ answer-grown t (Beside (suc i) 0) (record {
+    cursors = λ j k hj hk n. refl;
+    sends = λ j k hj hk n. refl;
+    out-read = λ j hj n. refl;
+    out-end = λ j hj n. update-other (λ j. m WORKERS j OUTEND) i (m WORKERS i OUTEND + 1) j (λ e. n (ap suc e) refl);
+    polls = λ k hk n. refl;
+    timestamp = λ k hk n. refl;
+  })
+
+  -- the reply is the newest message to the controller
+  replied : viewOut m′ i ≡ viewOut m i ++ (reply (held .number) ∷ [])
+  unfolding answeredM held pollAt pollOf viewOut
+  replied =
+      queue-put (outQueue m i) (outQueue m′ i) (out-kept sys small s inv m′ answer-grown i h) (inv .rows i h .out-read) refl
+      (update-same (λ j. m WORKERS j OUTEND) i (m WORKERS i OUTEND + 1))
+      ∙ ap (λ (a : Message). viewOut m i ++ (a ∷ []))
+      (ap (messageOf m′ i) (update₂-same (λ n j. m OUT j n) (m WORKERS i OUTEND) i (m WORKERS i HELD))
+      ∙ reply-code m′ i (m WORKERS i HELD) (omega (arith, held-small)))
+
+  answer-view : view sys m′ t ≡ afterAnswer (suc i) held (view sys m t)
+  unfolding view-parts answeredM afterAnswer
+  answer-view = same-state _ _ (record {
+    domain = λ x v. refl;
+    counter = λ x v y. refl;
+    workList = λ k. refl;
+    toSend = λ k. refl;
+    held = held-update sys m m′ i none h here there;
+    listCounter = λ k. refl;
+    channel = channels-update sys (rowsOf m t) (rowsOf m′ t) (suc i) 0 _
+        (at-out sys (rowsOf m′ t) i h
+        ∙ replied
+        ∙ ap (λ (l : List Message). l ++ (reply (held .number) ∷ [])) (sym (at-out sys (rowsOf m t) i h)))
+        other-channels;
+    timestamp = refl;
+    pollOpen = refl;
+    marked = λ k. refl;
+    closed = refl;
+  })
+    where
+      here : heldAt m′ i ≡ none
+      here =
+          ap (λ (n : ℕ). cond (eqb n 0) none (some (pollAt m n))) (update-same (λ j. m WORKERS j HELD) i 0)
+
+      there : (j : ℕ) → j < sys .workers → (j ≡ i → ⊥) → heldAt m′ j ≡ heldAt m j
+      there j hj n =
+          ap (λ (n : ℕ). cond (eqb n 0) none (some (pollAt m n))) (update-other (λ j. m WORKERS j HELD) i 0 j n)
+
+  -- both lists are empty, and the list counter equals the wanted count
+  abbrev isReady : Bool
+  isReady =
+      eqb (m WORKERS i HEAD) (m WORKERS i TAIL)
+      && eqb (m BOUNDS i (m WORKERS i SENDS)) (m WORKERS i LOGEND)
+      && eqb (m WORKERS i LISTS) (m WANTED 0 (m WORKERS i HELD))
+
+  ready-row : ready (suc i) held (viewOf sys s) ≡ isReady
+  unfolding ready view held pollAt pollOf
+  ready-row =
+      ap₂ (λ (a b : Bool). a && b)
+      (ap₂ (λ (a b : Bool). a && b) no-work (nothing-to-send sys small s inv i h))
+      (ap (λ (n : ℕ). eqb n (m WANTED 0 (m WORKERS i HELD))) count)
+    where
+      no-work : isEmpty (viewWork sys m (suc i)) ≡ eqb (m WORKERS i HEAD) (m WORKERS i TAIL)
+      no-work =
+          unfold viewWork labelsBetween in
+          ap isEmpty
+          (at-worker sys (λ j. labelsBetween m WORK j (m WORKERS j HEAD) (m WORKERS j TAIL)) [] i h)
+          ∙ queue-empty (queue (m WORKERS i HEAD) (m WORKERS i TAIL) (λ d. labelOf (m WORK i d))) (inv .rows i h .queue)
+
+      count : viewLists sys m t (suc i) ≡ m WORKERS i LISTS
+      count = unfold viewLists in counter-worker sys (λ j. m WORKERS j LISTS) (t .lists .0) i h
+
+  -- there is room for every reply
+  answer-room : answerM i m ≡ cond (eqb (m WORKERS i HELD) 0) none (cond isReady (some m′) none)
+  unfolding answerM
+  answer-room =
+      rw (
+        lt-ltb (m WORKERS i HELD) 520 held-small,
+        lt-ltb (m WORKERS i SENDS) 519 (omega (arith, sends-few sys small s inv i h)),
+        lt-ltb (m WORKERS i OUTEND) 520 (omega (arith, outend-few sys small s inv i h)),
+      )
+      (ap (cond (eqb (m WORKERS i HELD) 0) none)
+      (nested (eqb (m WORKERS i HEAD) (m WORKERS i TAIL)) (eqb (m BOUNDS i (m WORKERS i SENDS)) (m WORKERS i LOGEND))
+      (eqb (m WORKERS i LISTS) (m WANTED 0 (m WORKERS i HELD))) (some m′) none))
+
+  -- answering in memory is answering
+  pub answer-refines : mapO (λ m′. view sys m′ t) (answerM i m) ≡ answer (suc i) (viewOf sys s)
+  unfolding answer
+  answer-refines =
+      ap (mapO (λ m′. view sys m′ t)) answer-room
+      ∙ go (eqb (m WORKERS i HELD) 0)
+      ∙ ap (answerTo (suc i) (viewOf sys s)) (sym holds)
+    where
+      holds : viewOf sys s .held (suc i) ≡ cond (eqb (m WORKERS i HELD) 0) none (some held)
+      holds = unfold view held in held-worker sys m i h
+
+      go : (b : Bool)
+          → mapO (λ m′. view sys m′ t) (cond b none (cond isReady (some m′) none))
+          ≡ answerTo (suc i) (viewOf sys s) (cond b none (some held))
+      go true = refl
+      go false =
+          mapO-cond (λ m′. view sys m′ t) isReady m′ (afterAnswer (suc i) held (viewOf sys s)) answer-view
+          ∙ ap (λ (b : Bool). cond b (some (afterAnswer (suc i) held (viewOf sys s))) none) (sym ready-row)

@@ -1,0 +1,183 @@
+-- Answering keeps the invariant: a worker replies once at each value of its list counter.
+use Prim.Native.Nat.{ℕ, _+_, _-_, _<_, _≤_}
+use mathlib.Core.Bool.{false}
+use mathlib.Core.Logic.{inl, inr, ⊎-elim}
+use mathlib.Core.Option.{some}
+use mathlib.Core.Path.{_≡_, refl, sym, _∙_, ap}
+use native.Mathlib.Decide.{ℕ-discrete}
+use native.Mathlib.Omega.{arith}
+use borrow.Author.Tests.{ltb-true, eqb-true, eqb-false, lt-leb, ne-eqb}
+use lib.Dec.{ltb, eqb}
+use Rattle.base.proofs.Bools.{decided}
+use Rattle.base.specs.Below.{one}
+use Rattle.disac4.specs.System.{System}
+use Rattle.disac4.specs.declared.Tally.{Tally}
+use Rattle.cells.specs.Layout.{WORKERS, BOUNDS, OUT, WANTED, HEAD, TAIL, LOGEND, SENDS, LISTS, HELD, OUTEND}
+use Rattle.cells.specs.Memory.{Mem}
+use Rattle.messages.specs.Messages.{answerM, answeredM}
+use Rattle.cells.specs.View.{LISTMARK}
+use Rattle.refinement.proofs.Capacity.{risen}
+use Rattle.refinement.proofs.Frame.{OnlyRow, Answered, row-action, follows-itself}
+use Rattle.refinement.specs.Inv.{Row, Polled, Replied, Totals, Inv}
+use Rattle.refinement.proofs.Outgoing.{Put, put-lists, put-counted, put-heard}
+use Rattle.refinement.proofs.Stores.{and-never, store-same, store-other, if-some, unless-some, some-same}
+
+-- wanted counts rise from poll to poll
+wanted-later : (m : Mem) (t : Tally) → Polled m t → (n n′ : ℕ) → 0 < n → n ≤ n′ → n′ ≤ t .timestamp .0
+    → m WANTED 0 n + (n′ - n) ≤ m WANTED 0 n′
+wanted-later m t p n n′ h l b =
+    let e : n + (n′ - n) ≡ n′ = omega arith in
+    omega (arith, ap (m WANTED 0) e, risen (m WANTED 0) n (n′ - n) (λ k x y. p .rises k (omega arith) (omega arith)))
+
+-- ---- what the stores changed
+
+module _ (i : ℕ) (m : Mem) where
+  other-rows : (k c : ℕ) → (k ≡ i → ⊥) → answeredM i m WORKERS k c ≡ m WORKERS k c
+  unfolding answeredM
+  other-rows k c n = simp (ne-eqb k i n, and-never)
+
+  none-held : answeredM i m WORKERS i HELD ≡ 0
+  unfolding answeredM
+  none-held = store-same m WORKERS i HELD 0
+
+  put : Put i (m WORKERS i HELD) m (answeredM i m)
+  unfolding answeredM
+  put = record {
+    more = store-same m WORKERS i OUTEND (m WORKERS i OUTEND + 1);
+    others = λ k n. other-rows k OUTEND n;
+    read = λ k. refl;
+    new = store-same m OUT i (m WORKERS i OUTEND) (m WORKERS i HELD);
+    old = λ k e n. store-other m OUT i (m WORKERS i OUTEND) (m WORKERS i HELD) OUT k e (λ p. n);
+  }
+
+  only-row : OnlyRow m (answeredM i m) i
+  unfolding answeredM
+  only-row = record {
+    others = λ k n. record {
+      workers = λ c. other-rows k c n;
+      bounds = λ c. refl;
+      log = λ c. refl;
+      work = λ c. refl;
+      out = λ c. put .old k c (λ p. n);
+    };
+    wanted = λ n. refl;
+    heads = λ x y. refl;
+    domain = λ x v. refl;
+  }
+
+-- what an answer asks: a poll is held, both lists are empty, and the list counter equals the wanted count
+record Ready (i : ℕ) (m : Mem) : Type 0 where
+  held : 0 < m WORKERS i HELD
+  low : m WORKERS i HELD < LISTMARK
+  no-work : m WORKERS i HEAD ≡ m WORKERS i TAIL
+  no-send : m BOUNDS i (m WORKERS i SENDS) ≡ m WORKERS i LOGEND
+  wanted : m WORKERS i LISTS ≡ m WANTED 0 (m WORKERS i HELD)
+
+-- ---- the parts of the invariant
+
+module _ (sys : System) (m : Mem) (t : Tally) (i : ℕ) (inv : Inv sys (record { mem = m; tally = t })) (h : i < sys .workers)
+    (ready : Ready i m) where
+  row : Row sys (answeredM i m) t i
+  unfolding answeredM
+  row =
+      let r = inv .rows i h in
+      record {
+        queue = r .queue;
+        first-bound = r .first-bound;
+        bounds-rise = r .bounds-rise;
+        last-bound = r .last-bound;
+        out-read = omega (arith, put i m .more, r .out-read);
+        out-list =
+            put-lists i (m WORKERS i HELD) m (answeredM i m) (put i m) (omega arith) (λ l. omega (arith, ready .low))
+            (r .out-list);
+        polls-read = r .polls-read;
+        held-read = omega (arith, none-held i m);
+        log-codes = r .log-codes;
+        work-codes = r .work-codes;
+      }
+
+  totals : Totals sys (answeredM i m) t
+  unfolding answeredM
+  totals =
+      let u = inv .totals in
+      record {
+        own-cursor = u .own-cursor;
+        cursor = u .cursor;
+        pushed = u .pushed;
+        counted = u .counted;
+        logged = u .logged;
+        all-out = λ k p.
+            put-counted i (m WORKERS i HELD) m (answeredM i m) (put i m)
+            (omega (arith, ap one (lt-leb LISTMARK (m WORKERS i HELD) (ready .low)))) (λ k n. refl) k (u .all-out k p);
+        heard =
+            u .heard
+            ∙ sym
+            (put-heard i (m WORKERS i HELD) m (answeredM i m) (put i m) (sys .workers) (λ k p. inv .rows k p .out-read));
+      }
+
+  -- the poll that was answered was sent
+  sent : m WORKERS i HELD ≤ t .timestamp .0
+  sent = omega (arith, inv .rows i h .held-read, inv .rows i h .polls-read)
+
+  -- every later poll asks for more lists
+  more-wanted : (n : ℕ) → m WORKERS i HELD ≤ n → n ≤ t .timestamp .0
+      → m WORKERS i LISTS + (n - m WORKERS i HELD) ≤ m WANTED 0 n
+  more-wanted n l b =
+      omega (arith, ready .wanted, wanted-later m t (inv .polled) (m WORKERS i HELD) n (ready .held) l b)
+
+  -- a first reply at this count
+  first-reply : m WORKERS i OUTEND ≡ m WORKERS i LISTS → Replied (answeredM i m) t i
+  unfolding answeredM
+  first-reply e =
+      let p = inv .polled in
+      let last = more-wanted (t .timestamp .0) sent (omega arith) in
+      let some-poll : 0 < t .timestamp .0 = omega (arith, sent, ready .held) in
+      let ended : t .polling ≡ false → m WORKERS i LISTS < t .lists .0 = λ x. omega (arith, p .wanted-ended x some-poll) in
+      record {
+        one-more = omega (arith, put i m .more);
+        no-work = ready .no-work;
+        no-send = ready .no-send;
+        held-later = λ l. omega (arith, none-held i m);
+        polls-later = λ n l b. omega (arith, more-wanted n (omega (arith, inv .rows i h .held-read)) b, inv .rows i h .held-read);
+        ended-later = ended;
+        count-low =
+            ⊎-elim (λ x. omega (arith, p .wanted-open x .1)) (λ x. omega (arith, ended x)) (decided (t .polling));
+      }
+
+  answered : Answered (answeredM i m) t i
+  unfolding answeredM
+  answered =
+      ⊎-elim
+      (λ l.
+      elim (ℕ-discrete (m WORKERS i OUTEND) (m WORKERS i LISTS)) [
+        | yes e ↦ inr (first-reply e)
+        | no n ↦ inl (omega (arith, put i m .more))
+      ])
+      (λ r. absurd (omega (arith, r .held-later (ready .held), ready .wanted)))
+      (inv .replied i h)
+
+  answered-keeps : Inv sys (record { mem = answeredM i m; tally = t })
+  answered-keeps =
+      row-action sys (record { mem = m; tally = t }) (record { mem = answeredM i m; tally = t }) i inv (only-row i m)
+      (follows-itself m t (inv .polled)) row totals answered (inv .marks)
+
+-- answering keeps the invariant
+pub answer-keeps : (sys : System) (m m′ : Mem) (t : Tally) (i : ℕ) → Inv sys (record { mem = m; tally = t })
+    → i < sys .workers → answerM i m ≡ some m′ → Inv sys (record { mem = m′; tally = t })
+unfolding answerM
+answer-keeps sys m m′ t i inv h e =
+    let e₁ = unless-some (eqb (m WORKERS i HELD) 0) e in
+    let e₂ = if-some (ltb (m WORKERS i HELD) 520) (e₁ .1) in
+    let e₃ = if-some (eqb (m WORKERS i HEAD) (m WORKERS i TAIL)) (e₂ .1) in
+    let e₄ = if-some (ltb (m WORKERS i SENDS) 519) (e₃ .1) in
+    let e₅ = if-some (eqb (m BOUNDS i (m WORKERS i SENDS)) (m WORKERS i LOGEND)) (e₄ .1) in
+    let e₆ = if-some (eqb (m WORKERS i LISTS) (m WANTED 0 (m WORKERS i HELD))) (e₅ .1) in
+    let e₇ = if-some (ltb (m WORKERS i OUTEND) 520) (e₆ .1) in
+    some-same (λ x. Inv sys (record { mem = x; tally = t })) (e₇ .1)
+    (answered-keeps sys m t i inv h (record {
+      held = omega (arith, eqb-false (m WORKERS i HELD) 0 (e₁ .0));
+      low = omega (arith, ltb-true (m WORKERS i HELD) 520 (e₂ .0));
+      no-work = eqb-true (m WORKERS i HEAD) (m WORKERS i TAIL) (e₃ .0);
+      no-send = eqb-true (m BOUNDS i (m WORKERS i SENDS)) (m WORKERS i LOGEND) (e₅ .0);
+      wanted = eqb-true (m WORKERS i LISTS) (m WANTED 0 (m WORKERS i HELD)) (e₆ .0);
+    }))

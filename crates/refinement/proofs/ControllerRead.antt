@@ -1,0 +1,237 @@
+-- The controller's read in memory is the controller's read.
+use Prim.Native.Nat.{ℕ, suc, _+_, _-_, _^_, _<_}
+use mathlib.Core.Bool.{Bool, true, false, cond, _&&_}
+use mathlib.Core.List.{_∷_}
+use mathlib.Core.Option.{none, some}
+use mathlib.Core.Path.{_≡_, refl, sym, _∙_, ap}
+use native.Mathlib.Numerals.{add-one}
+use native.Mathlib.Omega.{arith}
+use borrow.Author.Tests.{lt-ltb, ltb-true, ltb-false}
+use lib.Dec.{leb, ltb, eqb}
+use Rattle.base.proofs.Choice.{cond-true, cond-false, update-same, update-other}
+use Rattle.base.specs.Choice.{update, update₂}
+use Rattle.base.specs.Row.{bit}
+use Rattle.disac4.specs.Action.{afterCount, afterMark, afterDrop, allMarked, current, controllerFrom, readController}
+use Rattle.disac4.specs.State.{State, Controller, list, reply}
+use Rattle.disac4.specs.System.{System}
+use Rattle.disac4.specs.declared.Tally.{Tally}
+use Rattle.cells.specs.Layout.{WORKERS, OUT, LISTS, OUTEND, OUTREAD}
+use Rattle.cells.specs.Memory.{Mem}
+use Rattle.controller.specs.Controller.{countedT, markedT, toldT, withMark, hasOut, outReadM}
+use Rattle.controller.specs.Controller.{Machine, hearM}
+use Rattle.cells.specs.View.{LISTMARK, isWorker, listAt, messageOf, view, viewLists, viewOut}
+use Rattle.refinement.proofs.Actors.{atActor, at-worker, actors-update}
+use Rattle.refinement.proofs.Capacity.{heard-few, outend-few}
+use Rattle.refinement.proofs.ChannelRows.{at-out, Stays, Beside, channels-update}
+use Rattle.refinement.proofs.Grown.{Grown, outQueue, out-kept, channels-kept}
+use Rattle.refinement.specs.Inv.{Small, Inv}
+use Rattle.refinement.proofs.Marks.{all-ext, mark-small, mark-bit, marks-full}
+use Rattle.refinement.proofs.Queue.{queue-taken, queue-none}
+use Rattle.refinement.proofs.Seen.{mapO, viewOf, view-parts, rowsOf, channel-rows, same-state}
+
+module _ (sys : System) (small : Small sys) (s : Machine) (inv : Inv sys s) (i : ℕ) (h : i < sys .workers) where
+  abbrev m : Mem
+  m = s .mem
+
+  abbrev t : Tally
+  t = s .tally
+
+  abbrev m′ : Mem
+  m′ = outReadM i m
+
+  heard-grown : Grown sys m t m′
+  unfolding outReadM
+  heard-grown = record {
+    logs = λ j hj d l. refl;
+    bounds = λ j hj n l. refl;
+    outs = λ j hj n l. refl;
+    wanted = λ n l. refl;
+  }
+
+  -- the channel from worker `i + 1` loses its oldest message, whatever the tally makes of that
+  other-channels : (t′ : Tally) → t′ .timestamp .0 ≡ t .timestamp .0 → Stays sys (Beside (suc i) 0) (rowsOf m t) (rowsOf m′ t′)
+  unfolding outReadM
+  other-channels t′ e = channels-kept sys small s inv m′ heard-grown t′ (Beside (suc i) 0) (record {
+    cursors = λ j k hj hk n. refl;
+    sends = λ j k hj hk n. refl;
+    out-read = λ j hj n. update-other (λ j. m WORKERS j OUTREAD) i (m WORKERS i OUTREAD + 1) j (λ e. n (ap suc e) refl);
+    out-end = λ j hj n. refl;
+    polls = λ k hk n. refl;
+    timestamp = λ k hk n. e;
+  })
+
+  -- what the controller makes of the message: its count and the rest of its part
+  record Told (t′ : Tally) (lists : ℕ → ℕ) (c : Controller) : Type 0 where
+    pub listCounter : (k : ℕ) → viewLists sys m t′ k ≡ lists k
+    pub timestamp : t′ .timestamp .0 ≡ t .timestamp .0
+    pub unchanged : c .timestamp ≡ t .timestamp .0
+    pub pollOpen : t′ .polling ≡ c .pollOpen
+    pub marked : (k : ℕ) → isWorker sys k && bit (t′ .marks) (k - 1) ≡ c .marked k
+    pub closed : t′ .closed ≡ c .closed
+
+  abbrev after : (ℕ → ℕ) → Controller → State
+  after lists c = record {
+    domain = viewOf sys s .domain;
+    counter = viewOf sys s .counter;
+    workList = viewOf sys s .workList;
+    toSend = viewOf sys s .toSend;
+    held = viewOf sys s .held;
+    listCounter = lists;
+    channel = update₂ (viewOf sys s .channel) (suc i) 0 (viewOut m′ i);
+    controller = c;
+  }
+
+  heard-view : (t′ : Tally) (lists : ℕ → ℕ) (c : Controller) → Told t′ lists c → view sys m′ t′ ≡ after lists c
+  unfolding view-parts outReadM
+  heard-view t′ lists c told = same-state _ _ (record {
+    domain = λ x v. refl;
+    counter = λ x v y. refl;
+    workList = λ k. refl;
+    toSend = λ k. refl;
+    held = λ k. refl;
+    listCounter = told .listCounter;
+    channel = channels-update sys (rowsOf m t) (rowsOf m′ t′) (suc i) 0 (viewOut m′ i)
+        (at-out sys (rowsOf m′ t′) i h) (other-channels t′ (told .timestamp));
+    timestamp = told .timestamp ∙ sym (told .unchanged);
+    pollOpen = told .pollOpen;
+    marked = told .marked;
+    closed = told .closed;
+  })
+
+  -- a list message
+  counted-view : view sys m′ (countedT t) ≡ afterCount (suc i) (viewOut m′ i) (view sys m t)
+  unfolding view viewLists countedT afterCount
+  counted-view =
+      heard-view (countedT t) _ _ (record {
+        listCounter = λ k. one-more (eqb k 0) (atActor sys (λ j. m WORKERS j LISTS) 0 k);
+        timestamp = refl;
+        unchanged = refl;
+        pollOpen = refl;
+        marked = λ k. refl;
+        closed = refl;
+      })
+    where
+      one-more : (b : Bool) (n : ℕ)
+          → cond b (t .lists .0 + 1) n ≡ cond b (suc (t .lists .0)) (cond b (t .lists .0) n)
+      one-more true n = add-one (t .lists .0)
+      one-more false n = refl
+
+  -- a reply to another poll
+  dropped-view : view sys m′ t ≡ afterDrop (suc i) 0 (viewOut m′ i) (view sys m t)
+  unfolding view afterDrop
+  dropped-view =
+      heard-view t _ _ (record {
+        listCounter = λ k. refl;
+        timestamp = refl;
+        unchanged = refl;
+        pollOpen = refl;
+        marked = λ k. refl;
+        closed = refl;
+      })
+
+  -- the workers marked by a row of bits
+  abbrev marks : ℕ → ℕ → Bool
+  marks r k = isWorker sys k && bit r (k - 1)
+
+  marks-actor : (r k : ℕ) → marks r k ≡ atActor sys (bit r) false k
+  marks-actor r k = go (isWorker sys k) (bit r (k - 1))
+    where
+      go : (a b : Bool) → a && b ≡ cond a b false
+      go true b = refl
+      go false b = refl
+
+  marked-more : (k : ℕ) → marks (withMark (t .marks) i) k ≡ update (marks (t .marks)) (suc i) true k
+  marked-more k =
+      marks-actor (withMark (t .marks) i) k
+      ∙ actors-update sys (bit (t .marks)) (bit (withMark (t .marks) i)) false i true h
+      (mark-bit (sys .workers) (t .marks) (inv .marks) i h i h ∙ update-same (bit (t .marks)) i true)
+      (λ j l n. mark-bit (sys .workers) (t .marks) (inv .marks) i h j l ∙ update-other (bit (t .marks)) i true j n) k
+      ∙ ap (λ (b : Bool). cond (eqb k (suc i)) true b) (sym (marks-actor (t .marks) k))
+
+  closed-full : eqb (withMark (t .marks) i + 1) (2 ^ sys .workers) ≡ allMarked sys (update (marks (t .marks)) (suc i) true)
+  unfolding allMarked
+  closed-full =
+      marks-full (sys .workers) (withMark (t .marks) i) (mark-small (sys .workers) (t .marks) (inv .marks) i h)
+      ∙ all-ext (sys .workers) (bit (withMark (t .marks) i)) (λ j. update (marks (t .marks)) (suc i) true (suc j))
+      (λ j l.
+      sym
+      (at-worker sys (bit (withMark (t .marks) i)) false j l)
+      ∙ sym (marks-actor (withMark (t .marks) i) (suc j))
+      ∙ marked-more (suc j))
+
+  -- a reply to the open poll
+  marked-view : view sys m′ (markedT (sys .workers) i t) ≡ afterMark sys (suc i) (viewOut m′ i) (view sys m t)
+  unfolding view viewLists markedT afterMark
+  marked-view =
+      heard-view (markedT (sys .workers) i t) _ _ (record {
+        listCounter = λ k. refl;
+        timestamp = refl;
+        unchanged = refl;
+        pollOpen = refl;
+        marked = marked-more;
+        closed = closed-full;
+      })
+
+  -- the oldest message to the controller
+  abbrev oldest : ℕ
+  oldest = m OUT i (m WORKERS i OUTREAD)
+
+  -- the tally that it leaves
+  told-view : (c : ℕ)
+      → some (view sys m′ (toldT (sys .workers) i c t))
+      ≡ controllerFrom sys (suc i) (viewOf sys s) (messageOf m i c ∷ viewOut m′ i)
+  unfolding toldT messageOf
+  told-view c = go (leb LISTMARK c) (t .polling) (eqb c (t .timestamp .0)) (unfold view current in refl)
+    where
+      go : (a b d : Bool) → current (record { 0 = c }) (viewOf sys s) ≡ b && d
+          → some (view sys m′ (cond a (countedT t) (cond b (cond d (markedT (sys .workers) i t) t) t)))
+          ≡ controllerFrom sys (suc i) (viewOf sys s)
+          (cond a (list (listAt m i (c - LISTMARK))) (reply (record { 0 = c })) ∷ viewOut m′ i)
+      go true b d e = ap some counted-view
+      go false true true e = ap some (marked-view ∙ sym (cond-true _ _ e))
+      go false true false e = ap some (dropped-view ∙ sym (cond-false _ _ e))
+      go false false d e = ap some (dropped-view ∙ sym (cond-false _ _ e))
+
+  -- the room that the read looks for is there
+  hear-room : hasOut i t m ≡ ltb (m WORKERS i OUTREAD) (m WORKERS i OUTEND)
+  unfolding hasOut
+  hear-room =
+      rw (
+        lt-ltb (m WORKERS i OUTREAD) 520
+            (omega (arith, inv .rows i h .out-read, outend-few sys small s inv i h)),
+        lt-ltb (t .lists .0) 65535 (omega (arith, heard-few sys small s inv)),
+      )
+      (go (ltb (m WORKERS i OUTREAD) (m WORKERS i OUTEND)))
+    where
+      go : (b : Bool) → b && true && true ≡ b
+      go true = refl
+      go false = refl
+
+  abbrev heard : Machine
+  heard = record { mem = m′; tally = toldT (sys .workers) i oldest t }
+
+  -- the controller's read in memory is its read
+  pub hear-refines : mapO (viewOf sys) (hearM sys i s) ≡ readController sys (suc i) (viewOf sys s)
+  unfolding hearM readController viewOut outReadM
+  hear-refines =
+      ap (λ (b : Bool). mapO (viewOf sys) (cond b (some heard) none)) hear-room
+      ∙ go (ltb (m WORKERS i OUTREAD) (m WORKERS i OUTEND)) refl
+    where
+      channel : viewOf sys s .channel (suc i) 0 ≡ viewOut m i
+      channel = channel-rows sys s (suc i) 0 ∙ at-out sys (rowsOf m t) i h
+
+      go : (b : Bool) → ltb (m WORKERS i OUTREAD) (m WORKERS i OUTEND) ≡ b
+          → mapO (viewOf sys) (cond b (some heard) none)
+          ≡ controllerFrom sys (suc i) (viewOf sys s) (viewOf sys s .channel (suc i) 0)
+      go true p =
+          told-view oldest
+          ∙ sym
+          (ap (controllerFrom sys (suc i) (viewOf sys s))
+          (channel
+          ∙ queue-taken (outQueue m i) (outQueue m′ i) (out-kept sys small s inv m′ heard-grown i h)
+          (ltb-true (m WORKERS i OUTREAD) (m WORKERS i OUTEND) p)
+          (update-same (λ j. m WORKERS j OUTREAD) i (m WORKERS i OUTREAD + 1)) refl))
+      go false p =
+          sym
+          (ap (controllerFrom sys (suc i) (viewOf sys s))
+          (channel ∙ queue-none (outQueue m i) (ltb-false (m WORKERS i OUTREAD) (m WORKERS i OUTEND) p)))

@@ -1,0 +1,242 @@
+-- What each part of the invariant depends on: where those cells are kept, so is the part.
+use Prim.Native.Nat.{ℕ, _+_, _^_, _<_, _≤_}
+use mathlib.Core.Bool.{true}
+use mathlib.Core.Logic.{_⊎_, inl, inr, ⊎-elim}
+use mathlib.Core.Path.{_≡_, refl, sym, _∙_, ap, ap₂, fun-ext, subst}
+use native.Mathlib.Numerals.{add-one}
+use native.Mathlib.Omega.{arith}
+use lib.Dec.{leb, eqb}
+use Rattle.base.proofs.Sums.{sum-ext, count-ext}
+use Rattle.base.specs.Below.{sumBelow, one}
+use Rattle.network.proofs.DomainSize.{domainSize}
+use Rattle.disac4.specs.System.{System}
+use Rattle.disac4.specs.declared.Tally.{Tally}
+use Rattle.cells.specs.Layout.{WORKERS, CURSORS, BOUNDS, LOG, WORK, OUT, WANTED, DOMAIN, HEADS, HEAD, TAIL, LOGEND, SENDS, LISTS, HELD, POLLS, OUTEND, OUTREAD}
+use Rattle.cells.specs.Memory.{Mem}
+use Rattle.controller.specs.Controller.{Machine}
+use Rattle.cells.specs.View.{LISTED, LISTMARK}
+use Rattle.refinement.specs.Inv.{Code, Row, Polled, Replied, Inv, Totals, listsOut}
+use Rattle.index.specs.Index.{Paired}
+use Rattle.refinement.proofs.Stores.{each-row}
+
+-- a worker's cells, those of its row of cursors apart
+pub record SameRow (m m′ : Mem) (i : ℕ) : Type 0 where
+  pub workers : (c : ℕ) → m′ WORKERS i c ≡ m WORKERS i c
+  pub bounds : (n : ℕ) → m′ BOUNDS i n ≡ m BOUNDS i n
+  pub log : (d : ℕ) → m′ LOG i d ≡ m LOG i d
+  pub work : (d : ℕ) → m′ WORK i d ≡ m WORK i d
+  pub out : (e : ℕ) → m′ OUT i e ≡ m OUT i e
+
+-- the wanted counts
+abbrev pub SameWanted : Mem → Mem → Type 0
+SameWanted m m′ = (n : ℕ) → m′ WANTED 0 n ≡ m WANTED 0 n
+
+-- the index of the counters
+abbrev pub SameHeads : Mem → Mem → Type 0
+SameHeads m m′ = (x y : ℕ) → m′ HEADS x y ≡ m HEADS x y
+
+module _ (m m′ : Mem) where
+  -- a worker's row depends on its cells and on how many polls there were; its work list may grow
+  pub row-grown : (sys : System) (t t′ : Tally) (i : ℕ)
+      → ((c : ℕ) → (c ≡ TAIL → ⊥) → (c ≡ LISTS → ⊥) → m′ WORKERS i c ≡ m WORKERS i c)
+      → ((n : ℕ) → m′ BOUNDS i n ≡ m BOUNDS i n) → ((d : ℕ) → m′ LOG i d ≡ m LOG i d)
+      → ((e : ℕ) → m′ OUT i e ≡ m OUT i e) → t .timestamp .0 ≤ t′ .timestamp .0
+      → m WORKERS i TAIL ≤ m′ WORKERS i TAIL → ((d : ℕ) → d < m′ WORKERS i TAIL → Code sys (m′ WORK i d))
+      → Row sys m t i → Row sys m′ t′ i
+  row-grown sys t t′ i workers bounds log out l longer codes r = record {
+    queue = omega (arith, column HEAD (omega arith), r .queue);
+    first-bound = bounds 0 ∙ r .first-bound;
+    bounds-rise = λ n h. omega (arith, bounds n, bounds (n + 1), r .bounds-rise n (omega (arith, sends)));
+    last-bound = rw (sends, log-end, bounds (m WORKERS i SENDS)) (r .last-bound);
+    out-read = omega (arith, column OUTREAD (omega arith), out-end, r .out-read);
+    out-list = λ e h g. omega (arith, out e, sends, r .out-list e (omega (arith, out-end)) (omega (arith, out e)));
+    polls-read = omega (arith, polls, r .polls-read);
+    held-read = omega (arith, column HELD (omega arith), polls, r .held-read);
+    log-codes = λ d h. rw (log d) (r .log-codes d (omega (arith, log-end)));
+    work-codes = codes;
+  }
+    where
+      column : (c : ℕ) → (c ≡ TAIL → ⊥) × (c ≡ LISTS → ⊥) → m′ WORKERS i c ≡ m WORKERS i c
+      column c n = workers c (n .0) (n .1)
+
+      sends : m′ WORKERS i SENDS ≡ m WORKERS i SENDS
+      sends = column SENDS (omega arith)
+
+      log-end : m′ WORKERS i LOGEND ≡ m WORKERS i LOGEND
+      log-end = column LOGEND (omega arith)
+
+      out-end : m′ WORKERS i OUTEND ≡ m WORKERS i OUTEND
+      out-end = column OUTEND (omega arith)
+
+      polls : m′ WORKERS i POLLS ≡ m WORKERS i POLLS
+      polls = column POLLS (omega arith)
+
+  -- the same where the work list is kept too
+  pub row-kept : (sys : System) (t t′ : Tally) (i : ℕ) → SameRow m m′ i → t .timestamp .0 ≤ t′ .timestamp .0
+      → Row sys m t i → Row sys m′ t′ i
+  row-kept sys t t′ i s l r =
+      row-grown sys t t′ i (λ c p q. s .workers c) (s .bounds) (s .log) (s .out) l (omega (arith, s .workers TAIL))
+      (λ d h.
+      rw (s .work d) (r .work-codes d (omega (arith, s .workers TAIL)))) r
+
+  -- polls depend on the wanted counts
+  pub polled-kept : (t : Tally) → SameWanted m m′ → Polled m t → Polled m′ t
+  polled-kept t w p = record {
+    rises = λ n h l. omega (arith, w n, w (n + 1), p .rises n h l);
+    wanted-open = λ e. (p .wanted-open e .0, w (t .timestamp .0) ∙ p .wanted-open e .1);
+    wanted-ended = λ e h. omega (arith, w (t .timestamp .0), p .wanted-ended e h);
+  }
+
+  -- a reply depends on its worker's cells, on the wanted counts, and not on what the controller has read
+  pub replied-kept : (t : Tally) (i : ℕ) → ((c : ℕ) → (c ≡ OUTREAD → ⊥) → m′ WORKERS i c ≡ m WORKERS i c)
+      → ((n : ℕ) → m′ BOUNDS i n ≡ m BOUNDS i n) → SameWanted m m′ → Replied m t i → Replied m′ t i
+  replied-kept t i workers bounds w r = record {
+    one-more = omega (arith, workers OUTEND (omega arith), lists, r .one-more);
+    no-work = omega (arith, workers HEAD (omega arith), workers TAIL (omega arith), r .no-work);
+    no-send = rw (workers SENDS (omega arith), workers LOGEND (omega arith), bounds (m WORKERS i SENDS)) (r .no-send);
+    held-later = λ h. rw (lists, held, w (m WORKERS i HELD)) (r .held-later (omega (arith, held)));
+    polls-later = λ n h l. omega (arith, w n, lists, r .polls-later n (omega (arith, workers POLLS (omega arith))) l);
+    ended-later = λ e. omega (arith, lists, r .ended-later e);
+    count-low = omega (arith, lists, r .count-low);
+  }
+    where
+      lists : m′ WORKERS i LISTS ≡ m WORKERS i LISTS
+      lists = workers LISTS (omega arith)
+
+      held : m′ WORKERS i HELD ≡ m WORKERS i HELD
+      held = workers HELD (omega arith)
+
+  -- the rows of counters depend on the index
+  pub paired-kept : (sys : System) → SameHeads m m′ → Paired sys m → Paired sys m′
+  paired-kept sys s p = record {
+    low = λ x y e. rw (s x y) (p .low x y e);
+    high = λ x y e. rw (s x y) (p .high x y e);
+    own = λ x y x′ y′ e f q. p .own x y x′ y′ e f (sym (s x y) ∙ q ∙ s x′ y′);
+  }
+
+  -- how many list messages a row put depends on its messages up to there
+  pub lists-out-kept : (i n n′ : ℕ) → n′ ≡ n → ((e : ℕ) → e < n → m′ OUT i e ≡ m OUT i e)
+      → listsOut m′ i n′ ≡ listsOut m i n
+  lists-out-kept i n n′ q s =
+      ap (listsOut m′ i) q
+      ∙ count-ext n (λ e. leb LISTMARK (m′ OUT i e)) (λ e. leb LISTMARK (m OUT i e)) (λ e h. ap (leb LISTMARK) (s e h))
+
+  -- with one message more
+  pub lists-out-more : (i n n′ : ℕ) → n′ ≡ n + 1 → ((e : ℕ) → e < n → m′ OUT i e ≡ m OUT i e)
+      → listsOut m′ i n′ ≡ listsOut m i n + one (leb LISTMARK (m′ OUT i n))
+  lists-out-more i n n′ q s =
+      ap (listsOut m′ i) (q ∙ add-one n) ∙ ap (λ x. x + one (leb LISTMARK (m′ OUT i n))) (lists-out-kept i n n refl s)
+
+  -- the labels in logs and domains depend on where the logs end and on the domains
+  pub logged-kept : (sys : System) → ((i : ℕ) → m′ WORKERS i LOGEND ≡ m WORKERS i LOGEND)
+      → ((x v : ℕ) → m′ DOMAIN x v ≡ m DOMAIN x v)
+      → sumBelow (sys .workers) (λ i. m′ WORKERS i LOGEND) + domainSize (sys .net) (λ x v. eqb (m′ DOMAIN x v) LISTED)
+      ≡ sumBelow (sys .workers) (λ i. m WORKERS i LOGEND) + domainSize (sys .net) (λ x v. eqb (m DOMAIN x v) LISTED)
+  logged-kept sys ends domain =
+      ap₂ _+_ (sum-ext (sys .workers) (λ i. m′ WORKERS i LOGEND) (λ i. m WORKERS i LOGEND) (λ i h. ends i))
+      (ap (domainSize (sys .net)) (fun-ext λ x. fun-ext λ v. ap (λ c. eqb c LISTED) (domain x v)))
+
+  -- what the controller has counted depends on the messages that it read
+  pub heard-kept : (p : ℕ) → ((i : ℕ) → i < p → m′ WORKERS i OUTREAD ≡ m WORKERS i OUTREAD)
+      → ((i e : ℕ) → i < p → e < m WORKERS i OUTREAD → m′ OUT i e ≡ m OUT i e)
+      → sumBelow p (λ i. listsOut m′ i (m′ WORKERS i OUTREAD)) ≡ sumBelow p (λ i. listsOut m i (m WORKERS i OUTREAD))
+  heard-kept p read out =
+      sum-ext p (λ i. listsOut m′ i (m′ WORKERS i OUTREAD)) (λ i. listsOut m i (m WORKERS i OUTREAD)) (λ i h.
+      lists-out-kept i (m WORKERS i OUTREAD) (m′ WORKERS i OUTREAD) (read i h) (λ e l. out i e h l))
+
+-- the cells of which the totals speak
+pub record SameTotals (m m′ : Mem) : Type 0 where
+  pub workers : (i c : ℕ) → (c ≡ HELD → ⊥) → (c ≡ POLLS → ⊥) → m′ WORKERS i c ≡ m WORKERS i c
+  pub cursors : (j i : ℕ) → m′ CURSORS j i ≡ m CURSORS j i
+  pub bounds : (i n : ℕ) → m′ BOUNDS i n ≡ m BOUNDS i n
+  pub domain : (x v : ℕ) → m′ DOMAIN x v ≡ m DOMAIN x v
+  pub out : (i e : ℕ) → m′ OUT i e ≡ m OUT i e
+
+-- the totals depend on those cells and on how many lists the controller has counted
+pub totals-kept : (sys : System) (m m′ : Mem) (t t′ : Tally) → SameTotals m m′ → t′ .lists .0 ≡ t .lists .0
+    → Totals sys m t → Totals sys m′ t′
+totals-kept sys m m′ t t′ s e u = record {
+  own-cursor = λ i h. s .cursors i i ∙ u .own-cursor i h;
+  cursor = λ j i h l. omega (arith, s .cursors j i, sends j, u .cursor j i h l);
+  pushed = λ i h.
+      omega (
+        arith,
+        s .workers i TAIL (omega arith) (omega arith),
+        ends i,
+        sum-ext (sys .workers) (λ j. m′ BOUNDS j (m′ CURSORS j i)) (λ j. m BOUNDS j (m CURSORS j i)) (λ j l.
+            s .bounds j (m′ CURSORS j i) ∙ ap (m BOUNDS j) (s .cursors j i)),
+        u .pushed i h,
+      );
+  counted = λ i h.
+      omega (
+        arith,
+        s .workers i LISTS (omega arith) (omega arith),
+        sends i,
+        sum-ext (sys .workers) (λ j. m′ CURSORS j i) (λ j. m CURSORS j i) (λ j l. s .cursors j i),
+        u .counted i h,
+      );
+  logged = logged-kept m m′ sys ends (s .domain) ∙ u .logged;
+  all-out = λ i h.
+      lists-out-kept m m′ i (m WORKERS i OUTEND) (m′ WORKERS i OUTEND) (s .workers i OUTEND (omega arith) (omega arith))
+      (λ n l.
+      s .out i n)
+      ∙ u .all-out i h
+      ∙ sym (sends i);
+  heard =
+      e
+      ∙ u .heard
+      ∙ sym
+      (heard-kept m m′ (sys .workers) (λ i h. s .workers i OUTREAD (omega arith) (omega arith)) (λ i n h l. s .out i n));
+}
+  where
+    sends : (i : ℕ) → m′ WORKERS i SENDS ≡ m WORKERS i SENDS
+    sends i = s .workers i SENDS (omega arith) (omega arith)
+
+    ends : (i : ℕ) → m′ WORKERS i LOGEND ≡ m WORKERS i LOGEND
+    ends i = s .workers i LOGEND (omega arith) (omega arith)
+
+-- of what the invariant mentions row by row, only row `i` is changed
+pub record OnlyRow (m m′ : Mem) (i : ℕ) : Type 0 where
+  pub others : (k : ℕ) → (k ≡ i → ⊥) → SameRow m m′ k
+  pub wanted : SameWanted m m′
+  pub heads : SameHeads m m′
+  pub domain : (x v : ℕ) → m′ DOMAIN x v ≡ m DOMAIN x v
+
+-- a row has put as many messages for the controller as its count says, or one more where it has replied
+abbrev pub Answered : Mem → Tally → ℕ → Type 0
+Answered m t i = (m WORKERS i OUTEND ≤ m WORKERS i LISTS) ⊎ Replied m t i
+
+-- a tally that may follow another one beside the same memory
+pub record Follows (m : Mem) (t t′ : Tally) : Type 0 where
+  pub later : t .timestamp .0 ≤ t′ .timestamp .0
+  pub polled : Polled m t′
+  pub replied : (i : ℕ) → Replied m t i → Replied m t′ i
+
+-- an action of a worker leaves the tally as it is
+pub follows-itself : (m : Mem) (t : Tally) → Polled m t → Follows m t t
+follows-itself m t p = record { later = omega arith; polled = p; replied = λ i r. r }
+
+-- an action of one row keeps the invariant if it does so at its row and in the totals
+pub row-action : (sys : System) (s s′ : Machine) (i : ℕ) → Inv sys s → OnlyRow (s .mem) (s′ .mem) i
+    → Follows (s .mem) (s .tally) (s′ .tally) → Row sys (s′ .mem) (s′ .tally) i → Totals sys (s′ .mem) (s′ .tally)
+    → Answered (s′ .mem) (s′ .tally) i → s′ .tally .marks < 2 ^ sys .workers → Inv sys s′
+row-action sys s s′ i inv only next row totals answered marks = record {
+  rows =
+      each-row (λ k. k < sys .workers → Row sys (s′ .mem) (s′ .tally) k) i (λ h. row) (λ k n h.
+      row-kept (s .mem) (s′ .mem) sys (s .tally) (s′ .tally) k (only .others k n) (next .later) (inv .rows k h));
+  totals = totals;
+  polled = polled-kept (s .mem) (s′ .mem) (s′ .tally) (only .wanted) (next .polled);
+  replied =
+      each-row (λ k. k < sys .workers → Answered (s′ .mem) (s′ .tally) k) i (λ h. answered) (λ k n h.
+      ⊎-elim
+      (λ l.
+      inl (omega (arith, only .others k n .workers OUTEND, only .others k n .workers LISTS)))
+      (λ r.
+      inr
+      (replied-kept (s .mem) (s′ .mem) (s′ .tally) k (λ c p. only .others k n .workers c) (only .others k n .bounds)
+      (only .wanted) (next .replied k r)))
+      (inv .replied k h));
+  listed = λ x v e. inv .listed x v (subst (λ (c : ℕ). eqb c LISTED ≡ true) (only .domain x v) e);
+  paired = paired-kept (s .mem) (s′ .mem) sys (only .heads) (inv .paired);
+  marks = marks;
+}

@@ -1,0 +1,219 @@
+-- The controller's reading keeps the invariant: it counts a list message, and marks a reply to the open poll.
+use Prim.Native.Nat.{ℕ, _+_, _^_, _<_}
+use mathlib.Core.Bool.{Bool, true, false, cond, _&&_, _||_, false≢true}
+use mathlib.Core.Logic.{inl, inr, ⊎-elim}
+use mathlib.Core.Option.{some}
+use mathlib.Core.Path.{_≡_, refl, sym, ap}
+use native.Mathlib.Omega.{arith}
+use borrow.Author.Tests.{ltb-true, ne-eqb, eq-eqb}
+use lib.Dec.{leb, ltb, eqb}
+use Rattle.base.proofs.Bools.{decided, and-left}
+use Rattle.base.proofs.Choice.{cond-true, cond-false}
+use Rattle.base.proofs.Row.{row-of-bits, row-small}
+use Rattle.base.proofs.Sums.{sum-change}
+use Rattle.base.specs.Below.{one}
+use Rattle.base.specs.Row.{bit, rowOf}
+use Rattle.disac4.specs.System.{System}
+use Rattle.disac4.specs.declared.Tally.{Tally}
+use Rattle.cells.specs.Layout.{WORKERS, OUT, OUTEND, OUTREAD}
+use Rattle.cells.specs.Memory.{Mem}
+use Rattle.controller.specs.Controller.{countedT, withMark, markedT, toldT, hasOut, outReadM}
+use Rattle.controller.specs.Controller.{Machine, hearM}
+use Rattle.cells.specs.View.{LISTMARK}
+use Rattle.refinement.proofs.Frame.{OnlyRow, Answered, Follows, row-action, replied-kept, follows-itself, lists-out-kept, lists-out-more}
+use Rattle.refinement.specs.Inv.{Row, Polled, Totals, Inv, listsOut}
+use Rattle.refinement.proofs.Stores.{store-same, store-other, if-some, some-same}
+
+-- ---- marks
+
+-- a row of marks with one more stays within its width
+pub mark-small : (p marks i : ℕ) → i < p → marks < 2 ^ p → withMark marks i < 2 ^ p
+unfolding withMark rowOf
+mark-small p marks i h l =
+    ⊎-elim
+    (λ e.
+    omega (arith, cond-true marks (marks + 2 ^ i) e))
+    (λ e.
+    omega (
+      arith,
+      cond-false marks (marks + 2 ^ i) e,
+      row-of-bits p marks l,
+      row-small p (λ w. eqb w i || bit marks w),
+      sum-change p (λ w. cond (bit marks w) (2 ^ w) 0) (λ w. cond (eqb w i || bit marks w) (2 ^ w) 0) i h (λ w q n.
+          ap (λ b. cond (b || bit marks w) (2 ^ w) 0) (sym (ne-eqb w i n))),
+      ap (λ b. cond b (2 ^ i) 0) e,
+      ap (λ b. cond (b || bit marks i) (2 ^ i) 0) (eq-eqb i i refl),
+    ))
+    (decided (bit marks i))
+
+-- ---- what a message makes of the tally
+
+-- a list message: one more in the count, and an open poll is ended
+counted-follows : (m : Mem) (t : Tally) → Polled m t → Follows m t (countedT t)
+unfolding countedT
+counted-follows m t p = record {
+  later = omega arith;
+  polled = record {
+    rises = p .rises;
+    wanted-open = λ e. absurd (false≢true e);
+    wanted-ended = λ e l.
+        ⊎-elim (λ x. omega (arith, p .wanted-open x .1)) (λ x. omega (arith, p .wanted-ended x l)) (decided (t .polling));
+  };
+  replied = λ i r. record {
+    one-more = r .one-more;
+    no-work = r .no-work;
+    no-send = r .no-send;
+    held-later = r .held-later;
+    polls-later = r .polls-later;
+    ended-later = λ e. omega (arith, r .count-low);
+    count-low = omega (arith, r .count-low);
+  };
+}
+
+-- a mark changes neither count nor poll
+marked-follows : (m : Mem) (t : Tally) (p i : ℕ) → Polled m t → Follows m t (markedT p i t)
+unfolding markedT
+marked-follows m t p i q = record {
+  later = omega arith;
+  polled = record { rises = q .rises; wanted-open = q .wanted-open; wanted-ended = q .wanted-ended };
+  replied = λ k r. record {
+    one-more = r .one-more;
+    no-work = r .no-work;
+    no-send = r .no-send;
+    held-later = r .held-later;
+    polls-later = r .polls-later;
+    ended-later = r .ended-later;
+    count-low = r .count-low;
+  };
+}
+
+-- ---- one message more is read
+
+module _ (sys : System) (m : Mem) (t t′ : Tally) (i : ℕ) (inv : Inv sys (record { mem = m; tally = t }))
+    (h : i < sys .workers) (unread : m WORKERS i OUTREAD < m WORKERS i OUTEND) (next : Follows m t t′)
+    (count : t′ .lists .0 ≡ t .lists .0 + one (leb LISTMARK (m OUT i (m WORKERS i OUTREAD))))
+    (marks : t′ .marks < 2 ^ sys .workers) where
+  more-read : outReadM i m WORKERS i OUTREAD ≡ m WORKERS i OUTREAD + 1
+  unfolding outReadM
+  more-read = store-same m WORKERS i OUTREAD (m WORKERS i OUTREAD + 1)
+
+  other-rows : (k c : ℕ) → (k ≡ i → ⊥) → outReadM i m WORKERS k c ≡ m WORKERS k c
+  unfolding outReadM
+  other-rows k c n = store-other m WORKERS i OUTREAD (m WORKERS i OUTREAD + 1) WORKERS k c (λ p q. n)
+
+  only-row : OnlyRow m (outReadM i m) i
+  unfolding outReadM
+  only-row = record {
+    others = λ k n. record {
+      workers = λ c. other-rows k c n;
+      bounds = λ c. refl;
+      log = λ c. refl;
+      work = λ c. refl;
+      out = λ c. refl;
+    };
+    wanted = λ n. refl;
+    heads = λ x y. refl;
+    domain = λ x v. refl;
+  }
+
+  row : Row sys (outReadM i m) t′ i
+  unfolding outReadM
+  row =
+      let r = inv .rows i h in
+      record {
+        queue = r .queue;
+        first-bound = r .first-bound;
+        bounds-rise = r .bounds-rise;
+        last-bound = r .last-bound;
+        out-read = omega (arith, more-read);
+        out-list = r .out-list;
+        polls-read = omega (arith, r .polls-read, next .later);
+        held-read = r .held-read;
+        log-codes = r .log-codes;
+        work-codes = r .work-codes;
+      }
+
+  totals : Totals sys (outReadM i m) t′
+  unfolding outReadM
+  totals =
+      let u = inv .totals in
+      record {
+        own-cursor = u .own-cursor;
+        cursor = u .cursor;
+        pushed = u .pushed;
+        counted = u .counted;
+        logged = u .logged;
+        all-out = u .all-out;
+        heard =
+            omega (
+              arith,
+              count,
+              u .heard,
+              lists-out-more m (outReadM i m) i (m WORKERS i OUTREAD) (outReadM i m WORKERS i OUTREAD) more-read (λ e l. refl),
+              sum-change (sys .workers) (λ k. listsOut m k (m WORKERS k OUTREAD))
+                  (λ k. listsOut (outReadM i m) k (outReadM i m WORKERS k OUTREAD)) i h (λ k p n.
+                  sym
+                  (lists-out-kept m (outReadM i m) k (m WORKERS k OUTREAD) (outReadM i m WORKERS k OUTREAD)
+                  (other-rows k OUTREAD n) (λ e l. refl))),
+            );
+      }
+
+  answered : Answered (outReadM i m) t′ i
+  unfolding outReadM
+  answered =
+      ⊎-elim inl
+      (λ r.
+      inr
+      (replied-kept m (outReadM i m) t′ i
+      (λ c n.
+      store-other m WORKERS i OUTREAD (m WORKERS i OUTREAD + 1) WORKERS i c (λ p e x. n e))
+      (λ n. refl) (λ n. refl) (next .replied i r)))
+      (inv .replied i h)
+
+  told-keeps : Inv sys (record { mem = outReadM i m; tally = t′ })
+  told-keeps =
+      row-action sys (record { mem = m; tally = t }) (record { mem = outReadM i m; tally = t′ }) i inv only-row next row
+      totals answered marks
+
+-- whatever message is read
+message-keeps : (sys : System) (m : Mem) (t : Tally) (i : ℕ) → Inv sys (record { mem = m; tally = t }) → i < sys .workers
+    → m WORKERS i OUTREAD < m WORKERS i OUTEND
+    → Inv sys (record { mem = outReadM i m; tally = toldT (sys .workers) i (m OUT i (m WORKERS i OUTREAD)) t })
+unfolding toldT countedT markedT
+message-keeps sys m t i inv h unread = go (leb LISTMARK c) refl (t .polling) (eqb c (t .timestamp .0))
+  where
+    c : ℕ
+    c = m OUT i (m WORKERS i OUTREAD)
+
+    reply : (t′ : Tally) → leb LISTMARK c ≡ false → Follows m t t′ → t′ .lists .0 ≡ t .lists .0
+        → t′ .marks < 2 ^ sys .workers → Inv sys (record { mem = outReadM i m; tally = t′ })
+    reply t′ e next same marks = told-keeps sys m t t′ i inv h unread next (omega (arith, same, ap one e)) marks
+
+    go : (a : Bool) → leb LISTMARK c ≡ a → (b d : Bool)
+        → Inv sys (record {
+          mem = outReadM i m;
+          tally = cond a (countedT t) (cond b (cond d (markedT (sys .workers) i t) t) t);
+        })
+    go true e b d =
+        told-keeps sys m t (countedT t) i inv h unread (counted-follows m t (inv .polled)) (omega (arith, ap one e))
+        (inv .marks)
+    go false e true true =
+        reply (markedT (sys .workers) i t) e (marked-follows m t (sys .workers) i (inv .polled)) refl
+        (mark-small (sys .workers) (t .marks) i h (inv .marks))
+    go false e true false = reply t e (follows-itself m t (inv .polled)) refl (inv .marks)
+    go false e false d = reply t e (follows-itself m t (inv .polled)) refl (inv .marks)
+
+-- the controller's reading keeps the invariant
+pub hear-keeps : (sys : System) (s s′ : Machine) (i : ℕ) → Inv sys s → i < sys .workers → hearM sys i s ≡ some s′
+    → Inv sys s′
+unfolding hearM hasOut
+hear-keeps sys s s′ i inv h e =
+    let e₁ = if-some (hasOut i (s .tally) (s .mem)) e in
+    some-same (Inv sys) (e₁ .1) (message-keeps sys (s .mem) (s .tally) i inv h (ltb-true read put (and-left (ltb read put) (ltb read 520)
+    (and-left (ltb read put && ltb read 520) (ltb (s .tally .lists .0) 65535) (e₁ .0)))))
+  where
+    read : ℕ
+    read = s .mem WORKERS i OUTREAD
+
+    put : ℕ
+    put = s .mem WORKERS i OUTEND

@@ -1,0 +1,187 @@
+-- A walk over the labels in memory whose steps each change what is their label's own and the lists of one row: the labels
+-- don't disturb one another.
+use Prim.Native.Nat.{ℕ, _+_, _-_, _*_, _<_, _≤_}
+use mathlib.Core.Bool.{true, false}
+use mathlib.Core.List.{List, [], _++_}
+use mathlib.Core.Logic.{_⊎_, inl, inr}
+use mathlib.Core.Path.{_≡_, refl, sym, _∙_, ap}
+use native.Mathlib.Decide.{decLt}
+use native.Mathlib.Omega.{arith}
+use borrow.Author.Tests.{lt-ltb, le-ltb}
+use lib.Dec.{ltb}
+use lib.ListN.{length, length-append}
+use Rattle.base.proofs.Bools.{clash}
+use Rattle.base.proofs.Sums.{one-le}
+use Rattle.base.specs.Below.{one}
+use Rattle.disac4.specs.System.{System}
+use Rattle.network.proofs.Loaded.{loaded-intro}
+use Rattle.network.specs.Network.{Label, loaded}
+use Rattle.cells.specs.Layout.{WORKERS, LOG, WORK, DOMAIN, COUNTERS, HEADS, TAIL, LOGEND}
+use Rattle.cells.specs.Memory.{Mem}
+use Rattle.cells.specs.View.{counterRow}
+use Rattle.refinement.proofs.Frames.{Apart, domain-apart}
+use Rattle.refinement.proofs.Growing.{Both, both-none, both-more}
+use Rattle.refinement.specs.Inv.{Small}
+use Rattle.index.specs.Index.{Paired}
+use Rattle.refinement.proofs.Walking.{walk, gathered, Others, walk-keeps, walk-at, walk-gather}
+
+-- ---- the rows of counters
+
+-- the same index gives the same row
+pub row-heads : (m n : Mem) (x y : ℕ) → n HEADS x y ≡ m HEADS x y → counterRow n x y ≡ counterRow m x y
+unfolding counterRow
+row-heads m n x y e = ap (λ (h : ℕ). 2 * h - 1 + one (ltb y x)) e
+
+-- the same index pairs alike
+pub paired-heads : (sys : System) (m n : Mem) → ((a b : ℕ) → n HEADS a b ≡ m HEADS a b) → Paired sys m → Paired sys n
+paired-heads sys m n e p = record {
+  low = λ x y l. omega (arith, e x y, p .low x y l);
+  high = λ x y l. omega (arith, e x y, p .high x y l);
+  own = λ x y x′ y′ l l′ q. p .own x y x′ y′ l l′ (sym (e x y) ∙ q ∙ e x′ y′);
+}
+
+one-side : (x y : ℕ) → (x ≡ y → ⊥) → one (ltb y x) ≡ one (ltb x y) → ⊥
+one-side x y n e =
+    elim (decLt y x) [
+      | yes l ↦ omega (arith, ap one (lt-ltb y x l), ap one (le-ltb x y (omega arith)))
+      | no l ↦ omega (arith, ap one (le-ltb y x (omega arith)), ap one (lt-ltb x y (omega arith)))
+    ]
+
+-- two variables and side have a row of their own
+pub own-row : (sys : System) → Small sys → (m : Mem) → Paired sys m → (x y x′ y′ : ℕ) → sys .net .linked x y ≡ true
+    → sys .net .linked x′ y′ ≡ true → counterRow m x y ≡ counterRow m x′ y′ → (x ≡ x′) × (y ≡ y′)
+unfolding counterRow
+own-row sys small m paired x y x′ y′ l l′ e =
+    go (paired .own x y x′ y′ l l′
+    (omega (arith, paired .low x y l, paired .low x′ y′ l′, one-le (ltb y x), one-le (ltb y′ x′))))
+  where
+    go : ((x ≡ x′) × (y ≡ y′)) ⊎ ((x ≡ y′) × (y ≡ x′)) → (x ≡ x′) × (y ≡ y′)
+    go (inl p) = p
+    go (inr p) =
+        absurd
+        (one-side x y (small .links-inside x y l .2)
+        (omega (
+          arith,
+          paired .low x y l,
+          paired .low x′ y′ l′,
+          one-le (ltb y x),
+          one-le (ltb y′ x′),
+          ap (λ (a : ℕ). one (ltb a x′)) (p .0),
+          ap (λ (a : ℕ). one (ltb x a)) (p .1),
+        )))
+
+-- ---- what is a label's own
+
+-- label `v` of `x` has the domain cell `d` and the counters `c`; the index is that of `m₀`
+pub record Shows (sys : System) (m₀ : Mem) (x v d : ℕ) (c : ℕ → ℕ) (m : Mem) : Type 0 where
+  pub heads : (a b : ℕ) → m HEADS a b ≡ m₀ HEADS a b
+  pub domain : m DOMAIN x v ≡ d
+  pub counter : (y : ℕ) → sys .net .linked x y ≡ true → m COUNTERS (counterRow m₀ x y) v ≡ c y
+
+-- at the start
+pub shows-start : (sys : System) (m : Mem) (x v : ℕ)
+    → Shows sys m x v (m DOMAIN x v) (λ y. m COUNTERS (counterRow m x y) v) m
+shows-start sys m x v = record { heads = λ a b. refl; domain = refl; counter = λ y l. refl }
+
+module _ (sys : System) (small : Small sys) (f : ℕ → ℕ → Mem → Mem) (row : ℕ → ℕ) where
+  -- each step leaves alone what stands apart from its label and its row's lists
+  abbrev pub Local : Type 0
+  Local = (x v : ℕ) → x < sys .net .variables → v < sys .net .size x → (m : Mem) (r a b : ℕ)
+      → Apart sys m (row x) x v r a b → f x v m r a b ≡ m r a b
+
+  module _ (local : Local) (m₀ : Mem) (paired : Paired sys m₀) where
+    abbrev SameHeads : Mem → Type 0
+    SameHeads m = (a b : ℕ) → m HEADS a b ≡ m₀ HEADS a b
+
+    keeps-heads : (x v : ℕ) → x < sys .net .variables → v < sys .net .size x → (m : Mem) → SameHeads m
+        → SameHeads (f x v m)
+    keeps-heads x v h l m s a b = local x v h l m HEADS a b (omega arith) ∙ s a b
+
+    moved : (i x v r a b : ℕ) (m : Mem) → SameHeads m → Apart sys m₀ i x v r a b → Apart sys m i x v r a b
+    moved i x v r a b m s p = record {
+      domain = p .domain;
+      counter = λ y l e q. p .counter y l e (q ∙ row-heads m₀ m x y (s x y));
+      log = p .log;
+      work = p .work;
+      log-end = p .log-end;
+      work-end = p .work-end;
+    }
+
+    -- a point that stands apart from all labels is left alone
+    pub walk-apart : (r a b : ℕ)
+        → ((x v : ℕ) → x < sys .net .variables → v < sys .net .size x → Apart sys m₀ (row x) x v r a b)
+        → walk (sys .net) f (sys .net .variables) m₀ r a b ≡ m₀ r a b
+    walk-apart r a b p =
+        walk-keeps (sys .net) f (λ m. SameHeads m × (m r a b ≡ m₀ r a b))
+        (λ x v h l m s.
+        (keeps-heads x v h l m (s .0), local x v h l m r a b (moved (row x) x v r a b m (s .0) (p x v h l)) ∙ s .1))
+        m₀ ((λ a b. refl), refl) .1
+
+    -- what is a label's own is left alone by the others
+    shows-others : (x v d : ℕ) (c : ℕ → ℕ) → Others (sys .net) f (Shows sys m₀ x v d c) x v
+    shows-others x v d c x′ v′ n h l m s = record {
+      heads = keeps-heads x′ v′ h l m (s .heads);
+      domain = local x′ v′ h l m DOMAIN x v (domain-apart sys m (row x′) x v x′ v′ (λ p q. n (sym p) (sym q))) ∙ s .domain;
+      counter = λ y k. local x′ v′ h l m COUNTERS (counterRow m₀ x y) v (record {
+        domain = λ e. omega arith;
+        counter = λ y′ k′ e p q.
+            n
+            (sym (own-row sys small m₀ paired x y x′ y′ k k′ (p ∙ row-heads m₀ m x′ y′ (s .heads x′ y′)) .0))
+            (sym q);
+        log = λ e. omega arith;
+        work = λ e. omega arith;
+        log-end = λ e. omega arith;
+        work-end = λ e. omega arith;
+      }) ∙ s .counter y k;
+    }
+
+    -- each label has, at the end, what its own step gives it
+    pub walk-shows : (x v d d′ : ℕ) (c c′ : ℕ → ℕ) → x < sys .net .variables → v < sys .net .size x
+        → ((m : Mem) → Shows sys m₀ x v d c m → Shows sys m₀ x v d′ c′ (f x v m)) → Shows sys m₀ x v d c m₀
+        → Shows sys m₀ x v d′ c′ (walk (sys .net) f (sys .net .variables) m₀)
+    walk-shows x v d d′ c c′ h l s p =
+        walk-at (sys .net) f (Shows sys m₀ x v d c) (Shows sys m₀ x v d′ c′) x v h l (shows-others x v d c)
+        (shows-others x v d′ c′) s m₀ p
+
+    -- the lists of row `i` grow by what the steps append, as long as there is room
+    pub walk-both : (i : ℕ) (g : ℕ → ℕ → List Label)
+        → ((x v : ℕ) → x < sys .net .variables → v < sys .net .size x → (m : Mem)
+        → Shows sys m₀ x v (m₀ DOMAIN x v) (λ y. m₀ COUNTERS (counterRow m₀ x y) v) m
+        → m WORKERS i LOGEND + length (g x v) ≤ 512 → m WORKERS i TAIL + length (g x v) ≤ 512
+        → Both sys i m (f x v m) (g x v))
+        → m₀ WORKERS i LOGEND + length (gathered (sys .net) g) ≤ 512
+        → m₀ WORKERS i TAIL + length (gathered (sys .net) g) ≤ 512
+        → Both sys i m₀ (walk (sys .net) f (sys .net .variables) m₀) (gathered (sys .net) g)
+    walk-both i g s room room′ =
+        walk-gather (sys .net) f (λ x v. Shows sys m₀ x v (m₀ DOMAIN x v) (λ y. m₀ COUNTERS (counterRow m₀ x y) v))
+        (λ x v. shows-others x v (m₀ DOMAIN x v) (λ y. m₀ COUNTERS (counterRow m₀ x y) v))
+        Roomy g step m₀ (λ x v h l. shows-start sys m₀ x v)
+        (λ k k′. both-none sys i m₀ m₀ refl refl (λ d. refl) (λ d. refl))
+        room room′
+      where
+        Roomy : List Label → Mem → Type 0
+        Roomy l m =
+            m₀ WORKERS i LOGEND + length l ≤ 512 → m₀ WORKERS i TAIL + length l ≤ 512 → Both sys i m₀ m l
+
+        step : (x v : ℕ) → x < sys .net .variables → v < sys .net .size x → (l : List Label) (m : Mem)
+            → Shows sys m₀ x v (m₀ DOMAIN x v) (λ y. m₀ COUNTERS (counterRow m₀ x y) v) m → Roomy l m
+            → Roomy (l ++ g x v) (f x v m)
+        step x v h k l m q b room room′ =
+            let fit : length (l ++ g x v) ≡ length l + length (g x v) = length-append l (g x v) in
+            let so-far : Both sys i m₀ m l = b (omega arith) (omega arith) in
+            both-more sys i m₀ m (f x v m) l (g x v) so-far
+            (s x v h k m q (omega (arith, so-far .log .end)) (omega (arith, so-far .work .end)))
+
+-- a step at a label whose row is `j` leaves the lists of another row alone
+pub both-other : (sys : System) (m n : Mem) (i j x v : ℕ)
+    → ((r a b : ℕ) → Apart sys m j x v r a b → n r a b ≡ m r a b) → (i ≡ j → ⊥) → Both sys i m n []
+both-other sys m n i j x v same d =
+    both-none sys i m n (same WORKERS i LOGEND (omega arith)) (same WORKERS i TAIL (omega arith))
+    (λ c. same LOG i c (omega arith)) (λ c. same WORK i c (omega arith))
+
+-- the domain cell of a label that was not loaded stands apart from all labels
+pub unloaded-apart : (sys : System) (m : Mem) (i x v : ℕ) → loaded (sys .net) x v ≡ false → (x′ v′ : ℕ)
+    → x′ < sys .net .variables → v′ < sys .net .size x′ → Apart sys m i x′ v′ DOMAIN x v
+unloaded-apart sys m i x v e x′ v′ h l =
+    domain-apart sys m i x v x′ v′
+    (λ p q. clash (loaded-intro (sys .net) x v (omega arith) (omega (arith, ap (sys .net .size) p))) e)

@@ -1,0 +1,117 @@
+-- A queue in a row: what stands from one column to another. It grows at its end and is taken from its front.
+use Prim.Native.Nat.{ℕ, zero, suc, _+_, _-_, _<_, _≤_}
+use mathlib.Core.List.{List, [], _∷_, _++_, append-assoc, append-nil}
+use mathlib.Core.Path.{_≡_, refl, sym, _∙_, ap, ap₂}
+use native.Mathlib.Decide.{ℕ-discrete}
+use native.Mathlib.Nat.{le-step, le-refl}
+use native.Mathlib.Omega.{arith}
+use borrow.Author.Tests.{eq-eqb, ne-eqb}
+use lib.Dec.{eqb}
+use Rattle.base.specs.Below.{listBelow}
+use Rattle.disac4.specs.Action.{isEmpty}
+use Rattle.cells.specs.View.{listBetween}
+
+-- where a queue begins, where it ends, and what stands at each place
+pub record Queue (A : Type 0) : Type 0 where
+  pub start : ℕ
+  pub stop : ℕ
+  pub place : ℕ → A
+
+module _ {A : Type 0} where
+  -- a queue by its parts
+  abbrev pub queue : ℕ → ℕ → (ℕ → A) → Queue A
+  queue start stop place = record { start = start; stop = stop; place = place }
+
+  -- what stands in it, oldest first
+  abbrev pub listed : Queue A → List A
+  listed q = listBetween (q .start) (q .stop) (q .place)
+
+  -- what stands in the first queue stands there in the second
+  abbrev pub Kept : Queue A → Queue A → Type 0
+  Kept q q′ = (n : ℕ) → q .start ≤ n → n < q .stop → q′ .place n ≡ q .place n
+
+  below-ext : (n : ℕ) (f g : ℕ → A) → ((d : ℕ) → d < n → f d ≡ g d) → listBelow n f ≡ listBelow n g
+  below-ext zero f g h = refl
+  below-ext (suc n) f g h =
+      ap₂ (λ (l : List A) (a : A). l ++ (a ∷ [])) (below-ext n f g (λ d p. h d (le-step p))) (h n (le-refl (suc n)))
+
+  below-first : (n : ℕ) (f : ℕ → A) → listBelow (suc n) f ≡ f 0 ∷ listBelow n (λ d. f (suc d))
+  below-first zero f = refl
+  below-first (suc n) f = ap (λ (l : List A). l ++ (f (suc n) ∷ [])) (below-first n f)
+
+  -- as many places, each with the same content
+  pub queue-shift : (q q′ : Queue A) → q .stop - q .start ≡ q′ .stop - q′ .start
+      → ((d : ℕ) → d < q .stop - q .start → q .place (q .start + d) ≡ q′ .place (q′ .start + d)) → listed q ≡ listed q′
+  queue-shift q q′ e h =
+      below-ext (q .stop - q .start) (λ d. q .place (q .start + d)) (λ d. q′ .place (q′ .start + d)) h
+      ∙ ap (λ (n : ℕ). listBelow n (λ d. q′ .place (q′ .start + d))) e
+
+  -- the same ends
+  pub queue-same : (q q′ : Queue A) → Kept q q′ → q′ .start ≡ q .start → q′ .stop ≡ q .stop → listed q′ ≡ listed q
+  queue-same q q′ h a b =
+      queue-shift q′ q (omega arith)
+      (λ d l. h (q′ .start + d) (omega arith) (omega arith) ∙ ap (λ (k : ℕ). q .place (k + d)) a)
+
+  -- it ends where it begins
+  pub queue-none : (q : Queue A) → q .stop ≤ q .start → listed q ≡ []
+  queue-none q h =
+      let e : q .stop - q .start ≡ 0 = omega arith in
+      ap (λ (n : ℕ). listBelow n (λ d. q .place (q .start + d))) e
+
+  -- one more at the end
+  pub queue-put : (q q′ : Queue A) → Kept q q′ → q .start ≤ q .stop → q′ .start ≡ q .start → q′ .stop ≡ q .stop + 1
+      → listed q′ ≡ listed q ++ (q′ .place (q .stop) ∷ [])
+  queue-put q q′ h l a b =
+      let e : q′ .stop - q′ .start ≡ suc (q .stop - q .start) = omega arith in
+      let z : q′ .start + (q .stop - q .start) ≡ q .stop = omega arith in
+      ap (λ (n : ℕ). listBelow n (λ d. q′ .place (q′ .start + d))) e
+      ∙ ap₂ (λ (l : List A) (a : A). l ++ (a ∷ []))
+      (below-ext (q .stop - q .start) (λ d. q′ .place (q′ .start + d)) (λ d. q .place (q .start + d)) same)
+      (ap (q′ .place) z)
+    where
+      same : (d : ℕ) → d < q .stop - q .start → q′ .place (q′ .start + d) ≡ q .place (q .start + d)
+      same d k = h (q′ .start + d) (omega arith) (omega arith) ∙ ap (λ (n : ℕ). q .place (n + d)) a
+
+  -- the oldest taken
+  pub queue-taken : (q q′ : Queue A) → Kept q q′ → q .start < q .stop → q′ .start ≡ q .start + 1 → q′ .stop ≡ q .stop
+      → listed q ≡ q .place (q .start) ∷ listed q′
+  queue-taken q q′ h l a b =
+      let e : q .stop - q .start ≡ suc (q′ .stop - q′ .start) = omega arith in
+      let z : q .start + 0 ≡ q .start = omega arith in
+      ap (λ (n : ℕ). listBelow n (λ d. q .place (q .start + d))) e
+      ∙ below-first (q′ .stop - q′ .start) (λ d. q .place (q .start + d))
+      ∙ ap₂ (λ (a : A) (l : List A). a ∷ l) (ap (q .place) z)
+      (below-ext (q′ .stop - q′ .start) (λ d. q .place (q .start + suc d)) (λ d. q′ .place (q′ .start + d)) same)
+    where
+      same : (d : ℕ) → d < q′ .stop - q′ .start → q .place (q .start + suc d) ≡ q′ .place (q′ .start + d)
+      same d k =
+          let y : q′ .start + d ≡ q .start + suc d = omega arith in
+          sym (h (q .start + suc d) (omega arith) (omega arith)) ∙ ap (q′ .place) (sym y)
+
+  -- one queue behind another
+  pub queue-append : (start stop n : ℕ) (f : ℕ → A) → start ≤ stop
+      → listBetween start (stop + n) f ≡ listBetween start stop f ++ listBetween stop (stop + n) f
+  queue-append start stop zero f l =
+      let e : stop + 0 ≡ stop = omega arith in
+      ap (λ (k : ℕ). listBetween start k f) e
+      ∙ sym (append-nil (listBetween start stop f))
+      ∙ ap (λ (l : List A). listBetween start stop f ++ l) (sym (queue-none (queue stop (stop + 0) f) (omega arith)))
+  queue-append start stop (suc n) f l =
+      one-more start (omega arith)
+      ∙ ap (λ (k : List A). k ++ (f (stop + n) ∷ [])) (queue-append start stop n f l)
+      ∙ append-assoc (listBetween start stop f) (listBetween stop (stop + n) f) (f (stop + n) ∷ [])
+      ∙ ap (λ (k : List A). listBetween start stop f ++ k) (sym (one-more stop (omega arith)))
+    where
+      one-more : (a : ℕ) → a ≤ stop + n
+          → listBetween a (stop + suc n) f ≡ listBetween a (stop + n) f ++ (f (stop + n) ∷ [])
+      one-more a h = queue-put (queue a (stop + n) f) (queue a (stop + suc n) f) (λ d p q. refl) h refl (omega arith)
+
+  -- it is empty exactly if it ends where it begins
+  pub queue-empty : (q : Queue A) → q .start ≤ q .stop → isEmpty (listed q) ≡ eqb (q .start) (q .stop)
+  queue-empty q l =
+      elim (ℕ-discrete (q .start) (q .stop)) [
+        | yes e ↦ ap isEmpty (queue-none q (omega arith)) ∙ sym (eq-eqb (q .start) (q .stop) e)
+        | no n ↦ ap isEmpty
+            (queue-taken q (queue (q .start + 1) (q .stop) (q .place)) (λ d a b. refl) (omega arith) refl refl)
+            ∙ sym (ne-eqb (q .start) (q .stop) n)
+      ]

@@ -1,0 +1,89 @@
+-- A machine as the state that it stands for, and a state by its parts.
+use Prim.Native.Nat.{ℕ, _+_, _-_, _<_}
+use mathlib.Core.Bool.{Bool, true, false, cond}
+use mathlib.Core.Option.{Option, none, some}
+pub use mathlib.Core.Option.{Option·map as mapO}
+use mathlib.Core.Path.{_≡_, refl, _∙_, ap, fun-ext}
+use native.Mathlib.Omega.{arith}
+use borrow.Author.Tests.{le-leb, lt-leb}
+use Rattle.base.proofs.Choice.{cond-true, cond-false}
+use Rattle.disac4.specs.State.{State, list, reply}
+use Rattle.disac4.specs.System.{System}
+use Rattle.disac4.specs.declared.Tally.{Tally}
+use Rattle.cells.specs.Memory.{Mem}
+pub use Rattle.refinement.specs.Run.{viewOf}
+use Rattle.controller.specs.Controller.{Machine}
+use Rattle.cells.specs.View.{LISTMARK, view, labelsBetween, listAt, messageOf, pollAt, counterRow, viewWork, viewSend, viewHeld, viewLists, viewLetters, viewPolls, viewOut, viewChannel, viewCounter}
+use Rattle.refinement.proofs.ChannelRows.{Rows, atChannel}
+
+-- Named on an `unfolding` line, this opens the view down to the channels' contents.
+unfoldable pub view-parts : Unit {0}
+unfolding view labelsBetween pollAt counterRow viewWork viewSend viewHeld viewLists viewChannel viewCounter
+view-parts = tt
+
+-- the channels that a memory and a tally stand for
+abbrev pub rowsOf : Mem → Tally → Rows
+rowsOf m t = record { letters = viewLetters m; out = viewOut m; polls = viewPolls m t }
+
+-- the channels of the state, by rows
+pub channel-rows : (sys : System) (s : Machine) (j k : ℕ)
+    → viewOf sys s .channel j k ≡ atChannel sys (rowsOf (s .mem) (s .tally)) j k
+unfolding view viewChannel
+channel-rows sys s j k = refl
+
+-- two states that agree in every part
+pub record Same (s s′ : State) : Type 0 where
+  pub domain : (x v : ℕ) → s .domain x v ≡ s′ .domain x v
+  pub counter : (x v y : ℕ) → s .counter x v y ≡ s′ .counter x v y
+  pub workList : (k : ℕ) → s .workList k ≡ s′ .workList k
+  pub toSend : (k : ℕ) → s .toSend k ≡ s′ .toSend k
+  pub held : (k : ℕ) → s .held k ≡ s′ .held k
+  pub listCounter : (k : ℕ) → s .listCounter k ≡ s′ .listCounter k
+  pub channel : (j k : ℕ) → s .channel j k ≡ s′ .channel j k
+  pub timestamp : s .controller .timestamp ≡ s′ .controller .timestamp
+  pub pollOpen : s .controller .pollOpen ≡ s′ .controller .pollOpen
+  pub marked : (k : ℕ) → s .controller .marked k ≡ s′ .controller .marked k
+  pub closed : s .controller .closed ≡ s′ .controller .closed
+
+-- they are one state
+pub same-state : (s s′ : State) → Same s s′ → s ≡ s′
+same-state s s′ e = λ i. record {
+  domain = fun-ext (λ x. fun-ext (e .domain x)) i;
+  counter = fun-ext (λ x. fun-ext (λ v. fun-ext (e .counter x v))) i;
+  workList = fun-ext (e .workList) i;
+  toSend = fun-ext (e .toSend) i;
+  held = fun-ext (e .held) i;
+  listCounter = fun-ext (e .listCounter) i;
+  channel = fun-ext (λ j. fun-ext (e .channel j)) i;
+  controller = record {
+    timestamp = e .timestamp i;
+    pollOpen = e .pollOpen i;
+    marked = fun-ext (e .marked) i;
+    closed = e .closed i;
+  };
+}
+
+-- a choice between idle and an action
+pub mapO-cond {ℓ κ} : {A : Type ℓ} {B : Type κ} (f : A → B) (b : Bool) (a : A) (c : B) → f a ≡ c
+    → mapO f (cond b (some a) none) ≡ cond b (some c) none
+mapO-cond f true a c e = ap some e
+mapO-cond f false a c e = refl
+
+-- the other way round
+pub mapO-unless {ℓ κ} : {A : Type ℓ} {B : Type κ} (f : A → B) (b : Bool) (a : A) (c : B) → f a ≡ c
+    → mapO f (cond b none (some a)) ≡ cond b none (some c)
+mapO-unless f true a c e = refl
+mapO-unless f false a c e = ap some e
+
+-- a number from 1,024 on stands for a list message
+pub list-code : (m : Mem) (i c n : ℕ) → c ≡ LISTMARK + n → messageOf m i c ≡ list (listAt m i n)
+unfolding messageOf
+list-code m i c n e =
+    let d : c - LISTMARK ≡ n = omega arith in
+    cond-true (list (listAt m i (c - LISTMARK))) (reply (record { 0 = c })) (le-leb LISTMARK c (omega arith))
+    ∙ ap (λ (k : ℕ). list (listAt m i k)) d
+
+-- any other for a reply
+pub reply-code : (m : Mem) (i c : ℕ) → c < LISTMARK → messageOf m i c ≡ reply (record { 0 = c })
+unfolding messageOf
+reply-code m i c l = cond-false (list (listAt m i (c - LISTMARK))) (reply (record { 0 = c })) (lt-leb LISTMARK c l)

@@ -1,0 +1,153 @@
+-- Sending keeps the invariant: the unsent end of the log becomes one more list message.
+use Prim.Native.Nat.{ℕ, _+_, _<_, _≤_}
+use mathlib.Core.Logic.{inl, ⊎-elim}
+use mathlib.Core.Option.{some}
+use mathlib.Core.Path.{_≡_, refl, sym, _∙_, ap}
+use native.Mathlib.Omega.{arith}
+use borrow.Author.Tests.{eqb-false, le-leb, ne-eqb}
+use lib.Dec.{ltb, eqb}
+use Rattle.base.proofs.Sums.{sum-ext}
+use Rattle.base.specs.Below.{sumBelow, one}
+use Rattle.disac4.specs.System.{System}
+use Rattle.disac4.specs.declared.Tally.{Tally}
+use Rattle.cells.specs.Layout.{WORKERS, CURSORS, BOUNDS, OUT, LOGEND, SENDS, LISTS, OUTEND}
+use Rattle.cells.specs.Memory.{Mem}
+use Rattle.messages.specs.Messages.{sendM, sentM}
+use Rattle.cells.specs.View.{LISTMARK}
+use Rattle.refinement.proofs.Frame.{OnlyRow, Answered, row-action, follows-itself}
+use Rattle.refinement.specs.Inv.{Row, Totals, Inv}
+use Rattle.refinement.proofs.Outgoing.{Put, put-lists, put-counted, put-heard}
+use Rattle.refinement.proofs.Stores.{and-never, store-same, store-other, each-row, up-to, if-some, unless-some, some-same}
+
+-- ---- what the stores changed
+
+module _ (i : ℕ) (m : Mem) where
+  other-rows : (k c : ℕ) → (k ≡ i → ⊥) → sentM i m WORKERS k c ≡ m WORKERS k c
+  unfolding sentM
+  other-rows k c n = simp (ne-eqb k i n, and-never)
+
+  old-bound : (k n : ℕ) → (n ≡ m WORKERS i SENDS + 1 → k ≡ i → ⊥) → sentM i m BOUNDS k n ≡ m BOUNDS k n
+  unfolding sentM
+  old-bound k n h =
+      store-other m BOUNDS i (m WORKERS i SENDS + 1) (m WORKERS i LOGEND) BOUNDS k n (λ p. h)
+
+  new-bound : sentM i m BOUNDS i (m WORKERS i SENDS + 1) ≡ m WORKERS i LOGEND
+  unfolding sentM
+  new-bound = store-same m BOUNDS i (m WORKERS i SENDS + 1) (m WORKERS i LOGEND)
+
+  more-sends : sentM i m WORKERS i SENDS ≡ m WORKERS i SENDS + 1
+  unfolding sentM
+  more-sends = store-same m WORKERS i SENDS (m WORKERS i SENDS + 1)
+
+  more-lists : sentM i m WORKERS i LISTS ≡ m WORKERS i LISTS + 1
+  unfolding sentM
+  more-lists = store-same m WORKERS i LISTS (m WORKERS i LISTS + 1)
+
+  put : Put i (LISTMARK + m WORKERS i SENDS) m (sentM i m)
+  unfolding sentM
+  put = record {
+    more = store-same m WORKERS i OUTEND (m WORKERS i OUTEND + 1);
+    others = λ k n. other-rows k OUTEND n;
+    read = λ k. refl;
+    new = store-same m OUT i (m WORKERS i OUTEND) (LISTMARK + m WORKERS i SENDS);
+    old = λ k e n. store-other m OUT i (m WORKERS i OUTEND) (LISTMARK + m WORKERS i SENDS) OUT k e (λ p. n);
+  }
+
+  only-row : OnlyRow m (sentM i m) i
+  unfolding sentM
+  only-row = record {
+    others = λ k n. record {
+      workers = λ c. other-rows k c n;
+      bounds = λ c. old-bound k c (λ p. n);
+      log = λ c. refl;
+      work = λ c. refl;
+      out = λ c. put .old k c (λ p. n);
+    };
+    wanted = λ n. refl;
+    heads = λ x y. refl;
+    domain = λ x v. refl;
+  }
+
+-- ---- the parts of the invariant
+
+module _ (sys : System) (m : Mem) (t : Tally) (i : ℕ) (inv : Inv sys (record { mem = m; tally = t })) (h : i < sys .workers)
+    (unsent : m BOUNDS i (m WORKERS i SENDS) ≡ m WORKERS i LOGEND → ⊥) where
+  row : Row sys (sentM i m) t i
+  unfolding sentM
+  row =
+      let r = inv .rows i h in
+      record {
+        queue = r .queue;
+        first-bound = old-bound i m i 0 (omega arith) ∙ r .first-bound;
+        bounds-rise = λ n l.
+            up-to (λ n. sentM i m BOUNDS i n < sentM i m BOUNDS i (n + 1)) (m WORKERS i SENDS)
+            (omega (arith, new-bound i m, old-bound i m i (m WORKERS i SENDS) (omega arith), r .last-bound, unsent))
+            (λ n g. omega (arith, old-bound i m i n (omega arith), old-bound i m i (n + 1) (omega arith), r .bounds-rise n g))
+            n (omega (arith, more-sends i m));
+        last-bound = rw (more-sends i m, new-bound i m) (omega arith);
+        out-read = omega (arith, put i m .more, r .out-read);
+        out-list =
+            put-lists i (LISTMARK + m WORKERS i SENDS) m (sentM i m) (put i m) (omega (arith, more-sends i m))
+            (λ l. omega (arith, more-sends i m)) (r .out-list);
+        polls-read = r .polls-read;
+        held-read = r .held-read;
+        log-codes = r .log-codes;
+        work-codes = r .work-codes;
+      }
+
+  totals : Totals sys (sentM i m) t
+  unfolding sentM
+  totals =
+      let u = inv .totals in
+      record {
+        own-cursor = u .own-cursor;
+        cursor = λ j k p q.
+            each-row (λ j. m CURSORS j k ≤ m WORKERS j SENDS → m CURSORS j k ≤ sentM i m WORKERS j SENDS) i
+            (λ l. omega (arith, more-sends i m)) (λ j n l. omega (arith, other-rows i m j SENDS n)) j (u .cursor j k p q);
+        pushed = λ k p.
+            u .pushed k p
+            ∙ ap (λ x. m WORKERS k LOGEND + x)
+            (sum-ext (sys .workers) (λ j. m BOUNDS j (m CURSORS j k)) (λ j. sentM i m BOUNDS j (m CURSORS j k)) (λ j q.
+            sym
+            (old-bound i m j (m CURSORS j k) (λ x e.
+            omega (arith, u .cursor j k q p, ap (λ x. m WORKERS x SENDS) e)))));
+        counted = λ k p.
+            each-row
+            (λ k. m WORKERS k LISTS ≡ m WORKERS k SENDS + sumBelow (sys .workers) (λ j. m CURSORS j k)
+            → sentM i m WORKERS k LISTS ≡ sentM i m WORKERS k SENDS + sumBelow (sys .workers) (λ j. m CURSORS j k)) i
+            (λ e. omega (arith, more-lists i m, more-sends i m))
+            (λ k n e. omega (arith, other-rows i m k LISTS n, other-rows i m k SENDS n)) k (u .counted k p);
+        logged = u .logged;
+        all-out = λ k p.
+            put-counted i (LISTMARK + m WORKERS i SENDS) m (sentM i m) (put i m)
+            (omega (arith, more-sends i m, ap one (le-leb LISTMARK (LISTMARK + m WORKERS i SENDS) (omega arith))))
+            (λ k n. other-rows i m k SENDS n) k (u .all-out k p);
+        heard =
+            u .heard
+            ∙ sym
+            (put-heard i (LISTMARK + m WORKERS i SENDS) m (sentM i m) (put i m) (sys .workers) (λ k p.
+            inv .rows k p .out-read));
+      }
+
+  -- a worker that has labels to send has not replied at its present count
+  answered : Answered (sentM i m) t i
+  answered =
+      ⊎-elim (λ l. inl (omega (arith, put i m .more, more-lists i m))) (λ r. absurd (unsent (r .no-send)))
+      (inv .replied i h)
+
+  sent-keeps : Inv sys (record { mem = sentM i m; tally = t })
+  sent-keeps =
+      row-action sys (record { mem = m; tally = t }) (record { mem = sentM i m; tally = t }) i inv (only-row i m)
+      (follows-itself m t (inv .polled)) row totals answered (inv .marks)
+
+-- sending keeps the invariant
+pub send-keeps : (sys : System) (m m′ : Mem) (t : Tally) (i : ℕ) → Inv sys (record { mem = m; tally = t })
+    → i < sys .workers → sendM i m ≡ some m′ → Inv sys (record { mem = m′; tally = t })
+unfolding sendM
+send-keeps sys m m′ t i inv h e =
+    let e₁ = if-some (ltb (m WORKERS i SENDS) 519) e in
+    let e₂ = unless-some (eqb (m BOUNDS i (m WORKERS i SENDS)) (m WORKERS i LOGEND)) (e₁ .1) in
+    let e₃ = if-some (ltb (m WORKERS i OUTEND) 520) (e₂ .1) in
+    let e₄ = if-some (ltb (m WORKERS i LISTS) 65535) (e₃ .1) in
+    some-same (λ x. Inv sys (record { mem = x; tally = t })) (e₄ .1)
+    (sent-keeps sys m t i inv h (eqb-false (m BOUNDS i (m WORKERS i SENDS)) (m WORKERS i LOGEND) (e₂ .0)))

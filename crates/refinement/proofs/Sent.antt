@@ -1,0 +1,157 @@
+-- Send in memory is send.
+use Prim.Native.Nat.{ℕ, zero, suc, _+_, _<_, _≤_}
+use mathlib.Core.Bool.{Bool, cond}
+use mathlib.Core.List.{List, [], _∷_, _++_}
+use mathlib.Core.Option.{none, some}
+use mathlib.Core.Path.{_≡_, refl, sym, _∙_, ap, ap₂}
+use native.Mathlib.Nat.{le-refl}
+use native.Mathlib.Omega.{arith}
+use borrow.Author.Tests.{lt-ltb}
+use lib.Dec.{eqb}
+use Rattle.base.proofs.Choice.{update-same, update-other, update₂-same}
+use Rattle.disac4.specs.Action.{isEmpty, afterSend, send}
+use Rattle.disac4.specs.State.{Message, list}
+use Rattle.disac4.specs.System.{System}
+use Rattle.disac4.specs.declared.Tally.{Tally}
+use Rattle.cells.specs.Layout.{WORKERS, BOUNDS, LOG, OUT, LOGEND, SENDS, LISTS, OUTEND}
+use Rattle.cells.specs.Memory.{Mem}
+use Rattle.messages.specs.Messages.{sentM, sendM}
+use Rattle.controller.specs.Controller.{Machine}
+use Rattle.cells.specs.View.{LISTMARK, labelOf, labelsBetween, listAt, messageOf, view, viewSend, viewLetters, viewOut}
+use Rattle.refinement.proofs.Actors.{at-worker, actors-update, counters-more}
+use Rattle.refinement.proofs.Capacity.{sends-few, outend-few, lists-few}
+use Rattle.refinement.proofs.ChannelRows.{atChannel, at-letters, at-out, Stays, channels-broadcast}
+use Rattle.refinement.proofs.Grown.{Grown, behind, send-kept, lettersQueue, letters-kept, outQueue, out-kept, channels-kept}
+use Rattle.refinement.specs.Inv.{Small, Inv}
+use Rattle.refinement.proofs.Queue.{queue, queue-same, queue-put, queue-none, queue-empty}
+use Rattle.refinement.proofs.Seen.{mapO, mapO-unless, viewOf, view-parts, rowsOf, list-code, same-state}
+
+module _ (sys : System) (small : Small sys) (s : Machine) (inv : Inv sys s) (i : ℕ) (h : i < sys .workers) where
+  abbrev m : Mem
+  m = s .mem
+
+  abbrev t : Tally
+  t = s .tally
+
+  sent-grown : Grown sys m t (sentM i m)
+  unfolding sentM
+  sent-grown = record {
+    logs = λ j hj d l. refl;
+    bounds = λ j hj n l. behind (m BOUNDS) i (m WORKERS i SENDS + 1) (m WORKERS i LOGEND) j n
+        (λ e f. omega (arith, ap (λ (k : ℕ). m WORKERS k SENDS) e));
+    outs = λ j hj n l. behind (m OUT) i (m WORKERS i OUTEND) (LISTMARK + m WORKERS i SENDS) j n
+        (λ e f. omega (arith, ap (λ (k : ℕ). m WORKERS k OUTEND) e));
+    wanted = λ n l. refl;
+  }
+
+  -- what is to be sent becomes the newest list message
+  newest : listAt (sentM i m) i (m WORKERS i SENDS) ≡ viewSend sys m (suc i)
+  unfolding sentM listAt view-parts
+  newest =
+      queue-same (queue (m BOUNDS i (m WORKERS i SENDS)) (m WORKERS i LOGEND) (λ d. labelOf (m LOG i d)))
+      (queue _ _ (λ d. labelOf (m LOG i d))) (λ d p q. refl)
+      (sent-grown .bounds i h (m WORKERS i SENDS) (le-refl _))
+      (update₂-same (λ n j. m BOUNDS j n) (m WORKERS i SENDS + 1) i (m WORKERS i LOGEND))
+      ∙ sym (at-worker sys (λ j. labelsBetween m LOG j (m BOUNDS j (m WORKERS j SENDS)) (m WORKERS j LOGEND)) [] i h)
+
+  newest-out : messageOf (sentM i m) i (sentM i m OUT i (m WORKERS i OUTEND)) ≡ list (viewSend sys m (suc i))
+  newest-out = list-code (sentM i m) i _ (m WORKERS i SENDS) put ∙ ap list newest
+    where
+      put : sentM i m OUT i (m WORKERS i OUTEND) ≡ LISTMARK + m WORKERS i SENDS
+      put = unfold sentM in update₂-same (λ n j. m OUT j n) (m WORKERS i OUTEND) i (LISTMARK + m WORKERS i SENDS)
+
+  -- every other actor is sent it
+  sent-to : (k : ℕ) → k ≤ sys .workers → (k ≡ suc i → ⊥)
+      → atChannel sys (rowsOf (sentM i m) t) (suc i) k
+      ≡ atChannel sys (rowsOf m t) (suc i) k ++ (list (viewSend sys m (suc i)) ∷ [])
+  unfolding sentM viewLetters viewOut
+  sent-to zero l n =
+      at-out sys (rowsOf (sentM i m) t) i h
+      ∙ queue-put (outQueue m i) (outQueue (sentM i m) i) (out-kept sys small s inv (sentM i m) sent-grown i h)
+      (inv .rows i h .out-read) refl (update-same (λ j. m WORKERS j OUTEND) i (m WORKERS i OUTEND + 1))
+      ∙ ap₂ (λ (l : List Message) (a : Message). l ++ (a ∷ [])) (sym (at-out sys (rowsOf m t) i h)) newest-out
+  sent-to (suc k) l n =
+      let d : i ≡ k → ⊥ = λ e. n (ap suc (sym e)) in
+      at-letters sys (rowsOf (sentM i m) t) i k h l d
+      ∙ queue-put (lettersQueue m i k) (lettersQueue (sentM i m) i k)
+      (letters-kept sys small s inv (sentM i m) sent-grown i k h)
+      (inv .totals .cursor i k h l) refl (update-same (λ j. m WORKERS j SENDS) i (m WORKERS i SENDS + 1))
+      ∙ ap₂ (λ (l : List Message) (a : Message). l ++ (a ∷ [])) (sym (at-letters sys (rowsOf m t) i k h l d)) (ap list newest)
+
+  -- nobody else sends
+  not-sent : Stays sys (λ j k. j ≡ suc i → ⊥) (rowsOf m t) (rowsOf (sentM i m) t)
+  unfolding sentM
+  not-sent = channels-kept sys small s inv (sentM i m) sent-grown t (λ j k. j ≡ suc i → ⊥) (record {
+    cursors = λ j k hj hk n. refl;
+    sends = λ j k hj hk n. other SENDS j n;
+    out-read = λ j hj n. refl;
+    out-end = λ j hj n. other OUTEND j n;
+    polls = λ k hk n. refl;
+    timestamp = λ k hk n. refl;
+  })
+    where
+      other : (c : ℕ) (j : ℕ) → (suc j ≡ suc i → ⊥)
+          → cond (eqb j i) (m WORKERS i c + 1) (m WORKERS j c) ≡ m WORKERS j c
+      other c j n = update-other (λ j. m WORKERS j c) i (m WORKERS i c + 1) j (λ e. n (ap suc e))
+
+  sent-view : view sys (sentM i m) t ≡ afterSend sys (suc i) (view sys m t)
+  unfolding view-parts sentM afterSend
+  sent-view = same-state _ _ (record {
+    domain = λ x v. refl;
+    counter = λ x v y. refl;
+    workList = λ k. refl;
+    toSend = actors-update sys
+        (λ j. labelsBetween m LOG j (m BOUNDS j (m WORKERS j SENDS)) (m WORKERS j LOGEND))
+        (λ j. labelsBetween (sentM i m) LOG j (sentM i m BOUNDS j (sentM i m WORKERS j SENDS)) (m WORKERS j LOGEND))
+        [] i [] h all-sent
+        (λ j hj n. send-kept sys small s inv (sentM i m) sent-grown j hj
+        (update-other (λ j. m WORKERS j SENDS) i (m WORKERS i SENDS + 1) j n) refl);
+    held = λ k. refl;
+    listCounter = counters-more sys (λ j. m WORKERS j LISTS) (λ j. sentM i m WORKERS j LISTS) (t .lists .0) i h
+        (update-same (λ j. m WORKERS j LISTS) i (m WORKERS i LISTS + 1))
+        (λ j hj n. update-other (λ j. m WORKERS j LISTS) i (m WORKERS i LISTS + 1) j n);
+    channel = channels-broadcast sys (rowsOf m t) (rowsOf (sentM i m) t) (suc i) (list (viewSend sys m (suc i))) h
+        sent-to not-sent;
+    timestamp = refl;
+    pollOpen = refl;
+    marked = λ k. refl;
+    closed = refl;
+  })
+    where
+      all-sent : labelsBetween (sentM i m) LOG i (sentM i m BOUNDS i (sentM i m WORKERS i SENDS)) (m WORKERS i LOGEND) ≡ []
+      all-sent =
+          queue-none
+          (queue (sentM i m BOUNDS i (sentM i m WORKERS i SENDS)) (m WORKERS i LOGEND) (λ d. labelOf (m LOG i d)))
+          (omega (
+            arith,
+            ap (sentM i m BOUNDS i) (update-same (λ j. m WORKERS j SENDS) i (m WORKERS i SENDS + 1)),
+            update₂-same (λ n j. m BOUNDS j n) (m WORKERS i SENDS + 1) i (m WORKERS i LOGEND),
+          ))
+
+  -- there is room for every list message
+  send-room : sendM i m ≡ cond (eqb (m BOUNDS i (m WORKERS i SENDS)) (m WORKERS i LOGEND)) none (some (sentM i m))
+  unfolding sendM
+  send-room =
+      rw (
+        lt-ltb (m WORKERS i SENDS) 519 (omega (arith, sends-few sys small s inv i h)),
+        lt-ltb (m WORKERS i OUTEND) 520 (omega (arith, outend-few sys small s inv i h)),
+        lt-ltb (m WORKERS i LISTS) 65535 (omega (arith, lists-few sys small s inv i h)),
+      )
+
+  -- nothing is to be sent exactly if the last list message ends where the log does
+  pub nothing-to-send : isEmpty (viewSend sys m (suc i)) ≡ eqb (m BOUNDS i (m WORKERS i SENDS)) (m WORKERS i LOGEND)
+  unfolding viewSend labelsBetween
+  nothing-to-send =
+      ap isEmpty
+      (at-worker sys (λ j. labelsBetween m LOG j (m BOUNDS j (m WORKERS j SENDS)) (m WORKERS j LOGEND)) [] i h)
+      ∙ queue-empty (queue (m BOUNDS i (m WORKERS i SENDS)) (m WORKERS i LOGEND) (λ d. labelOf (m LOG i d)))
+      (inv .rows i h .last-bound)
+
+  -- sending in memory is sending
+  pub send-refines : mapO (λ m′. view sys m′ t) (sendM i m) ≡ send sys (suc i) (viewOf sys s)
+  unfolding view send
+  send-refines =
+      ap (mapO (λ m′. view sys m′ t)) send-room
+      ∙ mapO-unless (λ m′. view sys m′ t) (eqb (m BOUNDS i (m WORKERS i SENDS)) (m WORKERS i LOGEND)) (sentM i m)
+      (afterSend sys (suc i) (viewOf sys s)) sent-view
+      ∙ ap (λ (b : Bool). cond b none (some (afterSend sys (suc i) (viewOf sys s)))) (sym nothing-to-send)

@@ -1,0 +1,76 @@
+-- A run begins as document 01's loading leaves the plan, whatever the cells held.
+use Prim.Native.Nat.{ℕ, _<_, _≤_}
+use mathlib.Core.Bool.{true}
+use mathlib.Core.List.{List}
+use mathlib.Core.Logic.{inl, inr}
+use mathlib.Core.Option.{none, some}
+use mathlib.Core.Path.{_≡_, refl, sym, _∙_, ap}
+use native.Mathlib.Omega.{arith}
+use borrow.Author.Tests.{lt-ltb, le-ltb}
+use Rattle.base.proofs.Choice.{cond-true, cond-false}
+use Rattle.disac4.specs.Loading.{load}
+use Rattle.disac4.specs.Outcome.{systemAt}
+use Rattle.disac4.specs.System.{System, systemOf}
+use Rattle.index.proofs.Chains.{indexed, index-keeps, indexed-kept}
+use Rattle.refinement.proofs.IndexKept.{load-index}
+use Rattle.refinement.proofs.LoadKeeps.{load-starts}
+use Rattle.refinement.proofs.Loaded.{small}
+use Rattle.index.proofs.Pairing.{paired}
+use Rattle.refinement.proofs.Loading.{Blank, load-refines}
+use Rattle.index.specs.Index.{Indexed, indexM}
+use Rattle.refinement.specs.Inv.{Small, Inv}
+use Rattle.cells.specs.Layout.{BEHIND, HEADS, PLACES, NEXT}
+use Rattle.counters.specs.Load.{clearedM, loadM}
+use Rattle.cells.specs.Memory.{Mem}
+use Rattle.refinement.specs.Run.{viewOf, startM}
+use Rattle.plan.specs.Decode.{planFault, planOf, decode, accepted, decodedAs}
+
+module _ (b : List ℕ) (sound : planFault b ≡ none) where
+  -- bytes without a fault are an accepted plan
+  pub is-accepted : decode b ≡ accepted (planOf b)
+  unfolding decode
+  is-accepted = ap (decodedAs (planOf b)) sound
+
+  -- its system fits the regions
+  pub fits-regions : Small (systemAt b)
+  unfolding systemAt
+  fits-regions = small b (planOf b) is-accepted
+
+  module _ (m : Mem) where
+    -- the memory in which the plan is loaded: its index, and 0 elsewhere
+    abbrev ground : Mem
+    ground = indexM b (clearedM m)
+
+    cleared-low : (r i j : ℕ) → r < BEHIND → clearedM m r i j ≡ 0
+    unfolding clearedM
+    cleared-low r i j h = cond-true 0 (m r i j) (lt-ltb r BEHIND h)
+
+    ground-indexed : Indexed b ground
+    ground-indexed = indexed b sound (clearedM m) (λ x y. cleared-low HEADS x y (omega arith))
+
+    blank : Blank ground
+    blank r i j h = index-keeps b (clearedM m) r (inl h) i j ∙ cleared-low r i j (omega arith)
+
+    pub start-inv : Inv (systemAt b) (startM b m)
+    unfolding systemAt startM
+    start-inv = load-starts (systemOf (planOf b)) fits-regions ground (paired b sound ground ground-indexed) blank
+
+    pub start-view : viewOf (systemAt b) (startM b m) ≡ load (systemAt b)
+    unfolding systemAt startM
+    start-view = load-refines (systemOf (planOf b)) fits-regions ground (paired b sound ground ground-indexed) blank
+
+    -- the loaded memory holds the plan's index
+    pub start-indexed : Indexed b (startM b m .mem)
+    unfolding startM
+    start-indexed =
+        indexed-kept b ground (loadM (systemAt b) ground)
+        (λ i j. load-index (systemAt b) ground HEADS i j (omega arith))
+        (λ i j. load-index (systemAt b) ground PLACES i j (omega arith))
+        (λ i j. load-index (systemAt b) ground NEXT i j (omega arith))
+        ground-indexed
+
+    -- and the cells behind as they were
+    pub start-behind : (i j : ℕ) → startM b m .mem BEHIND i j ≡ m BEHIND i j
+    unfolding startM clearedM
+    start-behind i j =
+        load-index (systemAt b) ground BEHIND i j (omega arith) ∙ index-keeps b (clearedM m) BEHIND (inr (omega arith)) i j

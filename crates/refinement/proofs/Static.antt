@@ -1,0 +1,153 @@
+-- No turn writes the plan's index or the cells behind the needed ones.
+use Prim.Native.Nat.{ℕ, zero, suc, _+_, _-_, _<_, _≤_}
+use mathlib.Core.Bool.{Bool, true, false, cond, _||_, not}
+use mathlib.Core.List.{List, [], _∷_}
+use mathlib.Core.Option.{Option, none, some, Option·getD}
+use mathlib.Core.Path.{_≡_, refl, sym, _∙_, ap}
+use native.Mathlib.Omega.{arith}
+use borrow.Author.Tests.{ne-eqb}
+use lib.Dec.{leb, ltb, eqb}
+use Rattle.disac4.specs.System.{System}
+use Rattle.disac4.specs.Turn.{Turn, treatNumber, sendNumber, answerNumber, pollNumber, allowed}
+use Rattle.disac4.specs.declared.Tally.{Tally}
+use Rattle.refinement.proofs.IndexKept.{treat-index}
+use Rattle.cells.specs.Layout.{WORKERS, CURSORS, BOUNDS, LOG, WORK, OUT, WANTED, HEADS, HEAD, TAIL, LOGEND, LISTS, SENDS, OUTEND, OUTREAD, HELD, POLLS}
+use Rattle.cells.specs.Lists.{pushM, copyM}
+use Rattle.cells.specs.Memory.{Mem, store}
+use Rattle.messages.specs.Messages.{letterEnd, letterStart, sentM, sendM, takenM, readListM, readPollM, answeredM, answerM}
+use Rattle.controller.specs.Controller.{askM, askedT, asksT, hasOut, outReadM, toldT}
+use Rattle.refinement.specs.Run.{playM}
+use Rattle.controller.specs.Controller.{Machine, hearM, pollM}
+use Rattle.refinement.specs.Step.{withMem, readM, workerM, stepM, afterM}
+use Rattle.counters.specs.Treat.{treatM}
+
+-- a point of the index or behind
+module _ (r a b : ℕ) (h : HEADS ≤ r) where
+  far : (s : ℕ) → s < HEADS → eqb r s ≡ false
+  far s l = ne-eqb r s (λ e. omega arith)
+
+  copy-static : (j i from n : ℕ) (m : Mem) → copyM j i from n m r a b ≡ m r a b
+  unfolding copyM pushM
+  copy-static j i from zero m = refl
+  copy-static j i from (suc n) m =
+      push (copyM j i from n m LOG j (from + n)) (copyM j i from n m) ∙ copy-static j i from n m
+    where
+      push : (c : ℕ) (m : Mem) → pushM WORK TAIL i c m r a b ≡ m r a b
+      push c m = at-test (ltb (m WORKERS i TAIL) 512)
+        where
+          at-test : (t : Bool)
+              → cond t (store (store m WORK i (m WORKERS i TAIL) c) WORKERS i TAIL (m WORKERS i TAIL + 1)) m r a b ≡ m r a b
+          at-test true = rw (far WORK (omega arith), far WORKERS (omega arith))
+          at-test false = refl
+
+  -- ---- an action gives a memory that agrees at the point, or nothing
+
+  data Kept (m : Mem) : Option Mem → Type 0 where
+    idle : Kept m none
+    agrees : {n : Mem} → n r a b ≡ m r a b → Kept m (some n)
+
+  kept-if : {m : Mem} (t : Bool) {o p : Option Mem} → Kept m o → Kept m p → Kept m (cond t o p)
+  kept-if true x y = x
+  kept-if false x y = y
+
+  send-kept : (i : ℕ) (m : Mem) → Kept m (sendM i m)
+  unfolding sendM sentM
+  send-kept i m =
+      kept-if (ltb (m WORKERS i SENDS) 519)
+      (kept-if (eqb (m BOUNDS i (m WORKERS i SENDS)) (m WORKERS i LOGEND)) idle
+      (kept-if (ltb (m WORKERS i OUTEND) 520)
+      (kept-if (ltb (m WORKERS i LISTS) 65535)
+      (agrees (rw (far WORKERS (omega arith), far OUT (omega arith), far BOUNDS (omega arith))))
+      idle)
+      idle))
+      idle
+
+  list-kept : (j i : ℕ) (m : Mem) → Kept m (readListM j i m)
+  unfolding readListM takenM
+  list-kept j i m =
+      kept-if (ltb (m CURSORS j i) (m WORKERS j SENDS))
+      (kept-if (ltb (m CURSORS j i) 519)
+      (kept-if (leb (letterEnd j i m) 512)
+      (kept-if (ltb (m WORKERS i LISTS) 65535)
+      (agrees
+      (rw (far WORKERS (omega arith), far CURSORS (omega arith))
+      (copy-static j i (letterStart j i m) (letterEnd j i m - letterStart j i m) m)))
+      idle)
+      idle)
+      idle)
+      idle
+
+  poll-kept : (i n : ℕ) (m : Mem) → Kept m (readPollM i n m)
+  unfolding readPollM
+  poll-kept i n m = kept-if (ltb (m WORKERS i POLLS) n) (agrees (rw (far WORKERS (omega arith)))) idle
+
+  answer-kept : (i : ℕ) (m : Mem) → Kept m (answerM i m)
+  unfolding answerM answeredM
+  answer-kept i m =
+      kept-if (eqb (m WORKERS i HELD) 0) idle
+      (kept-if (ltb (m WORKERS i HELD) 520)
+      (kept-if (eqb (m WORKERS i HEAD) (m WORKERS i TAIL))
+      (kept-if (ltb (m WORKERS i SENDS) 519)
+      (kept-if (eqb (m BOUNDS i (m WORKERS i SENDS)) (m WORKERS i LOGEND))
+      (kept-if (eqb (m WORKERS i LISTS) (m WANTED 0 (m WORKERS i HELD)))
+      (kept-if (ltb (m WORKERS i OUTEND) 520) (agrees (rw (far WORKERS (omega arith), far OUT (omega arith)))) idle)
+      idle)
+      idle)
+      idle)
+      idle)
+      idle)
+
+  treat-kept : (sys : System) (i : ℕ) (m : Mem) → Kept m (treatM sys i m)
+  treat-kept sys i m = go (treatM sys i m) refl
+    where
+      go : (o : Option Mem) → treatM sys i m ≡ o → Kept m o
+      go none e = idle
+      go (some n) e = agrees (treat-index sys i m n e r a b h)
+
+  worker-kept : (sys : System) (i d : ℕ) (s : Machine) → Kept (s .mem) (workerM sys i d s)
+  unfolding workerM readM
+  worker-kept sys i d s =
+      kept-if (eqb d treatNumber) (treat-kept sys i (s .mem))
+      (kept-if (eqb d sendNumber) (send-kept i (s .mem))
+      (kept-if (eqb d answerNumber) (answer-kept i (s .mem))
+      (kept-if (eqb d 0) (poll-kept i (s .tally .timestamp .0) (s .mem)) (list-kept (d - 1) i (s .mem)))))
+
+  -- ---- turns
+
+  after-kept : (s : Machine) (o : Option Mem) → Kept (s .mem) o
+      → Option·getD (withMem (s .tally) o) s .mem r a b ≡ s .mem r a b
+  after-kept s none k = refl
+  after-kept s (some n) (agrees e) = e
+
+  turn-static : (sys : System) (s : Machine) (t : Turn) → afterM sys s t .mem r a b ≡ s .mem r a b
+  unfolding afterM stepM hearM pollM askM outReadM
+  turn-static sys s t =
+      go (s .tally .closed || not (allowed (sys .workers) t)) (eqb (t .actor) 0) (eqb (t .action) pollNumber)
+      (asksT (s .tally)) (hasOut (t .action - 1) (s .tally) (s .mem))
+    where
+      heard : Tally
+      heard =
+          toldT (sys .workers) (t .action - 1) (s .mem OUT (t .action - 1) (s .mem WORKERS (t .action - 1) OUTREAD)) (s .tally)
+
+      go : (f c p q o : Bool)
+          → Option·getD
+          (cond f none
+          (cond c
+          (cond p (cond q (some (record { mem = askM (s .tally) (s .mem); tally = askedT (s .tally) })) none)
+          (cond o (some (record { mem = outReadM (t .action - 1) (s .mem); tally = heard })) none))
+          (withMem (s .tally) (workerM sys (t .actor - 1) (t .action) s))))
+          s .mem r a b
+          ≡ s .mem r a b
+      go true c p q o = refl
+      go false true true true o = rw (far WANTED (omega arith))
+      go false true true false o = refl
+      go false true false q true = rw (far WORKERS (omega arith))
+      go false true false q false = refl
+      go false false p q o =
+          after-kept s (workerM sys (t .actor - 1) (t .action) s) (worker-kept sys (t .actor - 1) (t .action) s)
+
+  -- any turns keep the plan's index and the cells behind
+  pub play-static : (sys : System) (ts : List Turn) (s : Machine) → playM sys s ts .mem r a b ≡ s .mem r a b
+  unfolding playM
+  play-static sys [] s = refl
+  play-static sys (t ∷ ts) s = play-static sys ts (afterM sys s t) ∙ turn-static sys s t

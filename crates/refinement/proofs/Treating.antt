@@ -1,0 +1,279 @@
+-- Treating in memory is treating: the state that the memory stands for afterwards is the one of document 01.
+use Prim.Native.Nat.{ℕ, suc, _+_, _-_, _<_, _≤_}
+use mathlib.Core.Bool.{Bool, true, false, cond, _&&_, not}
+use mathlib.Core.List.{List, [], _∷_, _++_}
+use mathlib.Core.Option.{none, some, Option·map}
+use mathlib.Core.Path.{_≡_, refl, sym, _∙_, ap, subst}
+use native.Mathlib.Decide.{ℕ-discrete, decLt}
+use native.Mathlib.Omega.{arith}
+use borrow.Author.Tests.{lt-ltb, le-ltb}
+use lib.Dec.{eqb}
+use lib.ListN.{length}
+use Rattle.base.proofs.Bools.{clash, refuted, and-left, and-right, and-false-left, and-false-right}
+use Rattle.base.proofs.Choice.{cond-true, cond-false}
+use Rattle.base.specs.Choice.{update}
+use Rattle.network.proofs.DomainSize.{domainSize}
+use Rattle.disac4.proofs.DomainSize.{treat-size}
+use Rattle.disac4.specs.Action.{loses, lowered, deletes, deletions, afterTreat, treat, treatFrom}
+use Rattle.disac4.specs.State.{State}
+use Rattle.disac4.specs.System.{System}
+use Rattle.disac4.specs.declared.Tally.{Tally}
+use Rattle.network.proofs.Loaded.{loaded-variable, loaded-value}
+use Rattle.network.specs.Network.{Label, label, loaded, labelsWhere}
+use Rattle.cells.specs.Layout.{WORKERS, CURSORS, BOUNDS, LOG, WORK, OUT, WANTED, DOMAIN, COUNTERS, HEADS, HEAD, TAIL, LOGEND, SENDS}
+use Rattle.cells.specs.Memory.{Mem, store}
+use Rattle.controller.specs.Controller.{Machine}
+use Rattle.counters.specs.Treat.{touchVariablesM, treatM}
+use Rattle.cells.specs.View.{LISTED, labelOf, labelsBetween, counterRow, viewCounter, viewWork, viewSend, view}
+use Rattle.refinement.proofs.Frames.{store-same, store-other, Apart}
+use Rattle.refinement.proofs.Growing.{labels-ext, labels-first, labels-none, Both}
+use Rattle.refinement.specs.Inv.{Small, Inv}
+use Rattle.index.specs.Index.{Paired}
+use Rattle.refinement.proofs.Labelwise.{row-heads, paired-heads, unloaded-apart, Shows, shows-start, walk-apart, walk-shows, walk-both}
+use Rattle.refinement.proofs.Queues.{workFrom, sendFrom, queue-at, queue-after}
+use Rattle.refinement.proofs.Room.{log-room, work-room}
+use Rattle.refinement.proofs.RowsKept.{same-bound}
+use Rattle.refinement.proofs.Touching.{touchLabelM, touch-walk, touch-apart, touch-shows, touch-both}
+use Rattle.refinement.proofs.Unmoved.{Unmoved, held-kept, lists-kept, channel-kept}
+use Rattle.refinement.proofs.Walking.{walk}
+
+module _ (sys : System) (small : Small sys) (s : Machine) (inv : Inv sys s) (i : ℕ) (h : i < sys .workers)
+    (busy : s .mem WORKERS i HEAD < s .mem WORKERS i TAIL) where
+  abbrev m : Mem
+  m = s .mem
+
+  abbrev t : Tally
+  t = s .tally
+
+  abbrev head : ℕ
+  head = m WORKERS i HEAD
+
+  abbrev a : Label
+  a = labelOf (m WORK i head)
+
+  abbrev st : State
+  st = view sys m t
+
+  -- the label is taken from the work list
+  abbrev taken : Mem
+  taken = store m WORKERS i HEAD (head + 1)
+
+  -- and treated
+  abbrev pub treatedM : Mem
+  treatedM =
+      touchVariablesM sys i (a .variable) (a .value) (sys .net .variables) taken
+
+  step : ℕ → ℕ → Mem → Mem
+  step = touchLabelM sys i (a .variable) (a .value)
+
+  walked : treatedM ≡ walk (sys .net) step (sys .net .variables) taken
+  unfolding step
+  walked = touch-walk sys i (a .variable) (a .value) (sys .net .variables) taken
+
+  local : (x v : ℕ) → x < sys .net .variables → v < sys .net .size x → (n : Mem) (r a b : ℕ) → Apart sys n i x v r a b
+      → step x v n r a b ≡ n r a b
+  unfolding step
+  local x v k l n r b c p = touch-apart sys i (a .variable) (a .value) t x v n r b c p
+
+  paired : Paired sys taken
+  paired = paired-heads sys m taken (λ a b. refl) (inv .paired)
+
+  -- what stands apart is left alone
+  pub treated-apart : (r b c : ℕ)
+      → ((x v : ℕ) → x < sys .net .variables → v < sys .net .size x → Apart sys taken i x v r b c)
+      → treatedM r b c ≡ taken r b c
+  treated-apart r b c p =
+      ap (λ (n : Mem). n r b c) walked ∙ walk-apart sys small step (λ x. i) local taken paired r b c p
+
+  -- each label's own cells
+  pub treated-shows : (x v : ℕ) → x < sys .net .variables → v < sys .net .size x
+      → Shows sys taken x v (cond (deletes sys (suc i) a st x v) 0 (m DOMAIN x v)) (lowered sys (suc i) a st x v) treatedM
+  unfolding step deletes lowered loses view viewCounter counterRow
+  treated-shows x v k l =
+      subst (Shows sys taken x v (cond (deletes sys (suc i) a st x v) 0 (m DOMAIN x v)) (lowered sys (suc i) a st x v))
+      (sym walked)
+      (walk-shows sys small step (λ x. i) local taken paired x v (m DOMAIN x v)
+      (cond (deletes sys (suc i) a st x v) 0 (m DOMAIN x v)) (λ y. taken COUNTERS (counterRow taken x y) v)
+      (lowered sys (suc i) a st x v) k l
+      (touch-shows sys i (a .variable) (a .value) t small taken paired x v k l) (shows-start sys taken x v))
+
+  -- as many labels are deleted as there is room for
+  deleted-size : length (deletions sys (suc i) a st) ≤ domainSize (sys .net) (st .domain)
+  deleted-size = omega (arith, treat-size sys (suc i) a st)
+
+  room : (col : ℕ) → m WORKERS i col + domainSize (sys .net) (st .domain) ≤ 512
+      → m WORKERS i col + length (deletions sys (suc i) a st) ≤ 512
+  room col k = omega (arith, deleted-size)
+
+  -- the deleted labels stand on both lists of the row
+  pub treated-both : Both sys i taken treatedM (deletions sys (suc i) a st)
+  unfolding step deletions labelsWhere deletes lowered loses view viewCounter counterRow
+  treated-both =
+      subst (λ n. Both sys i taken n (deletions sys (suc i) a st)) (sym walked)
+      (walk-both sys small step (λ x. i) local taken paired i
+      (λ x v. cond (deletes sys (suc i) a st x v) (label x v ∷ []) [])
+      (λ x v k l n. touch-both sys i (a .variable) (a .value) t small taken paired x v k l n)
+      (room LOGEND (omega (arith, log-room sys s inv i h, small .few-labels)))
+      (room TAIL (omega (arith, work-room sys s inv i h, small .few-labels))))
+
+  -- nothing else that the view shows has changed
+  pub treated-unmoved : Unmoved m treatedM
+  treated-unmoved = record {
+    column = λ r b p.
+        treated-apart WORKERS r b (λ x v k l. omega arith)
+        ∙ store-other m WORKERS i HEAD (head + 1) WORKERS r b (λ e f. p .0);
+    cursors = λ r b. treated-apart CURSORS r b (λ x v k l. omega arith);
+    bounds = λ r b. treated-apart BOUNDS r b (λ x v k l. omega arith);
+    out = λ r b. treated-apart OUT r b (λ x v k l. omega arith);
+    wanted = λ r b. treated-apart WANTED r b (λ x v k l. omega arith);
+    logs = λ r d p.
+        elim (ℕ-discrete r i) [
+          | yes e ↦
+              subst (λ (r : ℕ). treatedM LOG r d ≡ m LOG r d) (sym e)
+              (treated-both .log .old d (subst (λ (r : ℕ). d < m WORKERS r LOGEND) e p))
+          | no n ↦ treated-apart LOG r d (λ x v k l. omega arith)
+        ];
+  }
+
+  -- ---- the view, field by field
+
+  -- the deleted labels are out of their domains
+  pub domain-after : (x v : ℕ) → eqb (treatedM DOMAIN x v) LISTED ≡ st .domain x v && not (deletes sys (suc i) a st x v)
+  unfolding view
+  domain-after x v = go (loaded (sys .net) x v) refl
+    where
+      kept : (b : Bool) (d : ℕ) → eqb (cond b 0 d) LISTED ≡ eqb d LISTED && not b
+      kept true d = sym (and-false-right (eqb d LISTED) refl)
+      kept false d = all (eqb d LISTED)
+        where
+          all : (c : Bool) → c ≡ c && true
+          all true = refl
+          all false = refl
+
+      go : (b : Bool) → loaded (sys .net) x v ≡ b
+          → eqb (treatedM DOMAIN x v) LISTED ≡ eqb (m DOMAIN x v) LISTED && not (deletes sys (suc i) a st x v)
+      go true e =
+          ap (λ (d : ℕ). eqb d LISTED)
+          (treated-shows x v (loaded-variable (sys .net) x v e) (loaded-value (sys .net) x v e) .domain)
+          ∙ kept (deletes sys (suc i) a st x v) (m DOMAIN x v)
+      go false e =
+          let out : eqb (m DOMAIN x v) LISTED ≡ false = refuted (eqb (m DOMAIN x v) LISTED) (λ p. clash (inv .listed x v p) e) in
+          ap (λ (d : ℕ). eqb d LISTED)
+          (treated-apart DOMAIN x v (unloaded-apart sys taken i x v e))
+          ∙ out
+          ∙ sym (and-false-left (not (deletes sys (suc i) a st x v)) out)
+
+  -- the index stays
+  pub heads-after : (b c : ℕ) → treatedM HEADS b c ≡ m HEADS b c
+  heads-after b c = treated-apart HEADS b c (λ x v k l. omega arith)
+
+  no-counter : (x v y : ℕ) → loaded (sys .net) x v && sys .net .linked x y ≡ false → lowered sys (suc i) a st x v y ≡ 0
+  unfolding view viewCounter lowered
+  no-counter x v y e =
+      nothing (loses sys (suc i) a st x v && eqb y (a .variable)) (st .counter x v y)
+      (cond-false (m COUNTERS (counterRow m x y) v) 0 e)
+    where
+      nothing : (b : Bool) (c : ℕ) → c ≡ 0 → cond b (c - 1) c ≡ 0
+      nothing true c e = omega arith
+      nothing false c e = e
+
+  counter-after : (x v y : ℕ) → viewCounter sys treatedM x v y ≡ lowered sys (suc i) a st x v y
+  unfolding viewCounter
+  counter-after x v y = go (loaded (sys .net) x v && sys .net .linked x y) refl
+    where
+      go : (b : Bool) → loaded (sys .net) x v && sys .net .linked x y ≡ b
+          → cond b (treatedM COUNTERS (counterRow treatedM x y) v) 0 ≡ lowered sys (suc i) a st x v y
+      go true e =
+          let ld : loaded (sys .net) x v ≡ true = and-left (loaded (sys .net) x v) (sys .net .linked x y) e in
+          ap (λ (k : ℕ). treatedM COUNTERS k v)
+          (row-heads taken treatedM x y (heads-after x y))
+          ∙ treated-shows x v (loaded-variable (sys .net) x v ld) (loaded-value (sys .net) x v ld) .counter y
+          (and-right (loaded (sys .net) x v) (sys .net .linked x y) e)
+      go false e = sym (no-counter x v y e)
+
+  abbrev rest : List Label
+  rest = labelsBetween m WORK i (head + 1) (m WORKERS i TAIL)
+
+  -- the label is no longer on the work list
+  pub head-after : treatedM WORKERS i HEAD ≡ head + 1
+  head-after = treated-apart WORKERS i HEAD (λ x v k l. omega arith) ∙ store-same m WORKERS i HEAD (head + 1)
+
+  -- the other rows stay
+  pub other-row : (j b : ℕ) → (j ≡ i → ⊥) → treatedM WORKERS j b ≡ m WORKERS j b
+  other-row j b n =
+      treated-apart WORKERS j b (λ x v k l. omega arith)
+      ∙ store-other m WORKERS i HEAD (head + 1) WORKERS j b (λ e f g. n f)
+
+  work-after : (k : ℕ) → viewWork sys treatedM k ≡ update (viewWork sys m) (suc i) (rest ++ deletions sys (suc i) a st) k
+  unfolding viewWork
+  work-after =
+      queue-after sys WORK TAIL workFrom m treatedM i h (rest ++ deletions sys (suc i) a st)
+      (ap (λ (b : ℕ). labelsBetween treatedM WORK i b (treatedM WORKERS i TAIL)) head-after
+      ∙ treated-both .work .new (head + 1) (omega arith)
+      ∙ ap (λ (l : List Label). l ++ deletions sys (suc i) a st)
+      (labels-ext m taken WORK i (head + 1) (m WORKERS i TAIL) (λ d p q. refl)))
+      (λ j n. (other-row j HEAD n, other-row j TAIL n, λ d. treated-apart WORK j d (λ x v k l. omega arith)))
+
+  send-after : (k : ℕ)
+      → viewSend sys treatedM k ≡ update (viewSend sys m) (suc i) (viewSend sys m (suc i) ++ deletions sys (suc i) a st) k
+  unfolding viewSend
+  send-after =
+      queue-after sys LOG LOGEND sendFrom m treatedM i h (viewSend sys m (suc i) ++ deletions sys (suc i) a st)
+      (ap (λ (b : ℕ). labelsBetween treatedM LOG i b (treatedM WORKERS i LOGEND)) (same-bound sys m treatedM t treated-unmoved i)
+      ∙ treated-both .log .new (m BOUNDS i (m WORKERS i SENDS)) (inv .rows i h .last-bound)
+      ∙ ap (λ (l : List Label). l ++ deletions sys (suc i) a st)
+      (labels-ext m taken LOG i (m BOUNDS i (m WORKERS i SENDS)) (m WORKERS i LOGEND) (λ d p q. refl)
+      ∙ sym (queue-at sys LOG LOGEND sendFrom m i h)))
+      (λ j n. (same-bound sys m treatedM t treated-unmoved j, other-row j LOGEND n, λ d. treated-apart LOG j d (λ x v k l. omega arith)))
+
+  -- the state that the memory stands for is the one after the treatment
+  pub treated-view : view sys treatedM t ≡ afterTreat sys (suc i) a rest st
+  unfolding view afterTreat
+  treated-view = λ z. record {
+    domain = λ x v. domain-after x v z;
+    counter = λ x v y. counter-after x v y z;
+    workList = λ k. work-after k z;
+    toSend = λ k. send-after k z;
+    held = λ k. held-kept sys m treatedM t treated-unmoved k z;
+    listCounter = λ k. lists-kept sys m treatedM t treated-unmoved k z;
+    channel = λ j k. channel-kept sys m treatedM t treated-unmoved (inv .rows) j k z;
+    controller = st .controller;
+  }
+
+  -- the turn is not idle
+  pub treat-busy : treatM sys i (s .mem) ≡ some treatedM
+  unfolding treatM
+  treat-busy =
+      cond-true _ none (lt-ltb head (m WORKERS i TAIL) busy)
+      ∙ cond-true (some treatedM) none
+      (lt-ltb head 512 (omega (arith, work-room sys s inv i h, small .few-labels)))
+
+-- a row whose work list is empty is idle
+pub treat-idle : (sys : System) (m : Mem) (i : ℕ) → m WORKERS i TAIL ≤ m WORKERS i HEAD → treatM sys i m ≡ none
+unfolding treatM
+treat-idle sys m i h = cond-false _ none (le-ltb (m WORKERS i HEAD) (m WORKERS i TAIL) h)
+
+-- the work list of a row
+work-list : (sys : System) (m : Mem) (t : Tally) (i : ℕ) → i < sys .workers
+    → view sys m t .workList (suc i) ≡ labelsBetween m WORK i (m WORKERS i HEAD) (m WORKERS i TAIL)
+unfolding view viewWork
+work-list sys m t i h = queue-at sys WORK TAIL workFrom m i h
+
+-- treating in memory is treating
+pub treat-refines : (sys : System) → Small sys → (s : Machine) → Inv sys s → (i : ℕ) → i < sys .workers
+    → Option·map (λ m′. view sys m′ (s .tally)) (treatM sys i (s .mem)) ≡ treat sys (suc i) (view sys (s .mem) (s .tally))
+unfolding treat
+treat-refines sys small s inv i h =
+    elim (decLt (s .mem WORKERS i HEAD) (s .mem WORKERS i TAIL)) [
+      | yes busy ↦
+          ap (Option·map (λ m′. view sys m′ (s .tally))) (treat-busy sys small s inv i h busy)
+          ∙ ap some (treated-view sys small s inv i h busy)
+          ∙ ap (treatFrom sys (suc i) (view sys (s .mem) (s .tally)))
+          (sym (work-list sys (s .mem) (s .tally) i h
+          ∙ labels-first (s .mem) WORK i (s .mem WORKERS i HEAD) (s .mem WORKERS i TAIL) busy))
+      | no idle ↦
+          ap (Option·map (λ m′. view sys m′ (s .tally))) (treat-idle sys (s .mem) i (omega arith))
+          ∙ ap (treatFrom sys (suc i) (view sys (s .mem) (s .tally)))
+          (sym (work-list sys (s .mem) (s .tally) i h
+          ∙ labels-none (s .mem) WORK i (s .mem WORKERS i HEAD) (s .mem WORKERS i TAIL) (omega arith)))
+    ]

@@ -1,0 +1,151 @@
+-- What holds of a run that has played some turns, and one turn more.
+use Prim.Native.Nat.{ℕ, _+_, _<_, _≤_}
+use mathlib.Core.Bool.{Bool, true, _&&_}
+use mathlib.Core.List.{List, [], _∷_, _++_, append-assoc, append-nil}
+use mathlib.Core.Option.{none}
+use mathlib.Core.Path.{_≡_, refl, sym, _∙_, ap, subst}
+use native.Mathlib.Omega.{arith}
+use lib.ListN.{length}
+use Rattle.base.specs.Below.{one}
+use Rattle.disac4.proofs.FiguresFit.{figures-fit}
+use Rattle.disac4.specs.Loading.{load}
+use Rattle.disac4.specs.Outcome.{systemAt}
+use Rattle.disac4.specs.Report.{isSend, isPoll, final}
+use Rattle.disac4.specs.State.{State}
+use Rattle.disac4.specs.System.{System, systemOf}
+use Rattle.disac4.specs.Turn.{Turn, isSome, play, changesWhere}
+use Rattle.index.proofs.Chains.{indexed-kept, and-true}
+use Rattle.refinement.proofs.Refined.{refined}
+use Rattle.refinement.proofs.Runs.{Refines, playM-append, countM-append, run-view, run-keeps, run-counts}
+use Rattle.refinement.proofs.Start.{is-accepted, fits-regions, start-inv, start-view, start-indexed, start-behind}
+use Rattle.refinement.proofs.Static.{play-static}
+use Rattle.index.specs.Index.{Indexed, Ready}
+use Rattle.refinement.specs.Inv.{Inv}
+use Rattle.cells.specs.Layout.{BEHIND, HEADS, PLACES, NEXT}
+use Rattle.cells.specs.Memory.{Mem, memOf}
+use Rattle.refinement.specs.Run.{viewOf, playM, countM, startM, At, Going, Plays}
+use Rattle.controller.specs.Controller.{Machine, machine}
+use Rattle.refinement.specs.Step.{stepM, afterM}
+use Rattle.refinement.specs.declared.Progress.{Progress}
+use Rattle.plan.specs.Decode.{planFault, planOf}
+
+module _ (b : List ℕ) (sound : planFault b ≡ none) where
+  abbrev sys : System
+  sys = systemAt b
+
+  refines : Refines sys
+  refines = refined sys (fits-regions b sound)
+
+  module _ (m : Mem) (ts : List Turn) (cells : List ℕ) (g : Progress) (at : At b m ts cells g) where
+    -- the invariant holds
+    pub under-inv : Inv sys (machine cells (g .tally))
+    under-inv = subst (Inv sys) (sym (at .stands)) (run-keeps sys refines ts (startM b m) (start-inv b sound m))
+
+    -- the cells stand for the state after the turns
+    pub under-view : viewOf sys (machine cells (g .tally)) ≡ final sys ts
+    unfolding final
+    under-view =
+        ap (viewOf sys) (at .stands)
+        ∙ run-view sys refines ts (startM b m) (start-inv b sound m)
+        ∙ ap (λ (st : State). play sys st ts) (start-view b sound m)
+
+    -- nothing of the index or behind it has changed
+    same-since : (r i j : ℕ) → HEADS ≤ r → memOf cells r i j ≡ startM b m .mem r i j
+    same-since r i j h =
+        ap (λ (s : Machine). s .mem r i j) (at .stands) ∙ play-static r i j h sys ts (startM b m)
+
+    pub under-ready : 24576 ≤ length cells → Ready b cells
+    under-ready long = record {
+      sound = sound;
+      index =
+          indexed-kept b (startM b m .mem) (memOf cells) (λ i j. same-since HEADS i j (omega arith))
+          (λ i j. same-since PLACES i j (omega arith)) (λ i j. same-since NEXT i j (omega arith))
+          (start-indexed b sound m);
+      long = long;
+    }
+
+    -- the cells behind are as they were
+    pub under-behind : (i j : ℕ) → memOf cells BEHIND i j ≡ m BEHIND i j
+    under-behind i j = same-since BEHIND i j (omega arith) ∙ start-behind b sound m i j
+
+    -- the counts are those of document 01's turns
+    counted : (test : Turn → Bool) → countM sys test (startM b m) ts ≡ changesWhere sys test (load sys) ts
+    counted test =
+        run-counts sys refines test ts (startM b m) (start-inv b sound m)
+        ∙ ap (λ (st : State). changesWhere sys test st ts) (start-view b sound m)
+
+    pub under-changes : g .changes ≡ changesWhere sys (λ t. true) (load sys) ts
+    under-changes = at .changes ∙ counted (λ t. true)
+
+    pub under-sends : g .sends ≡ changesWhere sys isSend (load sys) ts
+    under-sends = at .sends ∙ counted isSend
+
+    pub under-polls : g .polls ≡ changesWhere sys isPoll (load sys) ts
+    under-polls = at .polls ∙ counted isPoll
+
+    -- and far below what a number can hold
+    pub under-small : (g .changes < 65536) × (g .sends < 65536) × (g .polls < 65536)
+    unfolding systemAt
+    under-small =
+        let f = figures-fit b (planOf b) (is-accepted b sound) ts in (
+          omega (arith, under-changes, f .turns, f .bound),
+          omega (arith, under-sends, f .sends),
+          omega (arith, under-polls, f .polls),
+        )
+
+    -- one turn more
+    pub at-next : (t : Turn) (cells′ : List ℕ) (g′ : Progress)
+        → machine cells′ (g′ .tally) ≡ afterM sys (machine cells (g .tally)) t
+        → g′ .changes ≡ g .changes + one (isSome (stepM sys (machine cells (g .tally)) t))
+        → g′ .sends ≡ g .sends + one (isSome (stepM sys (machine cells (g .tally)) t) && isSend t)
+        → g′ .polls ≡ g .polls + one (isSome (stepM sys (machine cells (g .tally)) t) && isPoll t)
+        → At b m (ts ++ (t ∷ [])) cells′ g′
+    unfolding playM countM
+    at-next t cells′ g′ moved changes sends polls = record {
+      stands =
+          moved ∙ ap (λ (s : Machine). afterM sys s t) (at .stands) ∙ sym (playM-append sys ts (t ∷ []) (startM b m));
+      changes =
+          more (λ t. true) (g .changes) (g′ .changes) (at .changes)
+          (changes
+          ∙ ap (λ (c : Bool). g .changes + one c)
+          (sym (and-true (isSome (stepM sys (machine cells (g .tally)) t)) {b = true} refl)));
+      sends = more isSend (g .sends) (g′ .sends) (at .sends) sends;
+      polls = more isPoll (g .polls) (g′ .polls) (at .polls) polls;
+    }
+      where
+        more : (test : Turn → Bool) (n n′ : ℕ) → n ≡ countM sys test (startM b m) ts
+            → n′ ≡ n + one (isSome (stepM sys (machine cells (g .tally)) t) && test t)
+            → n′ ≡ countM sys test (startM b m) (ts ++ (t ∷ []))
+        more test n n′ p q =
+            omega (
+              arith,
+              countM-append sys test ts (t ∷ []) (startM b m),
+              ap (λ (s : Machine). one (isSome (stepM sys s t) && test t)) (at .stands),
+            )
+
+-- ---- lists of turns, one after the other
+
+module _ (b : List ℕ) where
+  -- no turns
+  pub plays-none : (cells : List ℕ) (g : Progress) → Plays b [] cells g cells g
+  unfolding Plays
+  plays-none cells g m ts at = subst (λ (us : List Turn). At b m us cells g) (sym (append-nil ts)) at
+
+  -- two lists of turns are one
+  pub plays-then : (us vs : List Turn) (c₀ c₁ c₂ : List ℕ) (g₀ g₁ g₂ : Progress) → Plays b us c₀ g₀ c₁ g₁
+      → Plays b vs c₁ g₁ c₂ g₂ → Plays b (us ++ vs) c₀ g₀ c₂ g₂
+  unfolding Plays
+  plays-then us vs c₀ c₁ c₂ g₀ g₁ g₂ p q m ts at =
+      subst (λ (ws : List Turn). At b m ws c₂ g₂) (append-assoc ts us vs) (q m (ts ++ us) (p m ts at))
+
+  -- a run that goes on is going still
+  pub still-going : (us : List Turn) (cells cells′ : List ℕ) (g g′ : Progress) → Going b cells g
+      → 24576 ≤ length cells′ → Plays b us cells g cells′ g′ → Going b cells′ g′
+  unfolding Plays
+  still-going us cells cells′ g g′ go long p = record {
+    sound = go .sound;
+    long = long;
+    before = go .before;
+    turns = go .turns ++ us;
+    at = p (go .before) (go .turns) (go .at);
+  }

@@ -1,0 +1,37 @@
+-- One turn in memory, and a run of turns.
+use Prim.Native.Nat.{ℕ, _-_}
+use mathlib.Core.Bool.{cond, _||_, not}
+use mathlib.Core.Option.{Option, none, some, Option·getD}
+use lib.Dec.{eqb}
+use Rattle.disac4.specs.System.{System}
+use Rattle.disac4.specs.Turn.{Turn, treatNumber, sendNumber, answerNumber, pollNumber, allowed}
+use Rattle.disac4.specs.declared.Tally.{Tally}
+use Rattle.controller.specs.Controller.{Machine, pollM, hearM}
+use Rattle.cells.specs.Memory.{Mem}
+use Rattle.messages.specs.Messages.{sendM, readListM, readPollM, answerM}
+use Rattle.counters.specs.Treat.{treatM}
+
+abbrev pub withMem : Tally → Option Mem → Option Machine
+withMem t none = none
+withMem t (some m) = some (record { mem = m; tally = t })
+
+-- row `i` reads from actor `d`
+unfoldable pub readM : ℕ → ℕ → Machine → Option Mem
+readM d i s = cond (eqb d 0) (readPollM i (s .tally .timestamp .0) (s .mem)) (readListM (d - 1) i (s .mem))
+
+-- the action `d` of row `i`
+unfoldable pub workerM : System → ℕ → ℕ → Machine → Option Mem
+workerM sys i d s =
+    cond (eqb d treatNumber) (treatM sys i (s .mem))
+    (cond (eqb d sendNumber) (sendM i (s .mem)) (cond (eqb d answerNumber) (answerM i (s .mem)) (readM d i s)))
+
+-- a turn: the machine after, or nothing where it is idle
+unfoldable pub stepM : System → Machine → Turn → Option Machine
+stepM sys s t =
+    cond (s .tally .closed || not (allowed (sys .workers) t)) none
+    (cond (eqb (t .actor) 0)
+    (cond (eqb (t .action) pollNumber) (pollM s) (hearM sys (t .action - 1) s))
+    (withMem (s .tally) (workerM sys (t .actor - 1) (t .action) s)))
+
+unfoldable pub afterM : System → Machine → Turn → Machine
+afterM sys s t = Option·getD (stepM sys s t) s

@@ -1,0 +1,149 @@
+-- The list cells and the report, from the rows of the domains in memory.
+use Prim.Native.Nat.{ℕ, suc, _+_, _^_, _<_, _≤_}
+use mathlib.Core.Bool.{Bool, true, false, cond}
+use mathlib.Core.List.{List, _++_}
+use mathlib.Core.Option.{Option, none, some, Option·getD}
+use mathlib.Core.Path.{_≡_, refl, sym, _∙_, ap, ap₂}
+use native.Mathlib.Numerals.{add-one}
+use native.Mathlib.Omega.{arith}
+use lib.Dec.{eqb}
+use lib.ListN.{length, set, drop}
+use lib.Pow.{pow-pos}
+use Rattle.base.proofs.Below.{some-below, any-below, length-list-below, first-at, first-more}
+use Rattle.base.proofs.Bools.{refuted}
+use Rattle.base.proofs.Choice.{cond-true, cond-false}
+use Rattle.base.proofs.Sums.{sum-none, sum-some}
+use Rattle.base.specs.Below.{anyBelow, listBelow, firstBelow}
+use Rattle.base.specs.Row.{rowOf}
+use Rattle.disac4.specs.Outcome.{overwrite}
+use Rattle.disac4.specs.Report.{lowestEmpty, statusOf, listCells}
+use Rattle.disac4.specs.System.{systemOf}
+use Rattle.disac4.specs.declared.Report.{Report}
+use Rattle.disac4.specs.declared.Status.{Status}
+use Rattle.disac4.specs.declared.Status.the-variants.{Open, Closed, Bare}
+use Rattle.disac4.specs.declared.Tally.{Tally}
+use Rattle.cells.proofs.Overwritten.{written-all, written-length, written-next}
+use Rattle.index.proofs.Places.{few-sections}
+use Rattle.index.specs.Index.{Ready}
+use Rattle.cells.specs.Layout.{DOMAIN, regionAt, Fits}
+use Rattle.cells.specs.Memory.{Mem}
+use Rattle.refinement.specs.Run.{reportM}
+use Rattle.cells.specs.View.{LISTED, view}
+use Rattle.refinement.specs.declared.Progress.{Progress}
+use Rattle.plan.proofs.Parts.{variables-read}
+use Rattle.plan.specs.Decode.{planOf}
+use Rattle.plan.specs.Format.{variableCount}
+use Rattle.plan.specs.Network.{networkOf}
+use Rattle.plan.specs.WellFormed.{sizeOf}
+
+-- a value is in its variable's domain
+abbrev pub isListed : Mem → ℕ → ℕ → Bool
+isListed m x v = eqb (m DOMAIN x v) LISTED
+
+-- the row of a variable's domain
+abbrev pub domainRow : List ℕ → Mem → ℕ → ℕ
+domainRow b m x = rowOf (sizeOf (planOf b) x) (isListed m x)
+
+pub domain-fits : (b cells : List ℕ) → Ready b cells → (x v : ℕ) → x < variableCount b → v < 16
+    → Fits cells (regionAt DOMAIN) x v
+domain-fits b cells ready x v h l = record {
+  known = refl;
+  writable = omega arith;
+  row = omega (arith, few-sections b (ready .sound));
+  col = omega arith;
+  long = ready .long;
+}
+
+-- ---- the list cells
+
+-- the rows of the first `k` variables, in front of the cells that are not written yet
+abbrev pub rowsBefore : List ℕ → Mem → ℕ → List ℕ → List ℕ
+rowsBefore b m k lists = listBelow k (domainRow b m) ++ drop k lists
+
+module _ (b : List ℕ) (m : Mem) (k : ℕ) (lists : List ℕ) where
+  pub rows-length : k ≤ length lists → length (rowsBefore b m k lists) ≡ length lists
+  rows-length h = written-length (listBelow k (domainRow b m)) k (length-list-below k (domainRow b m)) lists h
+
+  pub rows-next : k < length lists → set (rowsBefore b m k lists) k (domainRow b m k) ≡ rowsBefore b m (k + 1) lists
+  rows-next h =
+      written-next (listBelow k (domainRow b m)) k (length-list-below k (domainRow b m)) lists (domainRow b m k) h
+      ∙ ap (λ (n : ℕ). listBelow n (domainRow b m) ++ drop (k + 1) lists) (sym (add-one k))
+
+  pub rows-all : k ≡ variableCount b → (t : Tally)
+      → rowsBefore b m k lists ≡ overwrite (listCells (systemOf (planOf b)) (view (systemOf (planOf b)) m t)) lists
+  unfolding listCells systemOf networkOf view sizeOf
+  rows-all e t =
+      written-all (listBelow k (domainRow b m)) k (length-list-below k (domainRow b m)) lists
+      ∙ ap (λ (n : ℕ). overwrite (listBelow n (domainRow b m)) lists) (e ∙ sym (variables-read b))
+
+-- ---- empty domains
+
+module _ (n : ℕ) (t : ℕ → Bool) where
+  -- an empty row is of no value
+  row-none : rowOf n t ≡ 0 → anyBelow n t ≡ false
+  unfolding rowOf
+  row-none e =
+      refuted (anyBelow n t) (λ p.
+      let r = some-below n t p in
+      omega (
+        arith,
+        sum-none n (λ w. cond (t w) (2 ^ w) 0) e (r .0) (r .1),
+        cond-true (2 ^ r .0) 0 (r .2),
+        pow-pos (r .0),
+      ))
+
+  -- any other row has one
+  row-some : (rowOf n t ≡ 0 → ⊥) → anyBelow n t ≡ true
+  unfolding rowOf
+  row-some h =
+      let r = sum-some n (λ w. cond (t w) (2 ^ w) 0) (omega arith) in
+      any-below n t (r .0) (r .1) (held (r .0) (t (r .0)) (r .2))
+    where
+      held : (w : ℕ) (b : Bool) → 0 < cond b (2 ^ w) 0 → b ≡ true
+      held w true l = refl
+      held w false l = absurd (omega arith)
+
+-- one more than a variable whose domain is empty
+abbrev pub emptyAt : List ℕ → Mem → ℕ → Option ℕ
+emptyAt b m x = cond (anyBelow (sizeOf (planOf b) x) (isListed m x)) none (some (suc x))
+
+module _ (b : List ℕ) (m : Mem) (x : ℕ) (before : firstBelow x (emptyAt b m) ≡ none) where
+  empty-view : (t : Tally)
+      → lowestEmpty (systemOf (planOf b)) (view (systemOf (planOf b)) m t)
+      ≡ Option·getD (firstBelow (variableCount b) (emptyAt b m)) 0
+  unfolding lowestEmpty systemOf networkOf view sizeOf
+  empty-view t = ap (λ (n : ℕ). Option·getD (firstBelow n (emptyAt b m)) 0) (variables-read b)
+
+  pub empty-here : x < variableCount b → domainRow b m x ≡ 0 → (t : Tally)
+      → x + 1 ≡ lowestEmpty (systemOf (planOf b)) (view (systemOf (planOf b)) m t)
+  empty-here h e t =
+      add-one x
+      ∙ ap (λ (o : Option ℕ). Option·getD o 0)
+      (sym (first-at (variableCount b) (emptyAt b m) x (suc x) h before
+      (cond-false none (some (suc x)) (row-none (sizeOf (planOf b) x) (isListed m x) e))))
+      ∙ sym (empty-view t)
+
+  pub empty-next : (domainRow b m x ≡ 0 → ⊥) → firstBelow (x + 1) (emptyAt b m) ≡ none
+  empty-next h =
+      first-more x (emptyAt b m) before
+      (cond-true none (some (suc x)) (row-some (sizeOf (planOf b) x) (isListed m x) h))
+
+  pub empty-nowhere : x ≡ variableCount b → (t : Tally)
+      → 0 ≡ lowestEmpty (systemOf (planOf b)) (view (systemOf (planOf b)) m t)
+  empty-nowhere e t =
+      ap (λ (o : Option ℕ). Option·getD o 0) (sym before)
+      ∙ ap (λ (n : ℕ). Option·getD (firstBelow n (emptyAt b m)) 0) e
+      ∙ sym (empty-view t)
+
+-- ---- the report
+
+abbrev pub reported : Progress → Status → ℕ → Report
+reported g s e = record { status = s; changes = g .changes; sends = g .sends; polls = g .polls; empty = e }
+
+pub report-law : (b : List ℕ) (m : Mem) (g : Progress) (s : Status) (e : ℕ)
+    → s ≡ cond (g .tally .closed) (cond (eqb e 0) Closed Bare) Open
+    → e ≡ lowestEmpty (systemOf (planOf b)) (view (systemOf (planOf b)) m (g .tally))
+    → reported g s e ≡ reportM (systemOf (planOf b)) m g
+unfolding reportM statusOf view
+report-law b m g s e p q =
+    ap₂ (reported g) (p ∙ ap (λ (n : ℕ). cond (g .tally .closed) (cond (eqb n 0) Closed Bare) Open) q) q

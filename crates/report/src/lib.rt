@@ -1,0 +1,100 @@
+// What a finished run gives: the list cells of its variables, and its report.
+use cells::layout;
+use disac4::Report;
+use disac4::Status;
+use index::pairs;
+use plan::read;
+use refinement::Progress;
+ghost use mathlib.Core.Bool.{cond};
+ghost use mathlib.Core.Path.{_≡_};
+ghost use Prim.Native.Nat.{_<_, _≤_};
+ghost use lib.Dec.{eqb};
+ghost use lib.ListN.{length};
+ghost use Rattle.base.specs.Row.{rowOf};
+ghost use Rattle.disac4.specs.Outcome.{overwrite};
+ghost use Rattle.disac4.specs.Report.{lowestEmpty, listCells};
+ghost use Rattle.disac4.specs.System.{systemOf};
+ghost use Rattle.disac4.specs.declared.Tally.{Tally};
+ghost use Rattle.index.specs.Index.{Ready};
+ghost use Rattle.cells.specs.Layout.{DOMAIN};
+ghost use Rattle.cells.specs.Memory.{memOf};
+ghost use Rattle.refinement.specs.Run.{reportM};
+ghost use Rattle.cells.specs.View.{LISTED, view};
+ghost use Rattle.plan.specs.Decode.{planOf};
+ghost use Rattle.plan.specs.Format.{variableCount};
+ghost use Rattle.plan.specs.WellFormed.{sizeOf};
+
+// The row of the values in a variable's domain.
+pub fn domain_row(b: &[u8], cells: &[u16], x: usize) -> usize
+    requires { ⌜ Ready (now b) (now cells) × (x < variableCount (now b)) ⌝ }
+    ensures { λ r. ⌜ (r ≡ rowOf (sizeOf (planOf (now (b .entry))) x) (λ v. eqb (memOf (now (cells .entry)) DOMAIN x v) LISTED)) × (r < 65536) ⌝ }
+{
+    let values = pairs::size(b, cells, x);
+    let mut row = 0;
+    let mut v = 0;
+    while v < values {
+        row += pairs::part(layout::get(cells, layout::DOMAIN, x, v) == 65535, v);
+        v += 1;
+    }
+    row
+}
+
+// Puts each variable's row into its list cell; the cells behind keep what they had.
+pub fn write_lists(b: &[u8], cells: &[u16], lists: &mut [u16])
+    requires { ⌜ Ready (now b) (now cells) × (32 ≤ length (now lists)) ⌝ }
+    ensures { λ _. ⌜ ((t : Tally) → now (lists .exit) ≡ overwrite (listCells (systemOf (planOf (now (b .entry)))) (view (systemOf (planOf (now (b .entry)))) (memOf (now (cells .entry))) t)) (now (lists .entry))) ⌝ }
+{
+    let variables = read::variable_count(b);
+    let mut x = 0;
+    while x < variables {
+        lists[x] = domain_row(b, cells, x) as u16;
+        x += 1;
+    }
+}
+
+// One more than the lowest variable whose domain is empty, 0 for none.
+pub fn lowest_empty(b: &[u8], cells: &[u16]) -> usize
+    requires { ⌜ Ready (now b) (now cells) ⌝ }
+    ensures { λ r. ⌜ ((t : Tally) → r ≡ lowestEmpty (systemOf (planOf (now (b .entry)))) (view (systemOf (planOf (now (b .entry)))) (memOf (now (cells .entry))) t)) × (r ≤ 32) ⌝ }
+{
+    let variables = read::variable_count(b);
+    let mut x = 0;
+    while x < variables {
+        if domain_row(b, cells, x) == 0 {
+            return x + 1;
+        }
+        x += 1;
+    }
+    0
+}
+
+// Where a run ends, by whether its plan is closed and by the lowest empty domain.
+fn status_of(closed: bool, empty: usize) -> Status
+    ensures { λ r. ⌜ r ≡ cond closed (cond (eqb empty 0) Status.Closed Status.Bare) Status.Open ⌝ }
+{
+    if closed {
+        if empty == 0 {
+            Status::Closed
+        } else {
+            Status::Bare
+        }
+    } else {
+        Status::Open
+    }
+}
+
+// The report of a run that has come so far.
+pub fn report(b: &[u8], cells: &[u16], g: Progress) -> Report
+    requires { ⌜ Ready (now b) (now cells) ⌝ }
+    ensures { λ r. ⌜ r ≡ reportM (systemOf (planOf (now (b .entry)))) (memOf (now (cells .entry))) g ⌝ }
+{
+    let tally = g.tally;
+    let empty = lowest_empty(b, cells);
+    Report {
+        status: status_of(tally.closed, empty),
+        changes: g.changes,
+        sends: g.sends,
+        polls: g.polls,
+        empty: empty,
+    }
+}
