@@ -32,8 +32,9 @@ use Rattle.disac4.specs.declared.Answer.the-variants.{Reported, Declined}
 use Rattle.disac4.specs.declared.Report.{Report}
 use Rattle.disac4.specs.declared.Status.{Status}
 use Rattle.disac4.specs.declared.Status.the-variants.{Open, Closed, Bare}
-use Rattle.text.proofs.Decimal.{decimal-length}
-use Rattle.text.specs.Printed.{statusWord, declinedWord, spaced, reportLine, listedCodes, slotLine, variableLine, variableLines, declineLine, printed}
+use Rattle.buffer.proofs.Decimal.{decimal-length}
+use Rattle.buffer.specs.Decimal.{spaced}
+use Rattle.text.specs.Printed.{statusWord, declinedWord, reportLine, listedCodes, slotLine, variableLine, variableLines, declineLine, printed}
 
 gather-length : (n c : ℕ) (f : ℕ → List ℕ) → ((i : ℕ) → i < n → length (f i) ≤ c) → length (gatherBelow n f) ≤ n * c
 gather-length zero c f h = omega (arith)

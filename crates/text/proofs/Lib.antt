@@ -1,5 +1,3 @@
-pub mod Decimal
 pub mod Length
-pub mod Puts
 pub mod Read
 pub mod Worked

@@ -14,9 +14,10 @@ use Rattle.plan.proofs.Parts.{variables-read, variable-read, size-read, value-r
 use Rattle.plan.specs.Decode.{variableAt, planOf}
 use Rattle.plan.specs.Format.{sectionStart, variableCount, ownerAt, valueCountAt, codeAt, sizeAt}
 use Rattle.plan.specs.Plan.{Value, valueOf}
-use Rattle.text.proofs.Puts.{then-more}
-use Rattle.text.specs.Buffer.{Adds}
-use Rattle.text.specs.Printed.{spaced, listedCodes, slotLine, variableLine, variableLines}
+use Rattle.buffer.proofs.Puts.{then-more}
+use Rattle.buffer.specs.Buffer.{Adds}
+use Rattle.buffer.specs.Decimal.{spaced}
+use Rattle.text.specs.Printed.{listedCodes, slotLine, variableLine, variableLines}
 
 -- ---- the codes of one slot
 

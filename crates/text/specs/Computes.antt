@@ -2,8 +2,9 @@
 use Rattle.base.specs.Computes.{base-computes}
 use Rattle.plan.specs.Computes.{plan-computes}
 use Rattle.plan.specs.WellFormed.{sizeOf}
-use Rattle.text.specs.Decimal.{decimalIn, decimal}
-use Rattle.text.specs.Printed.{statusWord, declinedWord, spaced, reportLine, listedCodes, slotLine, variableLine, variableLines, declineLine, printed}
+use Rattle.buffer.specs.Decimal.{decimalIn, decimal}
+use Rattle.buffer.specs.Decimal.{spaced}
+use Rattle.text.specs.Printed.{statusWord, declinedWord, reportLine, listedCodes, slotLine, variableLine, variableLines, declineLine, printed}
 
 unfoldable pub text-computes : Unit {0}
 unfolding decimalIn decimal statusWord declinedWord spaced reportLine listedCodes slotLine variableLine variableLines declineLine printed sizeOf base-computes plan-computes

@@ -1,4 +1,2 @@
-pub mod Buffer
 pub mod Computes
-pub mod Decimal
 pub mod Printed

@@ -15,7 +15,7 @@ use Rattle.disac4.specs.declared.Answer.the-variants.{Reported, Declined}
 use Rattle.disac4.specs.declared.Report.{Report}
 use Rattle.disac4.specs.declared.Status.{Status}
 use Rattle.disac4.specs.declared.Status.the-variants.{Open, Closed, Bare}
-use Rattle.text.specs.Decimal.{decimal}
+use Rattle.buffer.specs.Decimal.{decimal, spaced}
 
 abbrev pub newline : List ℕ
 newline = 10 ∷ []
@@ -32,10 +32,6 @@ statusWord Bare = 98 ∷ 97 ∷ 114 ∷ 101 ∷ []
 -- `declined`
 unfoldable pub declinedWord : List ℕ
 declinedWord = 100 ∷ 101 ∷ 99 ∷ 108 ∷ 105 ∷ 110 ∷ 101 ∷ 100 ∷ []
-
--- a number after a space
-unfoldable pub spaced : ℕ → List ℕ
-spaced n = 32 ∷ decimal n
 
 -- the report in its order
 unfoldable pub reportLine : Report → List ℕ

@@ -1,9 +1,8 @@
 // The text that the program prints, as a definition and assembled in a lent buffer.
 use disac4::Answer;
-ghost use Rattle.text.specs.Buffer.{Holds};
+ghost use Rattle.buffer.specs.Buffer.{Holds};
 ghost use Rattle.text.specs.Printed.{printed};
 
-mod buffer;
 mod lines;
 mod slots;
 

@@ -1,11 +1,11 @@
 // The first line of a report, and the line of a decline.
-use crate::buffer::push;
-use crate::buffer::push_spaced;
-use crate::buffer::push_word;
+use buffer::push;
+use buffer::push_spaced;
+use buffer::push_word;
 use disac4::Report;
 use disac4::Status;
 use plan::Decline;
-ghost use Rattle.text.specs.Buffer.{Adds};
+ghost use Rattle.buffer.specs.Buffer.{Adds};
 ghost use Rattle.text.specs.Printed.{statusWord, reportLine, declineLine};
 
 // A status as its word.

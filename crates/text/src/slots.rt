@@ -1,9 +1,9 @@
 // A line for each slot. The plan's bytes are read by the place of the slot's section, 0 past the end.
-use crate::buffer::push;
-use crate::buffer::push_number;
-use crate::buffer::push_spaced;
 use base::byte_at;
 use base::word_at;
+use buffer::push;
+use buffer::push_number;
+use buffer::push_spaced;
 use plan::read::variable_count;
 ghost use mathlib.Core.Bool.{cond};
 ghost use mathlib.Core.List.{[]};
@@ -13,8 +13,9 @@ ghost use lib.ListN.{getD};
 ghost use Rattle.base.specs.Row.{isOdd};
 ghost use Rattle.plan.specs.Decode.{planOf};
 ghost use Rattle.plan.specs.Format.{ownerAt, valueCountAt, codeAt};
-ghost use Rattle.text.specs.Buffer.{Adds};
-ghost use Rattle.text.specs.Printed.{spaced, listedCodes, slotLine, variableLines};
+ghost use Rattle.buffer.specs.Buffer.{Adds};
+ghost use Rattle.buffer.specs.Decimal.{spaced};
+ghost use Rattle.text.specs.Printed.{listedCodes, slotLine, variableLines};
 
 // A cell as a number.
 fn wide(x: u16) -> usize

@@ -1,6 +1,6 @@
 -- `text::print_answer` puts the text of an answer. Assumes nothing.
 use denote.Ref.{now}
-use Rattle.text.proofs.Puts.{_then_, holds-added}
+use Rattle.buffer.proofs.Puts.{_then_, holds-added}
 use Rattle.text.specs.Printed.{printed}
 use borrow.Author.Needs.{needs}
 use Rattle.text.proofs.print_answer.Statement.{statement}

@@ -1,6 +1,6 @@
 -- `text::lines::push_decline` puts the line of a decline. Assumes nothing.
 use mathlib.Core.Path.{sym}
-use Rattle.text.proofs.Puts.{_then_}
+use Rattle.buffer.proofs.Puts.{_then_}
 use Rattle.text.specs.Printed.{declinedWord, declineLine}
 use borrow.Author.Needs.{needs}
 use Rattle.text.proofs.lines.push_decline.Statement.{statement}

@@ -1,5 +1,5 @@
 -- `text::lines::push_report` puts the report's line. Assumes nothing.
-use Rattle.text.proofs.Puts.{_then_}
+use Rattle.buffer.proofs.Puts.{_then_}
 use Rattle.text.specs.Printed.{reportLine}
 use borrow.Author.Needs.{needs}
 use Rattle.text.proofs.lines.push_report.Statement.{statement}

@@ -8,9 +8,9 @@ use borrow.Author.Needs.{needs}
 use denote.Ref.{now}
 use lib.ListN.{length}
 use Rattle.plan.specs.Format.{codeAt, valueCountAt}
-use Rattle.text.proofs.Puts.{adds-none}
+use Rattle.buffer.proofs.Puts.{adds-none}
 use Rattle.text.proofs.Read.{codes-more, half-more}
-use Rattle.text.specs.Buffer.{Adds}
+use Rattle.buffer.specs.Buffer.{Adds}
 use Rattle.text.specs.Printed.{listedCodes}
 use Rattle.text.proofs.slots.push_codes.Statement.{statement}
 use Rattle.text.proofs.slots.push_codes.Tie as tie

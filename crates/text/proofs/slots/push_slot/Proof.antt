@@ -1,7 +1,7 @@
 -- `text::slots::push_slot` puts the line of a slot. Assumes nothing.
 use mathlib.Core.Path.{sym}
 use borrow.Author.Needs.{needs}
-use Rattle.text.proofs.Puts.{_then_}
+use Rattle.buffer.proofs.Puts.{_then_}
 use Rattle.text.proofs.slots.push_slot.Statement.{statement}
 use Rattle.text.proofs.slots.push_slot.Tie as tie
 use Rattle.text.specs.Printed.{slotLine}

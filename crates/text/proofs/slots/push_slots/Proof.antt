@@ -10,9 +10,9 @@ use lib.ListN.{length}
 use Rattle.base.specs.Below.{gatherBelow}
 use Rattle.plan.specs.Decode.{planOf}
 use Rattle.plan.specs.Format.{sectionStart}
-use Rattle.text.proofs.Puts.{adds-none, then-more}
+use Rattle.buffer.proofs.Puts.{adds-none, then-more}
 use Rattle.text.proofs.Read.{line-read, start-first, start-more, lines-all}
-use Rattle.text.specs.Buffer.{Adds}
+use Rattle.buffer.specs.Buffer.{Adds}
 use Rattle.text.specs.Printed.{variableLine}
 use Rattle.text.proofs.slots.push_slots.Statement.{statement}
 use Rattle.text.proofs.slots.push_slots.Tie as tie
