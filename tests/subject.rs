@@ -6,7 +6,7 @@ use std::slice::{from_raw_parts, from_raw_parts_mut};
 use std::sync::atomic::{AtomicUsize, Ordering};
 
 use crate::fast::{self, fault, Fault, Faulty, Sound};
-use crate::reference::run;
+use crate::reference::{run, Decline};
 
 pub type CheckPlan = unsafe extern "C" fn(*const u8, usize, *mut usize);
 pub type RunTurns = unsafe extern "C" fn(
@@ -72,11 +72,28 @@ pub fn library() -> Option<Subject> {
     None
 }
 
-fn answer<const N: usize>(out: *mut usize, size: usize, result: Result<[usize; N], (usize, usize)>) {
-    // SAFETY: the caller lends `size` cells, which is N + 1.
-    let out = unsafe { from_raw_parts_mut(out, size) };
+/// The numbers of an answer, or a decline's number and place.
+type Answer<const N: usize> = Result<[usize; N], (usize, usize)>;
+
+/// An implementation that takes the library's place.
+trait StandIn {
+    fn check_plan(plan: &[u8]) -> Answer<4>;
+    fn run_turns(plan: &[u8], turns: &[u8], work: &mut [u16], lists: &mut [u16]) -> Answer<5>;
+    fn run_round(plan: &[u8], work: &mut [u16], lists: &mut [u16]) -> Answer<5>;
+
+    /// Work cells that it is lent beyond those of the caller.
+    fn spare() -> usize {
+        0
+    }
+}
+
+/// Writes an answer as the C interface does.
+///
+/// SAFETY: the caller lends N + 1 cells.
+unsafe fn write<const N: usize>(out: *mut usize, answer: Answer<N>) {
+    let out = from_raw_parts_mut(out, N + 1);
     out.fill(0);
-    match result {
+    match answer {
         Ok(numbers) => out[1..].copy_from_slice(&numbers),
         Err((number, place)) => {
             out[0] = number;
@@ -85,7 +102,54 @@ fn answer<const N: usize>(out: *mut usize, size: usize, result: Result<[usize; N
     }
 }
 
-fn numbers(result: Result<run::Run, crate::reference::Decline>) -> Result<[usize; 5], (usize, usize)> {
+unsafe extern "C" fn check_plan<S: StandIn>(plan: *const u8, plan_len: usize, out: *mut usize) {
+    write(out, S::check_plan(from_raw_parts(plan, plan_len)));
+}
+
+unsafe extern "C" fn run_turns<S: StandIn>(
+    plan: *const u8,
+    plan_len: usize,
+    turns: *const u8,
+    turns_len: usize,
+    work: *mut u16,
+    work_len: usize,
+    lists: *mut u16,
+    lists_len: usize,
+    out: *mut usize,
+) {
+    let (plan, turns) = (from_raw_parts(plan, plan_len), from_raw_parts(turns, turns_len));
+    let work = from_raw_parts_mut(work, work_len + S::spare());
+    let lists = from_raw_parts_mut(lists, lists_len);
+    write(out, S::run_turns(plan, turns, work, lists));
+}
+
+unsafe extern "C" fn run_round<S: StandIn>(
+    plan: *const u8,
+    plan_len: usize,
+    work: *mut u16,
+    work_len: usize,
+    lists: *mut u16,
+    lists_len: usize,
+    out: *mut usize,
+) {
+    let plan = from_raw_parts(plan, plan_len);
+    let work = from_raw_parts_mut(work, work_len + S::spare());
+    let lists = from_raw_parts_mut(lists, lists_len);
+    write(out, S::run_round(plan, work, lists));
+}
+
+fn subject<S: StandIn>(name: &'static str) -> Subject {
+    Subject {
+        name,
+        check_plan: check_plan::<S>,
+        run_turns: run_turns::<S>,
+        run_round: run_round::<S>,
+    }
+}
+
+struct Reference;
+
+fn numbers(result: Result<run::Run, Decline>) -> Answer<5> {
     match result {
         Ok(run) => {
             let r = run.report();
@@ -95,97 +159,44 @@ fn numbers(result: Result<run::Run, crate::reference::Decline>) -> Result<[usize
     }
 }
 
-unsafe extern "C" fn reference_check(plan: *const u8, plan_len: usize, out: *mut usize) {
-    let plan = from_raw_parts(plan, plan_len);
-    answer(out, 5, run::check_plan(plan).map_err(|d| (d.number, d.place)));
-}
+impl StandIn for Reference {
+    fn check_plan(plan: &[u8]) -> Answer<4> {
+        run::check_plan(plan).map_err(|d| (d.number, d.place))
+    }
 
-unsafe extern "C" fn reference_turns(
-    plan: *const u8,
-    plan_len: usize,
-    turns: *const u8,
-    turns_len: usize,
-    work: *mut u16,
-    work_len: usize,
-    lists: *mut u16,
-    lists_len: usize,
-    out: *mut usize,
-) {
-    let (plan, turns) = (from_raw_parts(plan, plan_len), from_raw_parts(turns, turns_len));
-    let work = from_raw_parts_mut(work, work_len);
-    let lists = from_raw_parts_mut(lists, lists_len);
-    answer(out, 6, numbers(run::run_turns(plan, turns, work, lists, &mut |_| {})));
-}
+    fn run_turns(plan: &[u8], turns: &[u8], work: &mut [u16], lists: &mut [u16]) -> Answer<5> {
+        numbers(run::run_turns(plan, turns, work, lists, &mut |_| {}))
+    }
 
-unsafe extern "C" fn reference_round(
-    plan: *const u8,
-    plan_len: usize,
-    work: *mut u16,
-    work_len: usize,
-    lists: *mut u16,
-    lists_len: usize,
-    out: *mut usize,
-) {
-    let plan = from_raw_parts(plan, plan_len);
-    let work = from_raw_parts_mut(work, work_len);
-    let lists = from_raw_parts_mut(lists, lists_len);
-    answer(out, 6, numbers(run::run_round(plan, work, lists, &mut |_| {})));
+    fn run_round(plan: &[u8], work: &mut [u16], lists: &mut [u16]) -> Answer<5> {
+        numbers(run::run_round(plan, work, lists, &mut |_| {}))
+    }
 }
 
 /// The reference itself.
 pub fn reference() -> Subject {
-    Subject {
-        name: "reference",
-        check_plan: reference_check,
-        run_turns: reference_turns,
-        run_round: reference_round,
+    subject::<Reference>("reference")
+}
+
+struct Efficient;
+
+impl StandIn for Efficient {
+    fn check_plan(plan: &[u8]) -> Answer<4> {
+        fast::check_plan(Sound, plan)
     }
-}
 
-unsafe extern "C" fn fast_check(plan: *const u8, plan_len: usize, out: *mut usize) {
-    answer(out, 5, fast::check_plan(Sound, from_raw_parts(plan, plan_len)));
-}
+    fn run_turns(plan: &[u8], turns: &[u8], work: &mut [u16], lists: &mut [u16]) -> Answer<5> {
+        fast::run_turns(Sound, plan, turns, work, lists, true)
+    }
 
-unsafe extern "C" fn fast_turns(
-    plan: *const u8,
-    plan_len: usize,
-    turns: *const u8,
-    turns_len: usize,
-    work: *mut u16,
-    work_len: usize,
-    lists: *mut u16,
-    lists_len: usize,
-    out: *mut usize,
-) {
-    let (plan, turns) = (from_raw_parts(plan, plan_len), from_raw_parts(turns, turns_len));
-    let work = from_raw_parts_mut(work, work_len);
-    let lists = from_raw_parts_mut(lists, lists_len);
-    answer(out, 6, fast::run_turns(Sound, plan, turns, work, lists, true));
-}
-
-unsafe extern "C" fn fast_round(
-    plan: *const u8,
-    plan_len: usize,
-    work: *mut u16,
-    work_len: usize,
-    lists: *mut u16,
-    lists_len: usize,
-    out: *mut usize,
-) {
-    let plan = from_raw_parts(plan, plan_len);
-    let work = from_raw_parts_mut(work, work_len);
-    let lists = from_raw_parts_mut(lists, lists_len);
-    answer(out, 6, fast::run_round(Sound, plan, work, lists, true));
+    fn run_round(plan: &[u8], work: &mut [u16], lists: &mut [u16]) -> Answer<5> {
+        fast::run_round(Sound, plan, work, lists, true)
+    }
 }
 
 /// The efficient implementation.
 pub fn efficient() -> Subject {
-    Subject {
-        name: "efficient",
-        check_plan: fast_check,
-        run_turns: fast_turns,
-        run_round: fast_round,
-    }
+    subject::<Efficient>("efficient")
 }
 
 static FAULT: AtomicUsize = AtomicUsize::new(0);
@@ -194,53 +205,30 @@ fn current() -> Faulty {
     Faulty(fault::ALL[FAULT.load(Ordering::Relaxed)])
 }
 
-unsafe extern "C" fn wrong_check(plan: *const u8, plan_len: usize, out: *mut usize) {
-    answer(out, 5, fast::check_plan(current(), from_raw_parts(plan, plan_len)));
-}
+struct Wrong;
 
-unsafe extern "C" fn wrong_turns(
-    plan: *const u8,
-    plan_len: usize,
-    turns: *const u8,
-    turns_len: usize,
-    work: *mut u16,
-    work_len: usize,
-    lists: *mut u16,
-    lists_len: usize,
-    out: *mut usize,
-) {
-    let (plan, turns) = (from_raw_parts(plan, plan_len), from_raw_parts(turns, turns_len));
+impl StandIn for Wrong {
+    fn check_plan(plan: &[u8]) -> Answer<4> {
+        fast::check_plan(current(), plan)
+    }
+
+    fn run_turns(plan: &[u8], turns: &[u8], work: &mut [u16], lists: &mut [u16]) -> Answer<5> {
+        fast::run_turns(current(), plan, turns, work, lists, true)
+    }
+
+    fn run_round(plan: &[u8], work: &mut [u16], lists: &mut [u16]) -> Answer<5> {
+        fast::run_round(current(), plan, work, lists, true)
+    }
+
     // The variant that accepts one work cell too few still clears the full
     // number, so it is given one cell more than it was lent.
-    let room = work_len + usize::from(current().0 == Fault::WorkOneLess);
-    let work = from_raw_parts_mut(work, room);
-    let lists = from_raw_parts_mut(lists, lists_len);
-    answer(out, 6, fast::run_turns(current(), plan, turns, work, lists, true));
-}
-
-unsafe extern "C" fn wrong_round(
-    plan: *const u8,
-    plan_len: usize,
-    work: *mut u16,
-    work_len: usize,
-    lists: *mut u16,
-    lists_len: usize,
-    out: *mut usize,
-) {
-    let plan = from_raw_parts(plan, plan_len);
-    let room = work_len + usize::from(current().0 == Fault::WorkOneLess);
-    let work = from_raw_parts_mut(work, room);
-    let lists = from_raw_parts_mut(lists, lists_len);
-    answer(out, 6, fast::run_round(current(), plan, work, lists, true));
+    fn spare() -> usize {
+        usize::from(current().0 == Fault::WorkOneLess)
+    }
 }
 
 /// The wrong variant of that number in `fault::ALL`.
 pub fn wrong(number: usize) -> Subject {
     FAULT.store(number, Ordering::Relaxed);
-    Subject {
-        name: "wrong variant",
-        check_plan: wrong_check,
-        run_turns: wrong_turns,
-        run_round: wrong_round,
-    }
+    subject::<Wrong>("wrong variant")
 }
