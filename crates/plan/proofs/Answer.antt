@@ -7,11 +7,11 @@ use native.Mathlib.Omega.{arith}
 use lib.ListN.{length}
 use Rattle.base.proofs.Sums.{sum-ext}
 use Rattle.base.specs.Below.{sumBelow}
+use Rattle.format.specs.Format.{workerCount, variableCount, constraintCount, sizeAt}
 use Rattle.network.specs.Network.{labelCount}
 use Rattle.plan.proofs.Parts.{variables-read, constraints-read, size-read}
 use Rattle.plan.specs.Answer.{figuresOf, checkedAs, planCheck}
 use Rattle.plan.specs.Decode.{planFault, planOf, Decoded, accepted, declined, decodedAs, decode}
-use Rattle.plan.specs.Format.{workerCount, variableCount, constraintCount, sizeAt}
 use Rattle.plan.specs.Network.{networkOf}
 use Rattle.plan.specs.Plan.{Plan}
 use Rattle.plan.specs.WellFormed.{sizeOf}

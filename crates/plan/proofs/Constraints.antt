@@ -11,13 +11,13 @@ use lib.ListN.{length, getD}
 use Rattle.base.proofs.Below.{all-below, length-list-below, getD-list-below}
 use Rattle.base.proofs.Choice.{cond-true}
 use Rattle.base.specs.Below.{allBelow, listBelow}
+use Rattle.format.specs.Format.{sectionStart, variableCount, constraintCount, firstAt, secondAt, kindAt, tableRowAt, limitAt, sizeAt}
 use Rattle.plan.proofs.Checks.{each-holds}
 use Rattle.plan.proofs.InOrder.{InOrder, ordered}
 use Rattle.plan.proofs.Parts.{variables-read, constraint-read, size-read}
 use Rattle.plan.proofs.Passed.{constraint-passed}
 use Rattle.plan.specs.Check.{_orElse_, tableFits, constraintChecks}
 use Rattle.plan.specs.Decode.{planFault, relationAt, constraintAt, planOf}
-use Rattle.plan.specs.Format.{sectionStart, variableCount, constraintCount, firstAt, secondAt, kindAt, tableRowAt, limitAt, sizeAt}
 use Rattle.plan.specs.Plan.{Relation, table, sumLimit}
 use Rattle.plan.specs.WellFormed.{sizeOf, constraintOf, ConstraintFits}
 use Rattle.plan.specs.declared.Fault.the-variants.{Truncated}

@@ -7,9 +7,9 @@ use mathlib.Core.Path.{_≡_}
 use lib.Dec.{leb}
 use Rattle.base.proofs.Bools.{and-left, and-right}
 use Rattle.base.specs.Choice.{between}
+use Rattle.format.specs.Format.{workerCount, variableCount, constraintCount}
 use Rattle.plan.proofs.Checks.{each-holds}
 use Rattle.plan.specs.Check.{firstFault, headInRange, headChecks}
-use Rattle.plan.specs.Format.{workerCount, variableCount, constraintCount}
 
 module _ (b : List ℕ) (at : ℕ) (passed : firstFault (headChecks b at) ≡ none) where
   head-range : between 1 8 (workerCount b) && between 1 32 (variableCount b) && leb (constraintCount b) 128 ≡ true

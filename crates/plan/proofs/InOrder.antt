@@ -6,8 +6,8 @@ use mathlib.Core.Path.{_≡_}
 use borrow.Author.Tests.{leb-true, ltb-true}
 use lib.Dec.{leb, ltb}
 use Rattle.base.proofs.Bools.{and-left, and-right}
+use Rattle.format.specs.Format.{firstAt, secondAt, variableCount}
 use Rattle.plan.specs.Check.{variablesInOrder}
-use Rattle.plan.specs.Format.{firstAt, secondAt, variableCount}
 
 pub record InOrder (b : List ℕ) (at : ℕ) : Type 0 where
   pub first : 1 ≤ firstAt b at

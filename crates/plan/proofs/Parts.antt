@@ -4,8 +4,8 @@ use mathlib.Core.List.{List, []}
 use mathlib.Core.Path.{_≡_, _∙_, ap}
 use lib.ListN.{length, getD}
 use Rattle.base.proofs.Below.{length-list-below, getD-list-below}
+use Rattle.format.specs.Format.{sectionStart, variableCount, constraintCount, codeAt, figureAt, valueCountAt, sizeAt}
 use Rattle.plan.specs.Decode.{variableAt, constraintAt, planOf}
-use Rattle.plan.specs.Format.{sectionStart, variableCount, constraintCount, codeAt, figureAt, valueCountAt, sizeAt}
 use Rattle.plan.specs.Plan.{Variable, variableOf, valueOf}
 use Rattle.plan.specs.WellFormed.{sizeOf, noConstraint, constraintOf}
 
@@ -37,7 +37,7 @@ module _ (b : List ℕ) where
 
   -- a variable has as many values as its section gives
   pub size-read : (x : ℕ) → x < variableCount b → sizeOf (planOf b) x ≡ sizeAt b (suc x)
-  unfolding sizeOf sizeAt variableAt
+  unfolding sizeOf variableAt
   size-read x h =
       ap (λ (a : Variable). length (a .values)) (variable-read x h)
       ∙ length-list-below (valueCountAt b (sectionStart b (suc x)))
@@ -47,7 +47,7 @@ module _ (b : List ℕ) where
   pub value-read : (x : ℕ) → x < variableCount b → (v : ℕ) → v < sizeAt b (suc x)
       → valueOf (planOf b) x v
       ≡ record { code = codeAt b (sectionStart b (suc x)) v; figure = figureAt b (sectionStart b (suc x)) v }
-  unfolding valueOf sizeAt variableAt
+  unfolding valueOf variableAt
   value-read x h v k =
       ap (λ (a : Variable). getD (a .values) v (record { code = 0; figure = 0 })) (variable-read x h)
       ∙ getD-list-below (valueCountAt b (sectionStart b (suc x)))

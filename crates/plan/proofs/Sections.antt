@@ -12,10 +12,10 @@ use lib.ListN.{length}
 use Rattle.base.proofs.Below.{none-first}
 use Rattle.base.specs.Below.{firstBelow}
 use Rattle.base.specs.Choice.{allOf, between}
+use Rattle.format.specs.Format.{sectionStart, variableCount}
 use Rattle.plan.proofs.Checks.{each-holds, fault-among}
 use Rattle.plan.specs.Check.{Check, firstFault, complete, headChecks, variableChecks, constraintChecks, sectionChecks, faultAt, sectionFault}
 use Rattle.plan.specs.Fault.{numberOf, decline}
-use Rattle.plan.specs.Format.{sectionStart, variableCount}
 use Rattle.plan.specs.declared.Decline.{Decline}
 use Rattle.plan.specs.declared.Fault.{Fault}
 

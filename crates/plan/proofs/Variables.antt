@@ -12,12 +12,12 @@ use Rattle.base.proofs.Below.{none-below}
 use Rattle.base.proofs.Choice.{between-low, between-high}
 use Rattle.base.specs.Below.{anyBelow}
 use Rattle.base.specs.Choice.{between}
+use Rattle.format.specs.Format.{sectionStart, workerCount, variableCount, valueCountAt, codeAt, sizeAt}
 use Rattle.plan.proofs.Checks.{each-holds}
 use Rattle.plan.proofs.Parts.{variable-read, size-read, value-read}
 use Rattle.plan.proofs.Passed.{variable-passed}
 use Rattle.plan.specs.Check.{_orElse_, repeatsCode, variableChecks}
 use Rattle.plan.specs.Decode.{planFault, variableAt, planOf}
-use Rattle.plan.specs.Format.{sectionStart, workerCount, variableCount, valueCountAt, codeAt, sizeAt}
 use Rattle.plan.specs.Plan.{Value, variableOf, valueOf}
 use Rattle.plan.specs.WellFormed.{sizeOf, VariableFits}
 use Rattle.plan.specs.declared.Fault.the-variants.{Truncated}
@@ -35,14 +35,14 @@ module _ (b : List ℕ) (none-found : planFault b ≡ none) (x : ℕ) (h : x < v
   owner-range = rw (variable-read b x h) (variable-holds 4)
 
   size-range : sizeOf (planOf b) x ≤ 16
-  unfolding variableChecks sizeAt
+  unfolding variableChecks
   size-range = rw (size-read b x h) (leb-true (valueCountAt b variable-start) 16 (variable-holds 2))
 
   code-read : (v : ℕ) → v < sizeAt b (suc x) → valueOf (planOf b) x v .code ≡ codeAt b variable-start v
   code-read v k = ap (λ (a : Value). a .code) (value-read b x h v k)
 
   codes-differ : (u v : ℕ) → u < v → v < sizeOf (planOf b) x → valueOf (planOf b) x u .code ≡ valueOf (planOf b) x v .code → ⊥
-  unfolding variableChecks repeatsCode sizeAt
+  unfolding variableChecks repeatsCode
   codes-differ u v p q e =
       let k : v < sizeAt b (suc x) = omega (arith, size-read b x h) in
       let t : ℕ → ℕ → Bool = λ w u. eqb (codeAt b variable-start u) (codeAt b variable-start w) in

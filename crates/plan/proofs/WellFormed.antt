@@ -9,6 +9,7 @@ use lib.Dec.{leb}
 use lib.ListN.{length}
 use Rattle.base.proofs.Choice.{between-low, between-high}
 use Rattle.base.proofs.Sums.{sum-le, sum-const}
+use Rattle.format.specs.Format.{sectionStart, workerCount, variableCount, constraintCount}
 use Rattle.network.specs.Network.{labelCount}
 use Rattle.plan.proofs.Constraints.{constraint-fits}
 use Rattle.plan.proofs.Faults.{decode-plan}
@@ -18,7 +19,6 @@ use Rattle.plan.proofs.Passed.{head-passed}
 use Rattle.plan.proofs.Variables.{variable-fits}
 use Rattle.plan.specs.Check.{firstFault, headChecks}
 use Rattle.plan.specs.Decode.{planFault, planOf, accepted, decode}
-use Rattle.plan.specs.Format.{sectionStart, workerCount, variableCount, constraintCount}
 use Rattle.plan.specs.Network.{networkOf}
 use Rattle.plan.specs.Plan.{Plan}
 use Rattle.plan.specs.WellFormed.{sizeOf, WellFormed}

@@ -8,8 +8,8 @@ use lib.ListN.{length}
 use Rattle.base.specs.Below.{allBelow, anyBelow}
 use Rattle.base.specs.Bytes.{wordAt}
 use Rattle.base.specs.Choice.{between}
+use Rattle.format.specs.Format.{behind, sectionStart, workerCount, variableCount, constraintCount, ownerAt, valueCountAt, codeAt, firstAt, secondAt, kindAt, tableRowAt, sizeAt}
 use Rattle.plan.specs.Fault.{decline}
-use Rattle.plan.specs.Format.{behind, sectionStart, workerCount, variableCount, constraintCount, ownerAt, valueCountAt, codeAt, firstAt, secondAt, kindAt, tableRowAt, sizeAt}
 use Rattle.plan.specs.declared.Decline.{Decline}
 use Rattle.plan.specs.declared.Fault.{Fault}
 use Rattle.plan.specs.declared.Fault.the-variants.{Truncated, BadLength, BadCount, BadNumber, RepeatedCode, BadConstraint}

@@ -5,8 +5,8 @@ use mathlib.Core.Option.{none}
 use mathlib.Core.Path.{_≡_}
 use lib.ListN.{length, getD}
 use Rattle.base.specs.Below.{firstBelow}
+use Rattle.format.specs.Format.{sectionStart, variableCount, sizeAt}
 use Rattle.plan.specs.Check.{sectionFault}
-use Rattle.plan.specs.Format.{sectionStart, variableCount, sizeAt}
 
 -- the sections before section k have no fault; of the first 33, the head and the variables, `starts` has the places
 pub record PassedBefore (b starts : List ℕ) (k : ℕ) : Type 0 where

@@ -3,7 +3,6 @@ pub mod Check
 pub mod Computes
 pub mod Decode
 pub mod Fault
-pub mod Format
 pub mod Known
 pub mod Network
 pub mod Plan

@@ -1,18 +1,18 @@
 // The checks of a constraint's section (document 01: a rule).
 use crate::Fault;
 use crate::Verdict;
-use crate::read;
 use crate::section;
 use base::power;
-use base::word_at;
+use format::read;
+use format::reader::word_at;
 ghost use mathlib.Core.Path.{_≡_};
 ghost use mathlib.Core.Bool.{true};
 ghost use Prim.Native.Nat.{_≤_, _<_, _^_};
 ghost use lib.Dec.{ltb};
 ghost use lib.ListN.{length};
 ghost use Rattle.base.specs.Below.{allBelow};
+ghost use Rattle.format.specs.Format.{variableCount, tableRowAt, sizeAt};
 ghost use Rattle.plan.specs.Check.{variablesInOrder, constraintLength, tableFits, constraintChecks, firstFault, verdictOf};
-ghost use Rattle.plan.specs.Format.{variableCount, tableRowAt, sizeAt};
 ghost use Rattle.plan.specs.Known.{VariablesKnown};
 
 // How many values the variable with number s has, from 1; `starts` has the places of the sections.

@@ -1,5 +1,5 @@
 // The plan check: from a plan's bytes to its figures, or to its first fault and the fault's place.
-use base::byte_at;
+use format::reader::byte_at;
 ghost use mathlib.Core.Path.{_≡_};
 ghost use Rattle.plan.specs.Answer.{planCheck};
 ghost use Rattle.plan.specs.Fault.{numberOf};
@@ -59,7 +59,6 @@ pub enum Checked {
 }
 
 mod constraint;
-pub mod read;
 mod scan;
 mod section;
 mod variable;

@@ -1,9 +1,9 @@
 // What the checks of every kind of section share, and the checks of the head.
 use crate::Fault;
 use crate::Verdict;
-use crate::read;
 use base::between;
-use base::word_at;
+use format::read;
+use format::reader::word_at;
 ghost use mathlib.Core.Path.{_≡_};
 ghost use Prim.Native.Nat.{_≤_};
 ghost use lib.ListN.{length};

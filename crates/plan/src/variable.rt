@@ -1,10 +1,10 @@
 // The checks of a variable's section (document 01: a slot).
 use crate::Fault;
 use crate::Verdict;
-use crate::read;
 use crate::section;
 use base::between;
-use base::word_at;
+use format::read;
+use format::reader::word_at;
 ghost use mathlib.Core.Path.{_≡_};
 ghost use Prim.Native.Nat.{_≤_};
 ghost use lib.ListN.{length};

@@ -11,7 +11,7 @@ use lib.Dec.{ltb}
 use Rattle.base.proofs.Below.{all-below, all-more}
 use Rattle.base.proofs.Bools.{refuted}
 use Rattle.base.specs.Below.{allBelow}
-use Rattle.plan.specs.Format.{tableRowAt}
+use Rattle.format.specs.Format.{tableRowAt}
 use Rattle.plan.proofs.constraint.rows_fit.Statement.{statement}
 use Rattle.plan.proofs.constraint.rows_fit.Tie as tie
 

@@ -1,7 +1,7 @@
 -- `plan::constraint::size_at` gives a variable's number of values. Assumes nothing.
 use mathlib.Core.Path.{_≡_, _∙_, ap}
 use native.Mathlib.Omega.{arith}
-use Rattle.plan.specs.Format.{sizeAt, valueCountAt}
+use Rattle.format.specs.Format.{sizeAt, valueCountAt}
 use borrow.Author.Needs.{needs}
 use Rattle.plan.proofs.constraint.size_at.Statement.{statement}
 use Rattle.plan.proofs.constraint.size_at.Tie as tie

@@ -6,10 +6,10 @@ use mathlib.Core.Path.{_≡_, refl, _∙_, ap}
 use native.Mathlib.Nat.{not-suc-le-zero}
 use native.Mathlib.Omega.{arith}
 use lib.ListN.{length, length-set}
+use Rattle.format.specs.Format.{sectionStart}
 use Rattle.plan.proofs.Scanned.{variables-known, next-within, next-start, passed-more, fault-answer, end-answer, verdict-passes, verdict-fails}
 use Rattle.plan.specs.Check.{firstFault, sectionChecks}
 use Rattle.plan.specs.Decode.{sectionCount, planEnd}
-use Rattle.plan.specs.Format.{sectionStart}
 use Rattle.plan.specs.Known.{PassedBefore}
 use Rattle.plan.proofs.scan.check_sections.Statement.{statement}
 use Rattle.plan.proofs.scan.check_sections.Tie as tie

@@ -6,8 +6,8 @@ use native.Mathlib.Numerals.{add-one}
 use native.Mathlib.Omega.{arith}
 use Rattle.base.proofs.Sums.{sum-more}
 use Rattle.base.specs.Below.{sumBelow}
+use Rattle.format.specs.Format.{variableCount, sizeAt}
 use Rattle.plan.proofs.Answer.{labels-read}
-use Rattle.plan.specs.Format.{variableCount, sizeAt}
 use Rattle.plan.proofs.scan.count_labels.Statement.{statement}
 use Rattle.plan.proofs.scan.count_labels.Tie as tie
 

@@ -10,8 +10,8 @@ use native.Mathlib.Omega.{arith}
 use lib.Dec.{eqb}
 use Rattle.base.proofs.Below.{any-below, any-more}
 use Rattle.base.specs.Below.{anyBelow}
+use Rattle.format.specs.Format.{valueCountAt, codeAt}
 use Rattle.plan.specs.Check.{repeatsCode}
-use Rattle.plan.specs.Format.{valueCountAt, codeAt}
 use Rattle.plan.proofs.variable.repeats_code.Statement.{statement}
 use Rattle.plan.proofs.variable.repeats_code.Tie as tie
 

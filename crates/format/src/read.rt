@@ -1,10 +1,10 @@
 // The parts of a section, read by the section's place.
-use base::byte_at;
-use base::word_at;
+use crate::reader::byte_at;
+use crate::reader::word_at;
 ghost use mathlib.Core.Path.{_≡_};
 ghost use Prim.Native.Nat.{_<_, _≤_};
 ghost use lib.ListN.{length};
-ghost use Rattle.plan.specs.Format.{behind as behindOf, workerCount, variableCount, constraintCount, ownerAt, valueCountAt, codeAt, figureAt, firstAt, secondAt, kindAt, tableRowAt, limitAt};
+ghost use Rattle.format.specs.Format.{behind as behindOf, workerCount, variableCount, constraintCount, ownerAt, valueCountAt, codeAt, figureAt, firstAt, secondAt, kindAt, tableRowAt, limitAt};
 
 // The place behind the section at `at`.
 pub fn behind(b: &[u8], at: usize) -> usize

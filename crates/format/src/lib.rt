@@ -1,0 +1,3 @@
+// A plan's bytes: where its parts stand, and how they are read.
+pub mod read;
+pub mod reader;
