@@ -1,15 +1,15 @@
 // Loading the labels of a plan whose index stands in the cells: domains, counters, and the first deletions.
 use cells::layout;
 use cells::lists;
+use format::read;
 use index::pairs;
 use index::parts;
-use plan::read;
 ghost use mathlib.Core.Path.{_≡_};
 ghost use Prim.Native.Nat.{_<_, _≤_};
 ghost use Rattle.base.specs.Below.{one, countBelow};
 ghost use Rattle.disac4.specs.System.{systemOf};
 ghost use Rattle.plan.specs.Decode.{planOf};
-ghost use Rattle.plan.specs.Format.{variableCount};
+ghost use Rattle.format.specs.Format.{variableCount};
 ghost use Rattle.index.specs.Allowed.{Listed};
 ghost use Rattle.index.specs.Index.{Ready};
 ghost use Rattle.counters.specs.Load.{lacks, countOneM, countM, loadLabelM, loadValuesM, loadM};

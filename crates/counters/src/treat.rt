@@ -1,16 +1,16 @@
 // Treating a label: which labels lose it as a support, and which of them are deleted.
 use cells::layout;
 use cells::lists;
+use format::read;
 use index::pairs;
 use index::parts;
-use plan::read;
 ghost use mathlib.Core.Bool.{true};
 ghost use mathlib.Core.Path.{_≡_};
 ghost use Prim.Native.Nat.{_<_, _≤_, _/_, _%_};
 ghost use lib.ListN.{length};
 ghost use Rattle.disac4.specs.System.{systemOf};
 ghost use Rattle.plan.specs.Decode.{planOf};
-ghost use Rattle.plan.specs.Format.{variableCount};
+ghost use Rattle.format.specs.Format.{variableCount};
 ghost use Rattle.plan.specs.Network.{shareConstraint};
 ghost use Rattle.plan.specs.WellFormed.{sizeOf};
 ghost use Rattle.index.specs.Allowed.{Listed};

@@ -7,7 +7,7 @@ use lib.ListN.{length, drop, replicate}
 use Rattle.base.specs.Choice.{firstOf}
 use Rattle.plan.specs.Check.{_orElse_, firstFault, faultAt}
 use Rattle.plan.specs.Decode.{planFault, planOf}
-use Rattle.plan.specs.Format.{workerCount}
+use Rattle.format.specs.Format.{workerCount}
 use Rattle.plan.specs.declared.Decline.{Decline}
 use Rattle.plan.specs.declared.Fault.the-variants.{ShortWork, ShortLists, BadTurnList}
 use Rattle.disac4.specs.Report.{listCells, final, reportOf}

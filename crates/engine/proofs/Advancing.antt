@@ -28,7 +28,7 @@ use Rattle.controller.specs.declared.Heard.{Heard}
 use Rattle.refinement.specs.declared.Progress.{Progress}
 use Rattle.plan.proofs.Parts.{variables-read}
 use Rattle.plan.specs.Decode.{planFault, planOf}
-use Rattle.plan.specs.Format.{workerCount, variableCount}
+use Rattle.format.specs.Format.{workerCount, variableCount}
 use Rattle.plan.specs.Network.{networkOf}
 use Rattle.plan.specs.WellFormed.{sizeOf}
 

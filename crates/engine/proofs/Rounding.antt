@@ -25,7 +25,7 @@ use Rattle.refinement.specs.Run.{viewOf, At, Going, Plays}
 use Rattle.controller.specs.Controller.{machine}
 use Rattle.cells.specs.View.{view}
 use Rattle.refinement.specs.declared.Progress.{Progress}
-use Rattle.plan.specs.Format.{workerCount}
+use Rattle.format.specs.Format.{workerCount}
 
 -- the state that the cells and the tally stand for
 abbrev pub stateAt : List ℕ → List ℕ → Progress → State

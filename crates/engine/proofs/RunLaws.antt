@@ -30,7 +30,7 @@ use Rattle.refinement.specs.Step.{withMem, readM, workerM, stepM}
 use Rattle.counters.specs.Treat.{treatM}
 use Rattle.controller.specs.declared.Heard.{Heard}
 use Rattle.plan.specs.Decode.{planFault, planOf}
-use Rattle.plan.specs.Format.{workerCount}
+use Rattle.format.specs.Format.{workerCount}
 
 -- ---- the start
 

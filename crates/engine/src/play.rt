@@ -10,7 +10,7 @@ ghost use lib.ListN.{length};
 ghost use Rattle.disac4.specs.Turn.{turnFault, turnsOf};
 ghost use Rattle.engine.specs.Play.{badTurn};
 ghost use Rattle.refinement.specs.Run.{Going, Plays};
-ghost use Rattle.plan.specs.Format.{workerCount};
+ghost use Rattle.format.specs.Format.{workerCount};
 
 // The number of the first turn that p workers do not allow; where all are allowed, how many there are.
 pub fn first_bad(list: &[u8], p: usize) -> usize

@@ -11,7 +11,7 @@ ghost use Rattle.disac4.specs.Round.{others, workerRound, round};
 ghost use Rattle.disac4.specs.Turn.{turn};
 ghost use Rattle.engine.specs.Play.{Begun, PlaysRounds};
 ghost use Rattle.refinement.specs.Run.{Going, Plays};
-ghost use Rattle.plan.specs.Format.{workerCount};
+ghost use Rattle.format.specs.Format.{workerCount};
 
 // Worker k reads from actor j, unless that is itself.
 fn read_other(b: &[u8], cells: &mut [u16], g: Progress, p: usize, k: usize, j: usize) -> Progress

@@ -21,7 +21,7 @@ ghost use Rattle.cells.specs.Memory.{memOf, Acts};
 ghost use Rattle.refinement.specs.Run.{freshTally, startM, Playable, workerOn, turnOn, Going, Plays};
 ghost use Rattle.controller.specs.Controller.{machine, Hears};
 ghost use Rattle.plan.specs.Decode.{planFault};
-ghost use Rattle.plan.specs.Format.{workerCount};
+ghost use Rattle.format.specs.Format.{workerCount};
 
 // The tally as loaded.
 fn fresh() -> Tally

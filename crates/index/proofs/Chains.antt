@@ -21,7 +21,7 @@ use Rattle.plan.proofs.InOrder.{InOrder}
 use Rattle.plan.proofs.Parts.{variables-read, constraints-read, constraint-read}
 use Rattle.plan.proofs.WellFormed.{read-well-formed}
 use Rattle.plan.specs.Decode.{sectionCount, planFault, planOf, constraintAt}
-use Rattle.plan.specs.Format.{sectionStart, variableCount, constraintCount, firstAt, secondAt}
+use Rattle.format.specs.Format.{sectionStart, variableCount, constraintCount, firstAt, secondAt}
 use Rattle.plan.specs.Network.{joins}
 use Rattle.plan.specs.Plan.{Constraint}
 use Rattle.plan.specs.WellFormed.{constraintOf, ConstraintFits}

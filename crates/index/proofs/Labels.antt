@@ -12,7 +12,7 @@ use Rattle.network.specs.Network.{loaded}
 use Rattle.plan.proofs.Parts.{variables-read, variable-read, size-read}
 use Rattle.plan.proofs.WellFormed.{read-well-formed}
 use Rattle.plan.specs.Decode.{planFault, planOf, variableAt}
-use Rattle.plan.specs.Format.{sectionStart, variableCount, ownerAt}
+use Rattle.format.specs.Format.{sectionStart, variableCount, ownerAt}
 use Rattle.plan.specs.Network.{shareConstraint, networkOf}
 use Rattle.plan.specs.Plan.{Variable}
 use Rattle.plan.specs.WellFormed.{WellFormed, sizeOf}

@@ -16,7 +16,7 @@ use Rattle.index.specs.Index.{over, chainBelow, Indexed, Paired, constra
 use Rattle.cells.specs.Layout.{HEADS}
 use Rattle.cells.specs.Memory.{Mem}
 use Rattle.plan.specs.Decode.{planFault, planOf}
-use Rattle.plan.specs.Format.{constraintCount, firstAt, secondAt}
+use Rattle.format.specs.Format.{constraintCount, firstAt, secondAt}
 use Rattle.plan.specs.Network.{shareConstraint, networkOf}
 
 module _ (b : List ℕ) (none-found : planFault b ≡ none) (m : Mem) (index : Indexed b m) where

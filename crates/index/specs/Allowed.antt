@@ -5,7 +5,7 @@ use mathlib.Core.List.{List}
 use lib.Dec.{eqb}
 use Rattle.base.specs.Row.{bit}
 use Rattle.plan.specs.Decode.{planOf}
-use Rattle.plan.specs.Format.{variableCount, kindAt, tableRowAt, limitAt, figureAt}
+use Rattle.format.specs.Format.{variableCount, kindAt, tableRowAt, limitAt, figureAt}
 use Rattle.plan.specs.Network.{withinLimit}
 use Rattle.plan.specs.WellFormed.{sizeOf}
 

@@ -10,7 +10,7 @@ use Rattle.disac4.specs.System.{System}
 use Rattle.cells.specs.Layout.{HEADS, PLACES, NEXT}
 use Rattle.cells.specs.Memory.{Mem, memOf, store}
 use Rattle.plan.specs.Decode.{sectionCount, planFault, planOf}
-use Rattle.plan.specs.Format.{sectionStart, variableCount, constraintCount, firstAt, secondAt}
+use Rattle.format.specs.Format.{sectionStart, variableCount, constraintCount, firstAt, secondAt}
 use Rattle.plan.specs.Network.{joins}
 use Rattle.plan.specs.WellFormed.{constraintOf}
 

@@ -1,7 +1,7 @@
 // The index of an accepted plan in the work cells: where its sections start, and the constraints over each two
 // variables as a chain.
 use cells::layout;
-use plan::read;
+use format::read;
 ghost use mathlib.Core.Option.{none};
 ghost use mathlib.Core.Path.{_≡_};
 ghost use Prim.Native.Nat.{ℕ, _<_, _≤_};
@@ -10,7 +10,7 @@ ghost use Rattle.index.specs.Index.{placesM, linkM, chainsM, indexM};
 ghost use Rattle.cells.specs.Layout.{PLACES};
 ghost use Rattle.cells.specs.Memory.{memOf};
 ghost use Rattle.plan.specs.Decode.{planFault, sectionCount};
-ghost use Rattle.plan.specs.Format.{sectionStart, constraintCount};
+ghost use Rattle.format.specs.Format.{sectionStart, constraintCount};
 
 // Where each section starts.
 fn index_places(b: &[u8], cells: &mut [u16])

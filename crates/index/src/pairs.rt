@@ -2,7 +2,7 @@
 use base::power;
 use base::row_count;
 use cells::layout;
-use plan::read;
+use format::read;
 ghost use mathlib.Core.Bool.{true, cond};
 ghost use mathlib.Core.List.{List};
 ghost use mathlib.Core.Path.{_≡_};
@@ -14,7 +14,7 @@ ghost use Rattle.index.specs.Index.{Indexed, Ready};
 ghost use Rattle.cells.specs.Memory.{memOf};
 ghost use Rattle.network.specs.Network.{supports, supportCount};
 ghost use Rattle.plan.specs.Decode.{planOf};
-ghost use Rattle.plan.specs.Format.{variableCount};
+ghost use Rattle.format.specs.Format.{variableCount};
 ghost use Rattle.plan.specs.Network.{withinLimit, pairAllowed, shareConstraint, networkOf};
 ghost use Rattle.plan.specs.WellFormed.{sizeOf};
 

@@ -1,12 +1,12 @@
 // What the index gives: a variable's owner, and the row of the counters of one variable against another.
 use cells::layout;
-use plan::read;
+use format::read;
 ghost use mathlib.Core.Path.{_≡_};
 ghost use Prim.Native.Nat.{_<_, _≤_};
 ghost use lib.ListN.{length};
 ghost use Rattle.disac4.specs.System.{systemOf};
 ghost use Rattle.plan.specs.Decode.{planOf};
-ghost use Rattle.plan.specs.Format.{variableCount};
+ghost use Rattle.format.specs.Format.{variableCount};
 ghost use Rattle.index.specs.Index.{Ready};
 ghost use Rattle.cells.specs.Memory.{memOf};
 ghost use Rattle.cells.specs.View.{Numbered, counterRow};

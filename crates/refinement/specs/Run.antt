@@ -23,7 +23,7 @@ use Rattle.refinement.specs.Step.{workerM, stepM, afterM}
 use Rattle.cells.specs.View.{view}
 use Rattle.refinement.specs.declared.Progress.{Progress}
 use Rattle.plan.specs.Decode.{planFault}
-use Rattle.plan.specs.Format.{workerCount}
+use Rattle.format.specs.Format.{workerCount}
 
 -- the state that a machine stands for
 abbrev pub viewOf : System → Machine → State

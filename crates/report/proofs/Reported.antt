@@ -32,7 +32,7 @@ use Rattle.cells.specs.View.{LISTED, view}
 use Rattle.refinement.specs.declared.Progress.{Progress}
 use Rattle.plan.proofs.Parts.{variables-read}
 use Rattle.plan.specs.Decode.{planOf}
-use Rattle.plan.specs.Format.{variableCount}
+use Rattle.format.specs.Format.{variableCount}
 use Rattle.plan.specs.Network.{networkOf}
 use Rattle.plan.specs.WellFormed.{sizeOf}
 

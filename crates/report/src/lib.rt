@@ -2,8 +2,8 @@
 use cells::layout;
 use disac4::Report;
 use disac4::Status;
+use format::read;
 use index::pairs;
-use plan::read;
 use refinement::Progress;
 ghost use mathlib.Core.Bool.{cond};
 ghost use mathlib.Core.Path.{_≡_};
@@ -21,7 +21,7 @@ ghost use Rattle.cells.specs.Memory.{memOf};
 ghost use Rattle.refinement.specs.Run.{reportM};
 ghost use Rattle.cells.specs.View.{LISTED, view};
 ghost use Rattle.plan.specs.Decode.{planOf};
-ghost use Rattle.plan.specs.Format.{variableCount};
+ghost use Rattle.format.specs.Format.{variableCount};
 ghost use Rattle.plan.specs.WellFormed.{sizeOf};
 
 // The row of the values in a variable's domain.

@@ -16,7 +16,7 @@ use Rattle.plan.proofs.Parts.{variables-read, size-read, value-read}
 use Rattle.plan.proofs.WellFormed.{read-well-formed}
 use Rattle.plan.specs.Decode.{planFault, planOf, accepted, decode}
 use Rattle.plan.specs.Fault.{numberOf}
-use Rattle.plan.specs.Format.{sectionStart}
+use Rattle.format.specs.Format.{sectionStart}
 use Rattle.plan.specs.Network.{networkOf}
 use Rattle.plan.specs.Plan.{Plan, Value, variableOf, valueOf}
 use Rattle.plan.specs.WellFormed.{sizeOf, WellFormed}

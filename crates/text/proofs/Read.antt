@@ -12,7 +12,7 @@ use Rattle.base.specs.Bytes.{wordAt}
 use Rattle.base.specs.Row.{isOdd, bit}
 use Rattle.plan.proofs.Parts.{variables-read, variable-read, size-read, value-read}
 use Rattle.plan.specs.Decode.{variableAt, planOf}
-use Rattle.plan.specs.Format.{sectionStart, variableCount, ownerAt, valueCountAt, codeAt, sizeAt}
+use Rattle.format.specs.Format.{sectionStart, variableCount, ownerAt, valueCountAt, codeAt, sizeAt}
 use Rattle.plan.specs.Plan.{Value, valueOf}
 use Rattle.buffer.proofs.Puts.{then-more}
 use Rattle.buffer.specs.Buffer.{Adds}

@@ -1,10 +1,10 @@
 // A line for each slot. The plan's bytes are read by the place of the slot's section, 0 past the end.
-use base::byte_at;
-use base::word_at;
 use buffer::push;
 use buffer::push_number;
 use buffer::push_spaced;
-use plan::read::variable_count;
+use format::read::variable_count;
+use format::reader::byte_at;
+use format::reader::word_at;
 ghost use mathlib.Core.Bool.{cond};
 ghost use mathlib.Core.List.{[]};
 ghost use mathlib.Core.Path.{_≡_};
@@ -12,7 +12,7 @@ ghost use Prim.Native.Nat.{_<_};
 ghost use lib.ListN.{getD};
 ghost use Rattle.base.specs.Row.{isOdd};
 ghost use Rattle.plan.specs.Decode.{planOf};
-ghost use Rattle.plan.specs.Format.{ownerAt, valueCountAt, codeAt};
+ghost use Rattle.format.specs.Format.{ownerAt, valueCountAt, codeAt};
 ghost use Rattle.buffer.specs.Buffer.{Adds};
 ghost use Rattle.buffer.specs.Decimal.{spaced};
 ghost use Rattle.text.specs.Printed.{listedCodes, slotLine, variableLines};

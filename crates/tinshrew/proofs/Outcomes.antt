@@ -23,7 +23,7 @@ use Rattle.controller.specs.Controller.{machine}
 use Rattle.refinement.specs.declared.Progress.{Progress}
 use Rattle.plan.specs.Decode.{planFault}
 use Rattle.plan.specs.Fault.{decline}
-use Rattle.plan.specs.Format.{workerCount}
+use Rattle.format.specs.Format.{workerCount}
 use Rattle.plan.specs.declared.Decline.{Decline}
 use Rattle.plan.specs.declared.Fault.the-variants.{BadTurn}
 use Rattle.tinshrew.specs.Calls.{Gives, Ran}

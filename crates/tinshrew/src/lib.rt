@@ -20,7 +20,7 @@ ghost use Rattle.refinement.specs.Run.{At};
 ghost use Rattle.plan.specs.Answer.{planCheck};
 ghost use Rattle.plan.specs.Decode.{planFault};
 ghost use Rattle.plan.specs.Fault.{decline};
-ghost use Rattle.plan.specs.Format.{workerCount};
+ghost use Rattle.format.specs.Format.{workerCount};
 ghost use Rattle.tinshrew.specs.Calls.{Gives, Ran};
 
 // Checks a plan: p, n, the number of rules and L, or the fault and its place.

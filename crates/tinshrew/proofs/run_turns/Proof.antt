@@ -13,7 +13,7 @@ use Rattle.disac4.specs.Turn.{turnListFits}
 use Rattle.engine.specs.Play.{badTurn}
 use Rattle.plan.proofs.Branches.{holds, fails}
 use Rattle.plan.specs.Decode.{planFault}
-use Rattle.plan.specs.Format.{workerCount}
+use Rattle.format.specs.Format.{workerCount}
 use Rattle.plan.specs.declared.Decline.{Decline}
 use Rattle.tinshrew.proofs.Checked.{no-fault, its-fault, its-workers}
 use Rattle.tinshrew.proofs.Outcomes.{turns-refused, then-inputs, turns-played, bad-turn, no-bad-turn}

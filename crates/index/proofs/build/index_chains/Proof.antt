@@ -13,7 +13,7 @@ use Rattle.index.specs.Index.{constraintStart, chainsM}
 use Rattle.cells.specs.Memory.{memOf}
 use Rattle.plan.proofs.InOrder.{InOrder}
 use Rattle.plan.specs.Decode.{sectionCount}
-use Rattle.plan.specs.Format.{variableCount, constraintCount, firstAt, secondAt}
+use Rattle.format.specs.Format.{variableCount, constraintCount, firstAt, secondAt}
 
 abbrev Inv-loop : tie.InvT-loop
 Inv-loop b cells₀ variables count c₀ cells c =

@@ -14,7 +14,7 @@ use Rattle.index.proofs.build.index_places.Tie as tie
 use Rattle.index.specs.Index.{placesM}
 use Rattle.cells.specs.Memory.{memOf}
 use Rattle.plan.specs.Decode.{sectionCount}
-use Rattle.plan.specs.Format.{behind, sectionStart}
+use Rattle.format.specs.Format.{behind, sectionStart}
 
 abbrev Inv-loop : tie.InvT-loop
 Inv-loop b cells₀ count at₀ k₀ cells at k =

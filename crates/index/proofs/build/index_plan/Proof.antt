@@ -10,7 +10,7 @@ use Rattle.index.specs.Index.{chainsM, indexM}
 use Rattle.cells.specs.Layout.{PLACES}
 use Rattle.cells.specs.Memory.{Mem, memOf}
 use Rattle.plan.specs.Decode.{sectionCount}
-use Rattle.plan.specs.Format.{constraintCount}
+use Rattle.format.specs.Format.{constraintCount}
 
 index-places-requires : tie.Need-index-places-requires
 index-places-requires c κs = search needs

@@ -14,7 +14,7 @@ use Rattle.index.proofs.pairs.chain_allows.Tie as tie
 use Rattle.index.specs.Index.{over, chainBelow}
 use Rattle.plan.proofs.Branches.{holds, fails}
 use Rattle.plan.specs.Decode.{sectionCount}
-use Rattle.plan.specs.Format.{variableCount, constraintCount}
+use Rattle.format.specs.Format.{variableCount, constraintCount}
 
 abbrev Inv-loop : tie.InvT-loop
 Inv-loop b cells x v y w variables first second next₀ next = Along b x v y w next

@@ -6,7 +6,7 @@ use mathlib.Core.Path.{_≡_, sym, _∙_}
 use Rattle.index.proofs.Permitted.{permits-table, permits-limit}
 use Rattle.index.proofs.pairs.permits.Statement.{statement}
 use Rattle.index.proofs.pairs.permits.Tie as tie
-use Rattle.plan.specs.Format.{kindAt}
+use Rattle.format.specs.Format.{kindAt}
 
 kind-requires : tie.Need-kind-requires
 kind-requires c κs = search needs

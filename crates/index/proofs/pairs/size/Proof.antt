@@ -8,7 +8,7 @@ use Rattle.index.proofs.Places.{few-sections, few-values}
 use Rattle.index.proofs.pairs.size.Statement.{statement}
 use Rattle.index.proofs.pairs.size.Tie as tie
 use Rattle.plan.proofs.Parts.{size-read}
-use Rattle.plan.specs.Format.{valueCountAt, sizeAt}
+use Rattle.format.specs.Format.{valueCountAt, sizeAt}
 
 add-get : tie.Need-add-get
 add-get c = omega (arith, few-sections (now (c .before .before .args .b)) (c .before .before .pre .0 .sound))

@@ -7,7 +7,7 @@ use native.Mathlib.Omega.{arith}
 use borrow.Author.Needs.{needs}
 use denote.Ref.{now}
 use lib.ListN.{length}
-use Rattle.plan.specs.Format.{codeAt, valueCountAt}
+use Rattle.format.specs.Format.{codeAt, valueCountAt}
 use Rattle.buffer.proofs.Puts.{adds-none}
 use Rattle.text.proofs.Read.{codes-more, half-more}
 use Rattle.buffer.specs.Buffer.{Adds}

@@ -9,7 +9,7 @@ use denote.Ref.{now}
 use lib.ListN.{length}
 use Rattle.base.specs.Below.{gatherBelow}
 use Rattle.plan.specs.Decode.{planOf}
-use Rattle.plan.specs.Format.{sectionStart}
+use Rattle.format.specs.Format.{sectionStart}
 use Rattle.buffer.proofs.Puts.{adds-none, then-more}
 use Rattle.text.proofs.Read.{line-read, start-first, start-more, lines-all}
 use Rattle.buffer.specs.Buffer.{Adds}
