@@ -1,8 +1,8 @@
-// Big-endian reads in a slice of bytes, and rows of bits; as definitions, loops below a bound and updates too.
+// Reads in a slice of bytes, and rows of bits; as definitions, loops below a bound and updates too.
 ghost use mathlib.Core.Path.{_≡_};
 ghost use Prim.Native.Nat.{ℕ, _<_, _^_};
 ghost use Rattle.base.specs.Choice.{between as betweenOf};
-ghost use Rattle.base.specs.Bytes.{byteAt, wordAt};
+ghost use Rattle.base.specs.Bytes.{byteAt};
 ghost use Rattle.base.specs.Row.{rowCount};
 
 // A byte as a number.
@@ -17,17 +17,6 @@ pub fn byte_at(b: &[u8], i: usize) -> usize
     ensures { λ r. ⌜ (r ≡ byteAt (now (b .entry)) i) × (r < 256) ⌝ }
 {
     if i < b.len() { wide(b[i]) } else { 0 }
-}
-
-// The 16-bit number at i, with 0 for bytes past the end.
-pub fn word_at(b: &[u8], i: usize) -> usize
-    ensures { λ r. ⌜ (r ≡ wordAt (now (b .entry)) i) × (r < 65536) ⌝ }
-{
-    if i < b.len() {
-        byte_at(b, i) * 256 + byte_at(b, i + 1)
-    } else {
-        0
-    }
 }
 
 // The row of value k alone: 2 to the k.

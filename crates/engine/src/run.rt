@@ -84,7 +84,7 @@ fn step(b: &[u8], cells: &mut [u16], t: Tally, p: usize, actor: usize, action: u
         if action == 12 {
             return controller::poll(cells, t);
         }
-        return controller::hear(cells, t, p, action - 1);
+        return controller::tally::heard(cells, t, p, action - 1);
     }
     let changed = work(b, cells, t, actor - 1, action);
     Heard {

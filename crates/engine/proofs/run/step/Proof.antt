@@ -41,14 +41,14 @@ returns-2 c =
     (c .before .before .before .before .before .if2 .taken) (c .before .before .before .before .if3 .taken))
     (c .before .before .poll .ensures)
 
-sub-hear : tie.Need-sub-hear
-sub-hear c =
+sub-heard : tie.Need-sub-heard
+sub-heard c =
     let s = c .before .before .before .before .before .before in
     let a = s .args in
     omega (arith, may-hear (a .p) (a .actor) (a .action) (few-at s) (s .pre .2) (c .before .before .if2 .taken) (c .before .if3 .left))
 
-hear-requires : tie.Need-hear-requires
-hear-requires c κs =
+heard-requires : tie.Need-heard-requires
+heard-requires c κs =
     let s = c .before .before .before .before .before .before in
     let a = s .args in
     let h = may-hear (a .p) (a .actor) (a .action) (few-at s) (s .pre .2) (c .before .before .if2 .taken) (c .before .if3 .left) in
@@ -66,7 +66,7 @@ returns-3 c =
     hears-as (hearM (systemAt (now (a .b))) (a .action - 1)) (turnOn (systemAt (now (a .b))) (a .actor) (a .action)) (now (a .cells)) (a .t) _ _
     (turn-hears (systemAt (now (a .b))) (a .actor) (a .action) (machine (now (a .cells)) (a .t)) (c .before .before .before .before .before .before .if1 .left) ok
     (c .before .before .before .before .before .if2 .taken) (c .before .before .before .before .if3 .left))
-    (c .before .before .hear .ensures (systemAt (now (a .b))) (workers-are (now (a .b)) ∙ sym (s .pre .1)))
+    (c .before .before .heard .ensures (systemAt (now (a .b))) (workers-are (now (a .b)) ∙ sym (s .pre .1)))
 
 sub-work : tie.Need-sub-work
 sub-work c = search needs
@@ -102,8 +102,8 @@ step-spec =
     poll-requires
     same-length
     returns-2
-    sub-hear
-    hear-requires
+    sub-heard
+    heard-requires
     same-length-2
     returns-3
     sub-work
