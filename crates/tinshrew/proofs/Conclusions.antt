@@ -53,6 +53,7 @@ neither : (o u : Option Decline) → firstOf o u ≡ none → (o ≡ none) × (u
 neither none u e = (refl, e)
 neither (some d) u e = let z : _≡_ {A = ℕ} 0 1 = cc in absurd (omega arith)
 
+-- a plan without a fault is accepted
 decoded : (b : List ℕ) → planFault b ≡ none → decode b ≡ accepted (planOf b)
 unfolding decode
 decoded b e = ap (decodedAs (planOf b)) e
@@ -80,10 +81,10 @@ closed-unless-open true s h = refl
 closed-unless-open false s h = absurd (h refl)
 
 -- what is closed is not open
-never-open : (closed bare : Bool) → closed ≡ true → cond closed (cond bare Closed Bare) Open ≡ Open → ⊥
+never-open : (closed full : Bool) → closed ≡ true → cond closed (cond full Closed Bare) Open ≡ Open → ⊥
 never-open true true e h = let z : _≡_ {A = ℕ} 0 1 = cc in omega arith
 never-open true false e h = let z : _≡_ {A = ℕ} 0 1 = cc in omega arith
-never-open false bare e h = let z : _≡_ {A = ℕ} 0 1 = cc in omega arith
+never-open false full e h = let z : _≡_ {A = ℕ} 0 1 = cc in omega arith
 
 -- ---- a reported run
 

@@ -1,6 +1,6 @@
 -- What a call leaves its caller: the answer and both lent buffers, as the definition of its whole outcome says.
 use Prim.Native.Nat.{ℕ}
-use mathlib.Core.List.{List, _++_}
+use mathlib.Core.List.{List}
 use mathlib.Core.Option.{Option, none, some}
 use mathlib.Core.Path.{_≡_}
 use lib.ListN.{replicate}

@@ -1,4 +1,5 @@
-// The same three calls for C: each writes its answer as numbers into `out`.
+// The same three calls for C, which include/tinshrew.h explains. Each writes its answer as numbers into `out`: 0 and the answer, or a
+// decline's number and place, and zeros behind them.
 use disac4::Answer;
 use disac4::Status;
 use plan::Checked;
@@ -17,6 +18,7 @@ fn status_number(status: Status) -> usize
     }
 }
 
+// 0, p, n, the number of rules and L; or the decline.
 fn checked_numbers(checked: Checked) -> [usize; 5]
     ensures { λ r. ⌜ r ≡ checkedNumbers checked ⌝ }
 {
@@ -29,6 +31,7 @@ fn checked_numbers(checked: Checked) -> [usize; 5]
     }
 }
 
+// 0 and the report in its order; or the decline.
 fn answer_numbers(answer: Answer) -> [usize; 6]
     ensures { λ r. ⌜ r ≡ answerNumbers answer ⌝ }
 {
@@ -51,6 +54,7 @@ fn answer_numbers(answer: Answer) -> [usize; 6]
     }
 }
 
+// `check_plan`, as numbers.
 #[no_mangle]
 pub extern "C" fn tinshrew_check_plan(plan: &[u8], out: &mut [usize; 5])
     ensures { λ _. ⌜ now (out .exit) ≡ checkedNumbers (planCheck (now (plan .entry))) ⌝ }
@@ -58,6 +62,7 @@ pub extern "C" fn tinshrew_check_plan(plan: &[u8], out: &mut [usize; 5])
     *out = checked_numbers(crate::check_plan(plan));
 }
 
+// `run_turns`, as numbers.
 #[no_mangle]
 pub extern "C" fn tinshrew_run_turns(
     plan: &[u8],
@@ -71,6 +76,7 @@ pub extern "C" fn tinshrew_run_turns(
     *out = answer_numbers(crate::run_turns(plan, turns, work, lists));
 }
 
+// `run_round`, as numbers.
 #[no_mangle]
 pub extern "C" fn tinshrew_run_round(
     plan: &[u8],

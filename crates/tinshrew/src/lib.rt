@@ -1,5 +1,5 @@
 // The library that is delivered: the plan check, the turn run and the round run. None of them asks anything of its caller.
-// What their outcomes promise is proved of `turnRun` and `roundRun` in the crate disac4 (proofs/Demands.antt).
+// What a caller may conclude from their contracts is proved in proofs/Conclusions.antt.
 use disac4::Answer;
 use disac4::Report;
 use engine::Progress;
