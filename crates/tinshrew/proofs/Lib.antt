@@ -1,2 +1,4 @@
 pub mod Checked
+pub mod Conclusions
+pub mod Numbers
 pub mod Outcomes

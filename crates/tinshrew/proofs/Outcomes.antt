@@ -1,14 +1,16 @@
 -- From what the engine does to the outcome that the definitions lay down.
 use Prim.Native.Nat.{ℕ, _^_, _<_, _≤_}
-use mathlib.Core.Bool.{true}
-use mathlib.Core.List.{List, []}
+use mathlib.Core.Bool.{Bool, true, false}
+use mathlib.Core.List.{List, [], _∷_}
 use mathlib.Core.Option.{Option, none, some}
-use mathlib.Core.Path.{_≡_, refl, _∙_, ap}
-use borrow.Author.Tests.{lt-ltb, le-ltb}
+use mathlib.Core.Path.{_≡_, refl, sym, _∙_, ap}
+use native.Mathlib.Omega.{arith}
+use borrow.Author.Tests.{lt-ltb, le-ltb, leb-true}
+use lib.Dec.{leb}
 use lib.ListN.{length}
 use Rattle.base.specs.Choice.{firstOf}
 use Rattle.disac4.proofs.Order.{then-plan}
-use Rattle.disac4.specs.Outcome.{Outcome, played, refused, unlessFault, bufferFault, inputFault, systemAt, turnRun, roundRun}
+use Rattle.disac4.specs.Outcome.{Outcome, played, refused, unlessFault, bufferFault, inputFault, workNeed, listNeed, systemAt, turnRun, roundRun}
 use Rattle.disac4.specs.Round.{roundRunTurns}
 use Rattle.disac4.specs.Turn.{Turn, turnsOf, turnListFits, turnFault}
 use Rattle.disac4.specs.declared.Answer.{Answer}
@@ -21,12 +23,14 @@ use Rattle.engine.specs.Play.{Begun, PlaysRounds, badTurn}
 use Rattle.refinement.specs.Run.{startM, playM, countM, At, Going, Plays, Finishes}
 use Rattle.controller.specs.Controller.{machine}
 use Rattle.refinement.specs.declared.Progress.{Progress}
+use Rattle.plan.specs.Check.{_orElse_, firstFault, faultAt}
 use Rattle.plan.specs.Decode.{planFault}
 use Rattle.plan.specs.Fault.{decline}
 use Rattle.format.specs.Format.{workerCount}
 use Rattle.plan.specs.declared.Decline.{Decline}
-use Rattle.plan.specs.declared.Fault.the-variants.{BadTurn}
-use Rattle.tinshrew.specs.Calls.{Gives, Ran}
+use Rattle.plan.specs.declared.Fault.the-variants.{ShortWork, ShortLists, BadTurn}
+use Rattle.plan.specs.declared.Verdict.{Verdict}
+use Rattle.tinshrew.specs.Calls.{Gives, Ran, faultOf}
 
 -- a loaded plan has played no turns
 pub begins : (b : List ℕ) (m : Mem) (cells : List ℕ) (t : Tally) → machine cells t ≡ startM b m
@@ -77,6 +81,26 @@ pub gives-played : (b : List ℕ) (ts : List Turn) (work lists work′ lists′ 
 unfolding played
 gives-played b ts work lists work′ lists′ o r e ran =
     rw e (record { answer = ap Reported (ran .report); work-cells = ran .work-cells; list-cells = ran .list-cells })
+
+-- ---- the buffers
+
+-- what a verdict on them stands for
+pub verdict-tells : (o : Option Decline) (v w : Verdict) → faultOf v ≡ o → v ≡ w → o ≡ faultOf w
+verdict-tells o v w e is = sym e ∙ ap faultOf is
+
+-- buffers that pass are long enough
+pub long-enough : (work lists : List ℕ) → bufferFault work lists ≡ none
+    → (workNeed ≤ length work) × (listNeed ≤ length lists)
+unfolding bufferFault
+long-enough work lists e =
+    let h = both (leb workNeed (length work)) (leb listNeed (length lists)) e in
+    (leb-true workNeed (length work) (h .0), leb-true listNeed (length lists) (h .1))
+  where
+    both : (s t : Bool) → faultAt 0 (firstFault ((s orElse ShortWork) ∷ (t orElse ShortLists) ∷ [])) ≡ none
+        → (s ≡ true) × (t ≡ true)
+    both true true p = (refl, refl)
+    both true false p = let z : _≡_ {A = ℕ} 0 1 = cc in absurd (omega arith)
+    both false t p = let z : _≡_ {A = ℕ} 0 1 = cc in absurd (omega arith)
 
 -- ---- the turn run
 

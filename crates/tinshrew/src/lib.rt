@@ -1,10 +1,11 @@
 // The library that is delivered: the plan check, the turn run and the round run. None of them asks anything of its caller.
-// What their outcomes promise is proved of `turnRun` and `roundRun` in the crate disac4 (proofs/Demands.antt).
+// What a caller may conclude from their contracts is proved in proofs/Conclusions.antt.
 use disac4::Answer;
 use disac4::Report;
 use plan::Checked;
 use plan::Decline;
 use plan::Fault;
+use plan::Verdict;
 use refinement::Progress;
 ghost use mathlib.Core.Bool.{true};
 ghost use mathlib.Core.List.{[]};
@@ -12,7 +13,7 @@ ghost use mathlib.Core.Option.{none};
 ghost use mathlib.Core.Path.{_≡_};
 ghost use Prim.Native.Nat.{_≤_};
 ghost use lib.ListN.{length};
-ghost use Rattle.disac4.specs.Outcome.{turnRun, roundRun, systemAt};
+ghost use Rattle.disac4.specs.Outcome.{turnRun, roundRun, bufferFault, systemAt};
 ghost use Rattle.disac4.specs.Round.{roundRunTurns};
 ghost use Rattle.disac4.specs.Turn.{turnListFits, turnFault, turnsOf};
 ghost use Rattle.cells.specs.Memory.{memOf};
@@ -21,7 +22,9 @@ ghost use Rattle.plan.specs.Answer.{planCheck};
 ghost use Rattle.plan.specs.Decode.{planFault};
 ghost use Rattle.plan.specs.Fault.{decline};
 ghost use Rattle.format.specs.Format.{workerCount};
-ghost use Rattle.tinshrew.specs.Calls.{Gives, Ran};
+ghost use Rattle.tinshrew.specs.Calls.{Gives, Ran, faultOf};
+
+pub mod c;
 
 // Checks a plan: p, n, the number of rules and L, or the fault and its place.
 pub fn check_plan(plan: &[u8]) -> Checked
@@ -73,6 +76,19 @@ fn play_rounds(plan: &[u8], work: &mut [u16], lists: &mut [u16], p: usize) -> Re
     engine::finish::finish(plan, work, lists, g)
 }
 
+// 9 and 10: whether both buffers are long enough, the work cells first.
+fn check_buffers(work: &[u16], lists: &[u16]) -> Verdict
+    ensures { λ r. ⌜ faultOf r ≡ bufferFault (now (work .entry)) (now (lists .entry)) ⌝ }
+{
+    if work.len() < 24576 {
+        return Verdict::Fails(Fault::ShortWork);
+    }
+    if lists.len() < 32 {
+        return Verdict::Fails(Fault::ShortLists);
+    }
+    Verdict::Passes
+}
+
 // Whether the turn list is of even length and not too long.
 fn list_fits(turns: &[u8]) -> bool
     ensures { λ r. ⌜ r ≡ turnListFits (now (turns .entry)) ⌝ }
@@ -85,11 +101,9 @@ fn list_fits(turns: &[u8]) -> bool
 pub fn run_turns(plan: &[u8], turns: &[u8], work: &mut [u16], lists: &mut [u16]) -> Answer
     ensures { λ r. ⌜ Gives (turnRun (now (plan .entry)) (now (turns .entry)) (now (work .entry)) (now (lists .entry))) r (now (work .exit)) (now (lists .exit)) ⌝ }
 {
-    if work.len() < 24576 {
-        return declined(Fault::ShortWork, 0);
-    }
-    if lists.len() < 32 {
-        return declined(Fault::ShortLists, 0);
+    let verdict = check_buffers(work, lists);
+    if let Verdict::Fails(fault) = verdict {
+        return declined(fault, 0);
     }
     if !list_fits(turns) {
         return declined(Fault::BadTurnList, 0);
@@ -111,11 +125,9 @@ pub fn run_turns(plan: &[u8], turns: &[u8], work: &mut [u16], lists: &mut [u16])
 pub fn run_round(plan: &[u8], work: &mut [u16], lists: &mut [u16]) -> Answer
     ensures { λ r. ⌜ Gives (roundRun (now (plan .entry)) (now (work .entry)) (now (lists .entry))) r (now (work .exit)) (now (lists .exit)) ⌝ }
 {
-    if work.len() < 24576 {
-        return declined(Fault::ShortWork, 0);
-    }
-    if lists.len() < 32 {
-        return declined(Fault::ShortLists, 0);
+    let verdict = check_buffers(work, lists);
+    if let Verdict::Fails(fault) = verdict {
+        return declined(fault, 0);
     }
     match plan::check_plan(plan) {
         Checked::Declined(d) => Answer::Declined(d),

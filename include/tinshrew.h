@@ -1,0 +1,98 @@
+/* Tinshrew: strikes dishes from the lists of a plan, between kitchens.
+ *
+ * Three calls, for x86-64 Linux. Link target/staticlib/libtinshrew.a, which `rt staticlib tinshrew` writes.
+ *
+ *   tinshrew_check_plan   checks a plan
+ *   tinshrew_run_turns    plays a list of turns on a plan
+ *   tinshrew_run_round    plays rounds on a plan until it is closed
+ *
+ * Every call ends, whatever the bytes are. The library allocates nothing and keeps nothing between calls, so
+ * calls on different buffers may run at the same time.
+ *
+ * Each buffer is a pointer and the number of its cells. No pointer is null, not even one to no cells. A buffer that
+ * is written (work, lists, out) overlaps no other buffer of the call.
+ *
+ * How each call answers: it writes every cell of `out`, and returns nothing. out[0] is 0 where the call did its
+ * work. Otherwise the call is declined: out[0] is the decline's number, out[1] its place, and the cells behind are 0.
+ * A declined call changes no lent cell except those of `out`.
+ */
+#ifndef TINSHREW_H
+#define TINSHREW_H
+
+#include <stddef.h>
+#include <stdint.h>
+
+#ifdef __cplusplus
+extern "C" {
+#endif
+
+/* How many cells the buffers of a run have at least: work and lists have cells of 16 bits. */
+#define TINSHREW_WORK_CELLS 24576
+#define TINSHREW_LIST_CELLS 32
+
+/* How many cells `out` has: for the plan check, and for each of the two runs. */
+#define TINSHREW_CHECK_OUT 5
+#define TINSHREW_RUN_OUT 6
+
+/* The status of a run. */
+enum {
+    TINSHREW_OPEN = 0,   /* the plan is not closed yet */
+    TINSHREW_CLOSED = 1, /* closed, and every slot has a dish left */
+    TINSHREW_BARE = 2    /* closed, and some slot's list is empty */
+};
+
+/* Why a call is declined, and the place that goes with it. A section starts at its first length byte. The plan
+ * check never gives 9 to 12, and a round run never gives 11 or 12. */
+enum {
+    TINSHREW_TRUNCATED = 1,      /* plan empty (place 0), or a section or its length is cut off (section start) */
+    TINSHREW_BAD_VERSION = 2,    /* version byte is not 1 (0) */
+    TINSHREW_BAD_LENGTH = 3,     /* a section's length is not the one its content calls for (section start) */
+    TINSHREW_BAD_COUNT = 4,      /* kitchens, slots, rules or a dish count out of range (section start) */
+    TINSHREW_BAD_NUMBER = 5,     /* kitchen or slot number out of range, or first slot not below second (section start) */
+    TINSHREW_REPEATED_CODE = 6,  /* a code stands twice in a slot (section start) */
+    TINSHREW_BAD_RULE = 7,       /* kind above 1, or a table bit past the second slot's count (section start) */
+    TINSHREW_TRAILING_BYTES = 8, /* bytes after the last rule (first such byte) */
+    TINSHREW_SHORT_WORK = 9,     /* fewer than TINSHREW_WORK_CELLS work cells (0) */
+    TINSHREW_SHORT_LISTS = 10,   /* fewer than TINSHREW_LIST_CELLS list cells (0) */
+    TINSHREW_BAD_TURN_LIST = 11, /* turn list of odd length or over 65,536 bytes (0) */
+    TINSHREW_BAD_TURN = 12       /* a turn that is not allowed (number of the first such turn, from 0) */
+};
+
+/* Checks a plan. On success
+ *   out[0]  0
+ *   out[1]  number of kitchens, 1 to 8
+ *   out[2]  number of slots, 1 to 32
+ *   out[3]  number of rules, 0 to 128
+ *   out[4]  number of dishes in all slots together, 0 to 512
+ */
+void tinshrew_check_plan(const uint8_t *plan, size_t plan_len, size_t out[TINSHREW_CHECK_OUT]);
+
+/* Plays the turns of a list, two bytes each: the actor and the deed. On success
+ *   out[0]  0
+ *   out[1]  status: TINSHREW_OPEN, TINSHREW_CLOSED or TINSHREW_BARE
+ *   out[2]  turns that changed something
+ *   out[3]  list messages sent, each send once
+ *   out[4]  polls sent, each poll turn once
+ *   out[5]  lowest slot, from 1, with an empty list; 0 if none
+ * and
+ *   lists[s - 1] holds the listed dishes of slot s: lowest bit for its first dish, 1 where it is still listed.
+ *                Cells from the number of slots on keep what they had.
+ *   work         what it held before plays no part. Its first TINSHREW_WORK_CELLS cells are 0 afterwards, the rest
+ *                keep what they had.
+ */
+void tinshrew_run_turns(const uint8_t *plan, size_t plan_len, const uint8_t *turns, size_t turns_len,
+                        uint16_t *work, size_t work_len, uint16_t *lists, size_t lists_len,
+                        size_t out[TINSHREW_RUN_OUT]);
+
+/* Plays rounds until the plan is closed: on success the status is never TINSHREW_OPEN. Everything else is as in
+ * tinshrew_run_turns.
+ */
+void tinshrew_run_round(const uint8_t *plan, size_t plan_len,
+                        uint16_t *work, size_t work_len, uint16_t *lists, size_t lists_len,
+                        size_t out[TINSHREW_RUN_OUT]);
+
+#ifdef __cplusplus
+}
+#endif
+
+#endif

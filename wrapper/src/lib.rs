@@ -1,0 +1,148 @@
+//! Safe calls of Tinshrew, whose C interface `include/tinshrew.h` explains. `unsafe` stands only where the library is
+//! called: slices carry their own lengths, and Rust's borrows keep the lent buffers apart.
+
+/// How many work cells a run needs.
+pub const WORK_CELLS: usize = 24_576;
+/// How many list cells a run needs.
+pub const LIST_CELLS: usize = 32;
+
+mod library {
+    extern "C" {
+        pub fn tinshrew_check_plan(plan: *const u8, plan_len: usize, out: *mut [usize; 5]);
+        pub fn tinshrew_run_turns(
+            plan: *const u8,
+            plan_len: usize,
+            turns: *const u8,
+            turns_len: usize,
+            work: *mut u16,
+            work_len: usize,
+            lists: *mut u16,
+            lists_len: usize,
+            out: *mut [usize; 6],
+        );
+        pub fn tinshrew_run_round(
+            plan: *const u8,
+            plan_len: usize,
+            work: *mut u16,
+            work_len: usize,
+            lists: *mut u16,
+            lists_len: usize,
+            out: *mut [usize; 6],
+        );
+    }
+}
+
+/// A declined call: its number, 1 to 12, and its place. It changed no lent cell.
+#[derive(Clone, Copy, Debug, PartialEq, Eq)]
+pub struct Decline {
+    pub number: usize,
+    pub place: usize,
+}
+
+/// What a plan holds.
+#[derive(Clone, Copy, Debug, PartialEq, Eq)]
+pub struct Figures {
+    /// Kitchens.
+    pub workers: usize,
+    /// Slots.
+    pub variables: usize,
+    /// Rules.
+    pub constraints: usize,
+    /// Dishes in all slots together.
+    pub labels: usize,
+}
+
+/// Where a run ends.
+#[derive(Clone, Copy, Debug, PartialEq, Eq)]
+pub enum Status {
+    Open,
+    Closed,
+    /// Closed, with an empty list.
+    Bare,
+}
+
+/// The report of a run.
+#[derive(Clone, Copy, Debug, PartialEq, Eq)]
+pub struct Report {
+    pub status: Status,
+    /// Turns that changed something.
+    pub changes: usize,
+    /// List messages sent, each send once.
+    pub sends: usize,
+    /// Polls sent, each poll turn once.
+    pub polls: usize,
+    /// The lowest slot, from 1, with an empty list; 0 if none.
+    pub empty: usize,
+}
+
+/// Checks a plan.
+pub fn check_plan(plan: &[u8]) -> Result<Figures, Decline> {
+    let mut out = [0; 5];
+    // SAFETY: the slice is valid for its length, and `out` is a local of the size that is written.
+    unsafe { library::tinshrew_check_plan(plan.as_ptr(), plan.len(), &mut out) };
+    let [number, workers, variables, constraints, labels] = out;
+    accepted(number, workers)?;
+    Ok(Figures { workers, variables, constraints, labels })
+}
+
+/// Plays the turns of a list on a plan. On success `lists` has a cell for each slot, and the first `WORK_CELLS` work
+/// cells are 0; all later cells of both keep what they had.
+pub fn run_turns(plan: &[u8], turns: &[u8], work: &mut [u16], lists: &mut [u16]) -> Result<Report, Decline> {
+    let mut out = [0; 6];
+    // SAFETY: each slice is valid for its length; those that are written are borrowed as `&mut`, so overlap no other;
+    // `out` is a local of the size that is written.
+    unsafe {
+        library::tinshrew_run_turns(
+            plan.as_ptr(),
+            plan.len(),
+            turns.as_ptr(),
+            turns.len(),
+            work.as_mut_ptr(),
+            work.len(),
+            lists.as_mut_ptr(),
+            lists.len(),
+            &mut out,
+        )
+    };
+    report(out)
+}
+
+/// Plays rounds on a plan until it is closed; the buffers are as in `run_turns`.
+pub fn run_round(plan: &[u8], work: &mut [u16], lists: &mut [u16]) -> Result<Report, Decline> {
+    let mut out = [0; 6];
+    // SAFETY: as in `run_turns`.
+    unsafe {
+        library::tinshrew_run_round(
+            plan.as_ptr(),
+            plan.len(),
+            work.as_mut_ptr(),
+            work.len(),
+            lists.as_mut_ptr(),
+            lists.len(),
+            &mut out,
+        )
+    };
+    report(out)
+}
+
+/// The first two numbers of a call: 0, or a decline and its place.
+fn accepted(number: usize, place: usize) -> Result<(), Decline> {
+    match number {
+        0 => Ok(()),
+        _ => Err(Decline { number, place }),
+    }
+}
+
+fn report([number, second, changes, sends, polls, empty]: [usize; 6]) -> Result<Report, Decline> {
+    accepted(number, second)?;
+    let status = match second {
+        0 => Status::Open,
+        1 => Status::Closed,
+        2 => Status::Bare,
+        _ => unreachable!("the library gives no other status"),
+    };
+    Ok(Report { status, changes, sends, polls, empty })
+}
+
+#[cfg(test)]
+mod tests;
