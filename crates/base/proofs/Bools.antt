@@ -37,6 +37,10 @@ pub and-false-right : (a : Bool) {b : Bool} → b ≡ false → a && b ≡ false
 and-false-right true q = q
 and-false-right false q = refl
 
+-- and so for a test that always fails
+pub and-never : (b : Bool) → b && false ≡ false
+and-never b = and-false-right b refl
+
 -- where two tests fail, one of them does
 pub and-false : (a b : Bool) → a && b ≡ false → (a ≡ false) ⊎ (b ≡ false)
 and-false true b e = inr e

@@ -1,8 +1,8 @@
--- Laws of a choice by a test, of pointwise change, and of numbers between bounds.
+-- Laws of a choice by a test, of results, of pointwise change, and of numbers between bounds.
 use Prim.Native.Nat.{ℕ, _≤_}
 use mathlib.Core.Bool.{Bool, true, false, cond}
-use mathlib.Core.Option.{none, some}
-use mathlib.Core.Path.{_≡_, refl, ap}
+use mathlib.Core.Option.{Option, none, some}
+use mathlib.Core.Path.{_≡_, refl, sym, ap, subst}
 use native.Mathlib.Decide.{ℕ-discrete}
 use native.Mathlib.Omega.{arith}
 use borrow.Author.Tests.{leb-true, eq-eqb, ne-eqb}
@@ -18,6 +18,22 @@ module _ {ℓ} {A : Type ℓ} where
   -- and where it fails
   pub cond-false : {b : Bool} (x y : A) → b ≡ false → cond b x y ≡ y
   cond-false x y p = ap (λ (b : Bool). cond b x y) p
+
+  -- choices whose parts agree where they are taken
+  pub cond-ext : (b : Bool) (x x′ y y′ : A) → (b ≡ true → x ≡ x′) → (b ≡ false → y ≡ y′) → cond b x y ≡ cond b x′ y′
+  cond-ext true x x′ y y′ f g = f refl
+  cond-ext false x x′ y y′ f g = g refl
+
+  -- a choice between equals
+  pub cond-same : (b : Bool) (x y a : A) → x ≡ a → y ≡ a → cond b x y ≡ a
+  cond-same true x y a p q = p
+  cond-same false x y a p q = q
+
+  -- a choice taken apart
+  pub by-test {κ} : {P : Type κ} (b : Bool) {x y a : A} → cond b x y ≡ a → (b ≡ true → x ≡ a → P) → (b ≡ false → y ≡ a → P)
+      → P
+  by-test true e f g = f refl e
+  by-test false e f g = g refl e
 
   -- the value at the place that was changed
   pub update-same : (f : ℕ → A) (i : ℕ) (v : A) → update f i v i ≡ v
@@ -60,9 +76,28 @@ module _ {ℓ} {A : Type ℓ} where
         | no n ↦ rw (update₂-first f i k v j l n) (there j l (λ p q. n p))
       ]
 
+-- what holds at one number and at every other, holds at each
+pub everywhere : (P : ℕ → Type 0) (i : ℕ) → P i → ((k : ℕ) → (k ≡ i → ⊥) → P k) → (k : ℕ) → P k
+everywhere P i here there k = elim (ℕ-discrete k i) [ yes e ↦ subst P (sym e) here | no n ↦ there k n ]
+
 -- nothing is not a result
 pub none≢some {ℓ κ} : {A : Type ℓ} {B : Type κ} {a : A} → none ≡ some a → B
 none≢some e = absurd (let z : _≡_ {A = ℕ} 0 1 = cc in omega arith)
+
+module _ {ℓ} {A : Type ℓ} where
+  -- a result that there is only where a test holds
+  pub if-some : (b : Bool) {o : Option A} {a : A} → cond b o none ≡ some a → (b ≡ true) × (o ≡ some a)
+  if-some true e = (refl, e)
+  if-some false e = none≢some e
+
+  -- or only where it fails
+  pub unless-some : (b : Bool) {o : Option A} {a : A} → cond b none o ≡ some a → (b ≡ false) × (o ≡ some a)
+  unless-some true e = none≢some e
+  unless-some false e = (refl, e)
+
+  -- what holds of a result holds of the result that it equals
+  pub some-same : (P : A → Type 0) {a b : A} → some a ≡ some b → P a → P b
+  some-same P {a} {b} e p = let same : a ≡ b = cc in subst P same p
 
 -- a number between two bounds is at least the lower one
 pub between-low : (low high x : ℕ) → between low high x ≡ true → low ≤ x

@@ -4,3 +4,4 @@ pub mod ListLaws
 pub mod Overwritten
 pub mod Ranges
 pub mod Regions
+pub mod Stores

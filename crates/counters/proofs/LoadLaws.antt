@@ -12,9 +12,9 @@ use Rattle.base.specs.Below.{one, countBelow}
 use Rattle.disac4.specs.Loading.{loadedCounter, unsupported}
 use Rattle.disac4.specs.System.{System}
 use Rattle.network.specs.Network.{Network, loaded, supportCount}
-use Rattle.counters.proofs.Kept.{row-kept, count-kept, same}
+use Rattle.counters.proofs.Kept.{row-heads, count-kept, same}
 use Rattle.counters.proofs.TreatLaws.{one-more}
-use Rattle.cells.specs.Layout.{DOMAIN, COUNTERS}
+use Rattle.cells.specs.Layout.{DOMAIN, COUNTERS, HEADS}
 use Rattle.cells.specs.Lists.{deleteM}
 use Rattle.counters.specs.Load.{lacks, countOneM, countM, loadLabelM, loadValuesM, loadVariablesM}
 use Rattle.cells.specs.Memory.{Mem, store}
@@ -42,7 +42,7 @@ counter-more sys x v y m m₁ m₂ =
     (ap
     (λ (k : ℕ).
     cond (sys .net .linked x y) (store (countM sys x v y m) COUNTERS k v (supportCount (sys .net) x v y)) (countM sys x v y m))
-    (sym (row-kept m (countM sys x v y m) x y (count-kept sys x v y same))))
+    (sym (row-heads m (countM sys x v y m) x y (count-kept sys x v y same .static HEADS x y (omega arith)))))
 
 -- ---- a label with a count of 0
 

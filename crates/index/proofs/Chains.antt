@@ -15,6 +15,7 @@ use Rattle.base.proofs.Bools.{decided, and-left, and-right, and-intro, and-fals
 use Rattle.base.proofs.Choice.{cond-true, cond-false}
 use Rattle.base.specs.Below.{allBelow, anyBelow}
 use Rattle.index.specs.Index.{over, chainBelow, Indexed, placesM, linkM, constraintStart, chainsM, indexM}
+use Rattle.cells.proofs.Stores.{store-apart}
 use Rattle.cells.specs.Layout.{HEADS, PLACES, NEXT}
 use Rattle.cells.specs.Memory.{Mem, store}
 use Rattle.plan.proofs.InOrder.{InOrder}
@@ -96,12 +97,6 @@ module _ (b : List ℕ) (x y : ℕ) where
       ap (λ (t : Bool). anyBelow k (over b x y) || t) p ∙ or-comm (anyBelow k (over b x y)) false ∙ chain-any k
       ∙ ap (λ (n : ℕ). not (eqb n 0)) (sym (chain-past k p)))
       (decided (over b x y k))
-
--- ---- a store in another region
-
-pub store-apart : (m : Mem) (r i j v s k l : ℕ) → (s ≡ r → ⊥) → store m r i j v s k l ≡ m s k l
-store-apart m r i j v s k l h =
-    cond-false v (m s k l) (and-false-left (eqb k i) (and-false-left (eqb l j) (ne-eqb s r h)))
 
 -- ---- the variables of a constraint
 

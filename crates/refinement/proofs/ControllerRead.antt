@@ -8,6 +8,7 @@ use native.Mathlib.Numerals.{add-one}
 use native.Mathlib.Omega.{arith}
 use borrow.Author.Tests.{lt-ltb, ltb-true, ltb-false}
 use lib.Dec.{leb, ltb, eqb}
+use Rattle.base.proofs.Below.{all-ext}
 use Rattle.base.proofs.Choice.{cond-true, cond-false, update-same, update-other}
 use Rattle.base.specs.Choice.{update, update₂}
 use Rattle.base.specs.Row.{bit}
@@ -25,7 +26,7 @@ use Rattle.refinement.proofs.Capacity.{heard-few, outend-few}
 use Rattle.refinement.proofs.ChannelRows.{at-out, Stays, Beside, channels-update}
 use Rattle.refinement.proofs.Grown.{Grown, outQueue, out-kept, channels-kept}
 use Rattle.refinement.specs.Inv.{Small, Inv}
-use Rattle.refinement.proofs.Marks.{all-ext, mark-small, mark-bit, marks-full}
+use Rattle.refinement.proofs.Marks.{mark-small, mark-bit, marks-full}
 use Rattle.refinement.proofs.Queue.{queue-taken, queue-none}
 use Rattle.refinement.proofs.Seen.{mapO, viewOf, view-parts, rowsOf, channel-rows, same-state}
 

@@ -6,6 +6,7 @@ use mathlib.Core.Path.{_≡_, refl, sym, _∙_, ap, ap₂, fun-ext, subst}
 use native.Mathlib.Numerals.{add-one}
 use native.Mathlib.Omega.{arith}
 use lib.Dec.{leb, eqb}
+use Rattle.base.proofs.Choice.{everywhere}
 use Rattle.base.proofs.Sums.{sum-ext, count-ext}
 use Rattle.base.specs.Below.{sumBelow, one}
 use Rattle.network.proofs.DomainSize.{domainSize}
@@ -17,7 +18,6 @@ use Rattle.controller.specs.Controller.{Machine}
 use Rattle.cells.specs.View.{LISTED, LISTMARK}
 use Rattle.refinement.specs.Inv.{Code, Row, Polled, Replied, Inv, Totals, listsOut}
 use Rattle.index.specs.Index.{Paired}
-use Rattle.refinement.proofs.Stores.{each-row}
 
 -- a worker's cells, those of its row of cursors apart
 pub record SameRow (m m′ : Mem) (i : ℕ) : Type 0 where
@@ -222,12 +222,12 @@ pub row-action : (sys : System) (s s′ : Machine) (i : ℕ) → Inv sys s → O
     → Answered (s′ .mem) (s′ .tally) i → s′ .tally .marks < 2 ^ sys .workers → Inv sys s′
 row-action sys s s′ i inv only next row totals answered marks = record {
   rows =
-      each-row (λ k. k < sys .workers → Row sys (s′ .mem) (s′ .tally) k) i (λ h. row) (λ k n h.
+      everywhere (λ k. k < sys .workers → Row sys (s′ .mem) (s′ .tally) k) i (λ h. row) (λ k n h.
       row-kept (s .mem) (s′ .mem) sys (s .tally) (s′ .tally) k (only .others k n) (next .later) (inv .rows k h));
   totals = totals;
   polled = polled-kept (s .mem) (s′ .mem) (s′ .tally) (only .wanted) (next .polled);
   replied =
-      each-row (λ k. k < sys .workers → Answered (s′ .mem) (s′ .tally) k) i (λ h. answered) (λ k n h.
+      everywhere (λ k. k < sys .workers → Answered (s′ .mem) (s′ .tally) k) i (λ h. answered) (λ k n h.
       ⊎-elim
       (λ l.
       inl (omega (arith, only .others k n .workers OUTEND, only .others k n .workers LISTS)))

@@ -3,89 +3,61 @@ use Prim.Native.Nat.{ℕ, zero, suc, _+_, _-_, _/_, _%_, _<_, _≤_}
 use mathlib.Core.List.{List, [], _∷_, _++_, append-assoc, append-nil}
 use mathlib.Core.Path.{_≡_, refl, sym, _∙_, ap, ap₂, subst}
 use native.Mathlib.Decide.{ℕ-discrete}
-use native.Mathlib.Nat.{le-step, le-refl}
 use native.Mathlib.Omega.{arith}
+use lib.Dec.{eqb}
 use lib.ListN.{length, length-append}
-use Rattle.base.specs.Below.{gatherBelow, listBelow}
+use Rattle.base.proofs.Below.{length-list-below}
+use Rattle.disac4.specs.Action.{isEmpty}
 use Rattle.disac4.specs.System.{System}
 use Rattle.network.specs.Network.{Label, label}
+use Rattle.cells.proofs.Stores.{store-same, store-other, Beside, push-stores, push-other, copy-other}
 use Rattle.cells.specs.Layout.{WORKERS, LOG, WORK, DOMAIN, TAIL, LOGEND}
-use Rattle.cells.specs.Lists.{pushM, deleteM}
+use Rattle.cells.specs.Lists.{pushM, deleteM, copyM}
 use Rattle.cells.specs.Memory.{Mem, store}
-use Rattle.cells.specs.View.{codeOf, labelOf, listBetween, labelsBetween}
-use Rattle.refinement.proofs.Frames.{store-same, store-other, Beside, push-stores, push-other}
+use Rattle.cells.specs.View.{codeOf, labelOf, labelsBetween}
 use Rattle.refinement.specs.Inv.{Code}
+use Rattle.refinement.proofs.Queue.{Queue, queue, queue-same, queue-put, queue-taken, queue-none, queue-empty}
 
--- ---- lists below a bound
+-- ---- the labels of a row as a queue
 
-module _ {A : Type 0} where
-  -- parts that agree below the bound are gathered alike
-  pub gather-ext : (n : ℕ) (f g : ℕ → List A) → ((i : ℕ) → i < n → f i ≡ g i) → gatherBelow n f ≡ gatherBelow n g
-  gather-ext zero f g h = refl
-  gather-ext (suc n) f g h = ap₂ _++_ (gather-ext n f g (λ i p. h i (le-step p))) (h n (le-refl (suc n)))
+abbrev labelQueue : Mem → ℕ → ℕ → ℕ → ℕ → Queue Label
+labelQueue m r i from to = queue from to (λ d. labelOf (m r i d))
 
-  -- members that agree below the bound
-  pub list-ext : (n : ℕ) (f g : ℕ → A) → ((i : ℕ) → i < n → f i ≡ g i) → listBelow n f ≡ listBelow n g
-  list-ext n f g h = gather-ext n (λ i. f i ∷ []) (λ i. g i ∷ []) (λ i p. ap (λ a. a ∷ []) (h i p))
-
-  -- the first member apart
-  pub list-first : (n : ℕ) (f : ℕ → A) → listBelow (suc n) f ≡ f 0 ∷ listBelow n (λ i. f (suc i))
-  list-first zero f = refl
-  list-first (suc n) f = ap (λ l. l ++ (f (suc n) ∷ [])) (list-first n f)
-
-  -- members that agree between two bounds
-  pub between-ext : (from to : ℕ) (f g : ℕ → A) → ((d : ℕ) → from ≤ d → d < to → f d ≡ g d)
-      → listBetween from to f ≡ listBetween from to g
-  between-ext from to f g h =
-      list-ext (to - from) (λ d. f (from + d)) (λ d. g (from + d)) (λ d p. h (from + d) (omega arith) (omega arith))
-
-  -- no members
-  pub between-none : (from to : ℕ) (f : ℕ → A) → to ≤ from → listBetween from to f ≡ []
-  between-none from to f h =
-      ap (λ (n : ℕ). listBelow n (λ d. f (from + d))) (let e : to - from ≡ 0 = omega arith in e)
-
--- labels of a row that agree
-pub labels-ext : (m n : Mem) (r i from to : ℕ) → ((d : ℕ) → from ≤ d → d < to → n r i d ≡ m r i d)
-    → labelsBetween n r i from to ≡ labelsBetween m r i from to
+-- cells that agree between the same ends
+pub labels-same : (m n : Mem) (r i from to : ℕ) {from′ to′ : ℕ} → from′ ≡ from → to′ ≡ to
+    → ((d : ℕ) → from ≤ d → d < to → n r i d ≡ m r i d) → labelsBetween n r i from′ to′ ≡ labelsBetween m r i from to
 unfolding labelsBetween
-labels-ext m n r i from to h =
-    between-ext from to (λ d. labelOf (n r i d)) (λ d. labelOf (m r i d)) (λ d p q. ap labelOf (h d p q))
+labels-same m n r i from to {from′} {to′} e f h =
+    queue-same (labelQueue m r i from to) (labelQueue n r i from′ to′) (λ d p q. ap labelOf (h d p q)) e f
 
 -- the oldest label apart
 pub labels-first : (m : Mem) (r i from to : ℕ) → from < to
     → labelsBetween m r i from to ≡ labelOf (m r i from) ∷ labelsBetween m r i (from + 1) to
 unfolding labelsBetween
 labels-first m r i from to h =
-    ap (λ n. listBelow n (λ d. labelOf (m r i (from + d)))) many
-    ∙ list-first (to - (from + 1)) (λ d. labelOf (m r i (from + d)))
-    ∙ ap₂ (λ a l. labelOf (m r i a) ∷ l) start
-    (list-ext (to - (from + 1)) (λ d. labelOf (m r i (from + suc d))) (λ d. labelOf (m r i (from + 1 + d)))
-    (λ d p. ap (λ a. labelOf (m r i a)) (omega arith)))
-  where
-    many : to - from ≡ suc (to - (from + 1))
-    many = omega arith
-
-    start : from + 0 ≡ from
-    start = omega arith
+    queue-taken (labelQueue m r i from to) (labelQueue m r i (from + 1) to) (λ d p q. refl) h refl refl
 
 -- no labels
 pub labels-none : (m : Mem) (r i from to : ℕ) → to ≤ from → labelsBetween m r i from to ≡ []
 unfolding labelsBetween
-labels-none m r i from to h = between-none from to (λ d. labelOf (m r i d)) h
+labels-none m r i from to h = queue-none (labelQueue m r i from to) h
+
+-- there are none exactly if the ends are the same
+pub labels-empty : (m : Mem) (r i from to : ℕ) → from ≤ to → isEmpty (labelsBetween m r i from to) ≡ eqb from to
+unfolding labelsBetween
+labels-empty m r i from to h = queue-empty (labelQueue m r i from to) h
 
 -- one more label at the end
 pub labels-last : (m : Mem) (r i from to : ℕ) → from ≤ to
     → labelsBetween m r i from (to + 1) ≡ labelsBetween m r i from to ++ (labelOf (m r i to) ∷ [])
 unfolding labelsBetween
 labels-last m r i from to h =
-    ap (λ n. listBelow n (λ d. labelOf (m r i (from + d)))) many
-    ∙ ap (λ a. labelsBetween m r i from to ++ (labelOf (m r i a) ∷ [])) last
-  where
-    many : to + 1 - from ≡ suc (to - from)
-    many = omega arith
+    queue-put (labelQueue m r i from to) (labelQueue m r i from (to + 1)) (λ d p q. refl) h refl refl
 
-    last : from + (to - from) ≡ to
-    last = omega arith
+-- how many there are
+pub labels-length : (m : Mem) (r i from to : ℕ) → length (labelsBetween m r i from to) ≡ to - from
+unfolding labelsBetween
+labels-length m r i from to = length-list-below (to - from) (λ d. labelOf (m r i (from + d)))
 
 -- a cell holds the label that was put into it
 pub label-code : (x v : ℕ) → v < 16 → labelOf (codeOf x v) ≡ label x v
@@ -119,8 +91,7 @@ module _ (sys : System) (q col i : ℕ) where
     end = omega arith;
     old = λ d p. h d;
     new = λ from p.
-        ap (labelsBetween n q i from) e
-        ∙ labels-ext m n q i from (m WORKERS i col) (λ d p q. h d)
+        labels-same m n q i from (m WORKERS i col) refl e (λ d p q. h d)
         ∙ sym (append-nil (labelsBetween m q i from (m WORKERS i col)));
     codes = λ c d p. subst (Code sys) (sym (h d)) (c d (omega arith));
   }
@@ -171,13 +142,47 @@ module _ (sys : System) (q col i : ℕ) where
         new = λ from p.
             ap (labelsBetween n q i from) end-at
             ∙ labels-last n q i from at p
-            ∙ ap₂ (λ l a. l ++ (labelOf a ∷ [])) (labels-ext m n q i from at (λ d h k. old-at d (λ e. omega arith))) new-at;
+            ∙ ap₂ (λ l a. l ++ (labelOf a ∷ [])) (labels-same m n q i from at refl refl (λ d h k. old-at d (λ e. omega arith))) new-at;
         codes = λ h d p.
             elim (ℕ-discrete d at) [
               | yes e ↦ subst (λ (a : ℕ). Code sys (n q i a)) (sym e) (subst (Code sys) (sym new-at) code)
               | no e ↦ subst (Code sys) (sym (old-at d e)) (h d (omega (arith, end-at)))
             ];
       }
+
+-- a copied list message: labels of row `j`'s log join the end of row `i`'s work list
+pub grown-copy : (sys : System) (j i from n : ℕ) (m : Mem) → m WORKERS i TAIL + n ≤ 512
+    → ((d : ℕ) → d < from + n → Code sys (m LOG j d))
+    → Grown sys WORK TAIL i m (copyM j i from n m) (labelsBetween m LOG j from (from + n))
+unfolding copyM
+grown-copy sys j i from zero m room codes =
+    subst (Grown sys WORK TAIL i m m) (sym (labels-none m LOG j from (from + 0) (omega arith)))
+    (grown-none sys WORK TAIL i m m refl (λ d. refl))
+grown-copy sys j i from (suc n) m room codes = go (grown-copy sys j i from n m (omega arith) (λ d h. codes d (omega arith)))
+  where
+    before : Mem
+    before = copyM j i from n m
+
+    next : ℕ
+    next = before LOG j (from + n)
+
+    same : next ≡ m LOG j (from + n)
+    same = copy-other j i from n m LOG j (from + n) (omega arith)
+
+    copied : List Label
+    copied = labelsBetween m LOG j from (from + n)
+
+    go : Grown sys WORK TAIL i m before copied
+        → Grown sys WORK TAIL i m (pushM WORK TAIL i next before) (labelsBetween m LOG j from (from + suc n))
+    go grown =
+        subst (Grown sys WORK TAIL i m (pushM WORK TAIL i next before))
+        (ap (λ (c : ℕ). copied ++ (labelOf c ∷ [])) same
+        ∙ sym (labels-last m LOG j from (from + n) (omega arith))
+        ∙ ap (labelsBetween m LOG j from) (let e : from + n + 1 ≡ from + suc n = omega arith in e))
+        (grown-more sys WORK TAIL i m before (pushM WORK TAIL i next before) copied (labelOf next ∷ []) grown
+        (grown-push sys WORK TAIL i before next (λ e. omega arith)
+        (omega (arith, grown .end, labels-length m LOG j from (from + n)))
+        (subst (Code sys) (sym same) (codes (from + n) (omega arith)))))
 
 -- ---- a row's log and work list that have grown by the same labels
 

@@ -6,11 +6,12 @@ use mathlib.Core.Path.{_≡_, refl, sym, _∙_, ap}
 use native.Mathlib.Omega.{arith}
 use lib.Dec.{ltb}
 use Rattle.disac4.specs.System.{System}
+use Rattle.cells.proofs.Stores.{store-other}
 use Rattle.cells.specs.Layout.{WORKERS, WORK, HEADS, HEAD, TAIL}
 use Rattle.counters.specs.Load.{loadLabelM, loadM}
 use Rattle.cells.specs.Memory.{Mem, store}
 use Rattle.counters.specs.Treat.{touchVariablesM, treatM}
-use Rattle.refinement.proofs.Frames.{store-other, Apart}
+use Rattle.refinement.proofs.Frames.{Apart}
 use Rattle.refinement.proofs.LabelLoad.{load-walk, load-apart}
 use Rattle.refinement.proofs.Loading.{startTally}
 use Rattle.refinement.proofs.Touching.{touchLabelM, touch-walk, touch-apart}

@@ -2,19 +2,19 @@
 use Prim.Native.Nat.{ℕ, suc, _-_, _<_, _≤_}
 use mathlib.Core.Bool.{true, false, not, _&&_, _||_}
 use mathlib.Core.Logic.{_⊎_, inl, inr, ⊎-elim}
-use mathlib.Core.Option.{Option, none, some, Option·getD}
+use mathlib.Core.Option.{Option, none, some}
 use mathlib.Core.Path.{_≡_, refl, sym, _∙_}
 use native.Mathlib.Omega.{arith}
 use borrow.Author.Tests.{leb-true, eqb-false, not-true, not-false}
 use lib.Dec.{leb, eqb}
 use Rattle.base.proofs.Bools.{and-left, and-right, or-cases, or-false-right, clash}
-use Rattle.base.proofs.Choice.{between-low, between-high, cond-true, cond-false}
+use Rattle.base.proofs.Choice.{between-low, between-high, cond-true, cond-false, unless-some, some-same, by-test, none≢some}
 use Rattle.base.specs.Choice.{between}
 use Rattle.disac4.specs.System.{System}
 use Rattle.disac4.specs.Turn.{Turn, treatNumber, sendNumber, answerNumber, pollNumber, allowed}
 use Rattle.cells.specs.Memory.{Mem}
 use Rattle.controller.specs.Controller.{Machine}
-use Rattle.refinement.specs.Step.{withMem, readM, workerM, stepM, afterM}
+use Rattle.refinement.specs.Step.{withMem, readM, workerM, stepM}
 use Rattle.counters.specs.Treat.{treatM}
 use Rattle.refinement.proofs.Answering.{answer-keeps}
 use Rattle.refinement.proofs.Hearing.{hear-keeps}
@@ -22,7 +22,6 @@ use Rattle.refinement.specs.Inv.{Small, Inv}
 use Rattle.refinement.proofs.Polling.{poll-keeps, read-poll-keeps}
 use Rattle.refinement.proofs.Reading.{read-list-keeps}
 use Rattle.refinement.proofs.Sending.{send-keeps}
-use Rattle.refinement.proofs.Stores.{idle, unless-some, some-same, by-test}
 
 -- ---- which turns are allowed
 
@@ -84,7 +83,7 @@ module _ (sys : System) (small : Small sys) (s : Machine) (inv : Inv sys s)
   -- beside the same tally
   beside : (o : Option Mem) (s′ : Machine) → withMem (s .tally) o ≡ some s′
       → ((m′ : Mem) → o ≡ some m′ → Inv sys (record { mem = m′; tally = s .tally })) → Inv sys s′
-  beside none s′ e f = absurd (idle e)
+  beside none s′ e f = none≢some e
   beside (some m′) s′ e f = some-same (Inv sys) e (f m′ refl)
 
   -- every turn keeps the invariant
@@ -105,12 +104,3 @@ module _ (sys : System) (small : Small sys) (s : Machine) (inv : Inv sys s)
       let some-row : suc (t .actor - 1) ≡ t .actor = omega (arith, eqb-false (t .actor) 0 c) in
       beside (workerM sys (t .actor - 1) (t .action) s) s′ e₂ (λ m′.
       worker-keeps (t .actor - 1) (t .action) m′ (omega (arith, may .0)) (rw some-row (may .1))))
-
-  -- so does a turn that may be idle
-  pub after-keeps : (t : Turn) → Inv sys (afterM sys s t)
-  unfolding afterM
-  after-keeps t = go (stepM sys s t) (step-keeps t)
-    where
-      go : (o : Option Machine) → ((s′ : Machine) → o ≡ some s′ → Inv sys s′) → Inv sys (Option·getD o s)
-      go none f = inv
-      go (some s′) f = f s′ refl

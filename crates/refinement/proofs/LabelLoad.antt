@@ -16,16 +16,18 @@ use Rattle.base.proofs.Bools.{clash, and-false-left}
 use Rattle.disac4.specs.Loading.{unsupported}
 use Rattle.disac4.specs.System.{System}
 use Rattle.network.specs.Network.{Label, label, supportCount}
+use Rattle.cells.proofs.Stores.{store-same, store-other}
 use Rattle.cells.specs.Layout.{WORKERS, LOG, WORK, DOMAIN, COUNTERS, HEADS, TAIL, LOGEND}
 use Rattle.cells.specs.Lists.{deleteM}
+use Rattle.counters.proofs.Kept.{row-heads}
 use Rattle.counters.specs.Load.{countM, loadLabelM, loadValuesM, loadVariablesM, loadM}
 use Rattle.cells.specs.Memory.{Mem, store}
 use Rattle.cells.specs.View.{LISTED, counterRow}
-use Rattle.refinement.proofs.Frames.{store-same, store-other, Apart, delete-apart, delete-domain, delete-counter}
+use Rattle.refinement.proofs.Frames.{Apart, delete-apart, delete-domain, delete-counter}
 use Rattle.refinement.proofs.Growing.{Both, both-none, both-more, both-delete}
 use Rattle.refinement.specs.Inv.{Small}
 use Rattle.index.specs.Index.{Paired}
-use Rattle.refinement.proofs.Labelwise.{row-heads, own-row, Shows, both-other}
+use Rattle.refinement.proofs.Labelwise.{own-row, Shows, both-other}
 use Rattle.refinement.proofs.Walking.{loop, walk}
 
 module _ (sys : System) where

@@ -1,6 +1,6 @@
 -- A walk over the labels in memory whose steps each change what is their label's own and the lists of one row: the labels
 -- don't disturb one another.
-use Prim.Native.Nat.{ℕ, _+_, _-_, _*_, _<_, _≤_}
+use Prim.Native.Nat.{ℕ, _+_, _-_, _<_, _≤_}
 use mathlib.Core.Bool.{true, false}
 use mathlib.Core.List.{List, [], _++_}
 use mathlib.Core.Logic.{_⊎_, inl, inr}
@@ -19,6 +19,7 @@ use Rattle.network.specs.Network.{Label, loaded}
 use Rattle.cells.specs.Layout.{WORKERS, LOG, WORK, DOMAIN, COUNTERS, HEADS, TAIL, LOGEND}
 use Rattle.cells.specs.Memory.{Mem}
 use Rattle.cells.specs.View.{counterRow}
+use Rattle.counters.proofs.Kept.{row-heads}
 use Rattle.refinement.proofs.Frames.{Apart, domain-apart}
 use Rattle.refinement.proofs.Growing.{Both, both-none, both-more}
 use Rattle.refinement.specs.Inv.{Small}
@@ -26,19 +27,6 @@ use Rattle.index.specs.Index.{Paired}
 use Rattle.refinement.proofs.Walking.{walk, gathered, Others, walk-keeps, walk-at, walk-gather}
 
 -- ---- the rows of counters
-
--- the same index gives the same row
-pub row-heads : (m n : Mem) (x y : ℕ) → n HEADS x y ≡ m HEADS x y → counterRow n x y ≡ counterRow m x y
-unfolding counterRow
-row-heads m n x y e = ap (λ (h : ℕ). 2 * h - 1 + one (ltb y x)) e
-
--- the same index pairs alike
-pub paired-heads : (sys : System) (m n : Mem) → ((a b : ℕ) → n HEADS a b ≡ m HEADS a b) → Paired sys m → Paired sys n
-paired-heads sys m n e p = record {
-  low = λ x y l. omega (arith, e x y, p .low x y l);
-  high = λ x y l. omega (arith, e x y, p .high x y l);
-  own = λ x y x′ y′ l l′ q. p .own x y x′ y′ l l′ (sym (e x y) ∙ q ∙ e x′ y′);
-}
 
 one-side : (x y : ℕ) → (x ≡ y → ⊥) → one (ltb y x) ≡ one (ltb x y) → ⊥
 one-side x y n e =

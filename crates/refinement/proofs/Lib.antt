@@ -6,8 +6,6 @@ pub mod Behind
 pub mod Capacity
 pub mod ChannelRows
 pub mod ControllerRead
-pub mod Copied
-pub mod Filled
 pub mod Frame
 pub mod Frames
 pub mod Growing
@@ -26,10 +24,8 @@ pub mod Outgoing
 pub mod PollRead
 pub mod Polling
 pub mod Queue
-pub mod Queues
 pub mod Reading
 pub mod Refined
-pub mod Room
 pub mod RowsKept
 pub mod Runs
 pub mod Seen
@@ -38,7 +34,6 @@ pub mod Sent
 pub mod Start
 pub mod Static
 pub mod Stepped
-pub mod Stores
 pub mod Taken
 pub mod Touching
 pub mod TreatKeeps

@@ -8,9 +8,12 @@ use native.Mathlib.Omega.{arith}
 use borrow.Author.Tests.{ltb-true, not-true, ne-eqb}
 use lib.Dec.{ltb}
 use lib.Pow.{pow-pos}
-use Rattle.base.proofs.Bools.{and-left}
+use Rattle.base.proofs.Below.{up-to}
+use Rattle.base.proofs.Bools.{and-left, and-never}
+use Rattle.base.proofs.Choice.{if-some, some-same}
 use Rattle.disac4.specs.System.{System}
 use Rattle.disac4.specs.declared.Tally.{Tally}
+use Rattle.cells.proofs.Stores.{store-same, store-other}
 use Rattle.cells.specs.Layout.{WORKERS, WANTED, LISTS, HELD, POLLS}
 use Rattle.cells.specs.Memory.{Mem, store}
 use Rattle.messages.specs.Messages.{readPollM}
@@ -18,7 +21,6 @@ use Rattle.controller.specs.Controller.{askM, askedT, asksT}
 use Rattle.controller.specs.Controller.{Machine, pollM}
 use Rattle.refinement.proofs.Frame.{OnlyRow, row-action, row-kept, totals-kept, paired-kept, follows-itself}
 use Rattle.refinement.specs.Inv.{Row, Polled, Replied, Totals, Inv}
-use Rattle.refinement.proofs.Stores.{and-never, store-same, store-other, up-to, if-some, some-same}
 
 -- ---- a worker reads a poll
 
@@ -70,8 +72,8 @@ module _ (sys : System) (m : Mem) (t : Tally) (i : ℕ) (inv : Inv sys (record {
       (record {
         workers = λ k c held polls.
             store-other (store m WORKERS i POLLS (m WORKERS i POLLS + 1)) WORKERS i HELD (m WORKERS i POLLS + 1) WORKERS k c
-            (λ r e x. held e)
-            ∙ store-other m WORKERS i POLLS (m WORKERS i POLLS + 1) WORKERS k c (λ r e x. polls e);
+            (λ r x e. held e)
+            ∙ store-other m WORKERS i POLLS (m WORKERS i POLLS + 1) WORKERS k c (λ r x e. polls e);
         cursors = λ j k. refl;
         bounds = λ k n. refl;
         domain = λ x v. refl;

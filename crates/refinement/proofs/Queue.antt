@@ -3,10 +3,10 @@ use Prim.Native.Nat.{ℕ, zero, suc, _+_, _-_, _<_, _≤_}
 use mathlib.Core.List.{List, [], _∷_, _++_, append-assoc, append-nil}
 use mathlib.Core.Path.{_≡_, refl, sym, _∙_, ap, ap₂}
 use native.Mathlib.Decide.{ℕ-discrete}
-use native.Mathlib.Nat.{le-step, le-refl}
 use native.Mathlib.Omega.{arith}
 use borrow.Author.Tests.{eq-eqb, ne-eqb}
 use lib.Dec.{eqb}
+use Rattle.base.proofs.Below.{list-ext, list-first}
 use Rattle.base.specs.Below.{listBelow}
 use Rattle.disac4.specs.Action.{isEmpty}
 use Rattle.cells.specs.View.{listBetween}
@@ -30,20 +30,11 @@ module _ {A : Type 0} where
   abbrev pub Kept : Queue A → Queue A → Type 0
   Kept q q′ = (n : ℕ) → q .start ≤ n → n < q .stop → q′ .place n ≡ q .place n
 
-  below-ext : (n : ℕ) (f g : ℕ → A) → ((d : ℕ) → d < n → f d ≡ g d) → listBelow n f ≡ listBelow n g
-  below-ext zero f g h = refl
-  below-ext (suc n) f g h =
-      ap₂ (λ (l : List A) (a : A). l ++ (a ∷ [])) (below-ext n f g (λ d p. h d (le-step p))) (h n (le-refl (suc n)))
-
-  below-first : (n : ℕ) (f : ℕ → A) → listBelow (suc n) f ≡ f 0 ∷ listBelow n (λ d. f (suc d))
-  below-first zero f = refl
-  below-first (suc n) f = ap (λ (l : List A). l ++ (f (suc n) ∷ [])) (below-first n f)
-
   -- as many places, each with the same content
   pub queue-shift : (q q′ : Queue A) → q .stop - q .start ≡ q′ .stop - q′ .start
       → ((d : ℕ) → d < q .stop - q .start → q .place (q .start + d) ≡ q′ .place (q′ .start + d)) → listed q ≡ listed q′
   queue-shift q q′ e h =
-      below-ext (q .stop - q .start) (λ d. q .place (q .start + d)) (λ d. q′ .place (q′ .start + d)) h
+      list-ext (q .stop - q .start) (λ d. q .place (q .start + d)) (λ d. q′ .place (q′ .start + d)) h
       ∙ ap (λ (n : ℕ). listBelow n (λ d. q′ .place (q′ .start + d))) e
 
   -- the same ends
@@ -66,7 +57,7 @@ module _ {A : Type 0} where
       let z : q′ .start + (q .stop - q .start) ≡ q .stop = omega arith in
       ap (λ (n : ℕ). listBelow n (λ d. q′ .place (q′ .start + d))) e
       ∙ ap₂ (λ (l : List A) (a : A). l ++ (a ∷ []))
-      (below-ext (q .stop - q .start) (λ d. q′ .place (q′ .start + d)) (λ d. q .place (q .start + d)) same)
+      (list-ext (q .stop - q .start) (λ d. q′ .place (q′ .start + d)) (λ d. q .place (q .start + d)) same)
       (ap (q′ .place) z)
     where
       same : (d : ℕ) → d < q .stop - q .start → q′ .place (q′ .start + d) ≡ q .place (q .start + d)
@@ -79,9 +70,9 @@ module _ {A : Type 0} where
       let e : q .stop - q .start ≡ suc (q′ .stop - q′ .start) = omega arith in
       let z : q .start + 0 ≡ q .start = omega arith in
       ap (λ (n : ℕ). listBelow n (λ d. q .place (q .start + d))) e
-      ∙ below-first (q′ .stop - q′ .start) (λ d. q .place (q .start + d))
+      ∙ list-first (q′ .stop - q′ .start) (λ d. q .place (q .start + d))
       ∙ ap₂ (λ (a : A) (l : List A). a ∷ l) (ap (q .place) z)
-      (below-ext (q′ .stop - q′ .start) (λ d. q .place (q .start + suc d)) (λ d. q′ .place (q′ .start + d)) same)
+      (list-ext (q′ .stop - q′ .start) (λ d. q .place (q .start + suc d)) (λ d. q′ .place (q′ .start + d)) same)
     where
       same : (d : ℕ) → d < q′ .stop - q′ .start → q .place (q .start + suc d) ≡ q′ .place (q′ .start + d)
       same d k =

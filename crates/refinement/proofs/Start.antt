@@ -1,16 +1,15 @@
 -- A run begins as document 01's loading leaves the plan, whatever the cells held.
-use Prim.Native.Nat.{ℕ, _<_, _≤_}
-use mathlib.Core.Bool.{true}
+use Prim.Native.Nat.{ℕ, _<_}
 use mathlib.Core.List.{List}
 use mathlib.Core.Logic.{inl, inr}
-use mathlib.Core.Option.{none, some}
-use mathlib.Core.Path.{_≡_, refl, sym, _∙_, ap}
+use mathlib.Core.Option.{none}
+use mathlib.Core.Path.{_≡_, _∙_, ap}
 use native.Mathlib.Omega.{arith}
-use borrow.Author.Tests.{lt-ltb, le-ltb}
-use Rattle.base.proofs.Choice.{cond-true, cond-false}
+use borrow.Author.Tests.{lt-ltb}
+use Rattle.base.proofs.Choice.{cond-true}
 use Rattle.disac4.specs.Loading.{load}
 use Rattle.disac4.specs.Outcome.{systemAt}
-use Rattle.disac4.specs.System.{System, systemOf}
+use Rattle.disac4.specs.System.{systemOf}
 use Rattle.index.proofs.Chains.{indexed, index-keeps, indexed-kept}
 use Rattle.refinement.proofs.IndexKept.{load-index}
 use Rattle.refinement.proofs.LoadKeeps.{load-starts}

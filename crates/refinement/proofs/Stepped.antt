@@ -2,7 +2,7 @@
 use Prim.Native.Nat.{ℕ, zero, suc, _-_, _<_, _≤_}
 use mathlib.Core.Bool.{Bool, true, false, cond, _&&_, _||_, not}
 use mathlib.Core.Logic.{⊎-elim}
-use mathlib.Core.Option.{Option, none, some, Option·getD}
+use mathlib.Core.Option.{Option, none, some}
 use mathlib.Core.Path.{_≡_, refl, _∙_, ap}
 use native.Mathlib.Omega.{arith}
 use borrow.Author.Tests.{leb-true, eqb-false, ne-eqb, not-true, not-false}
@@ -13,11 +13,11 @@ use Rattle.base.specs.Choice.{between}
 use Rattle.disac4.specs.Action.{treat, readWorker, ask, readController}
 use Rattle.disac4.specs.State.{State}
 use Rattle.disac4.specs.System.{System}
-use Rattle.disac4.specs.Turn.{Turn, treatNumber, sendNumber, answerNumber, pollNumber, allowed, workerStep, controllerStep, step, after, isSome, changes}
+use Rattle.disac4.specs.Turn.{Turn, treatNumber, sendNumber, answerNumber, pollNumber, allowed, workerStep, controllerStep, step}
 use Rattle.cells.specs.Memory.{Mem}
 use Rattle.messages.specs.Messages.{readPollM, readListM}
 use Rattle.controller.specs.Controller.{Machine, hearM, pollM}
-use Rattle.refinement.specs.Step.{withMem, readM, workerM, stepM, afterM}
+use Rattle.refinement.specs.Step.{withMem, readM, workerM, stepM}
 use Rattle.counters.specs.Treat.{treatM}
 use Rattle.cells.specs.View.{view}
 use Rattle.refinement.proofs.Answered.{answer-refines}
@@ -148,21 +148,3 @@ module _ (sys : System) (small : Small sys) (s : Machine) (inv : Inv sys s) wher
             (λ z. turn-refines (u .actor) (u .action) (eqb-false (u .actor) 0 z)
             (leb-true (u .actor) (sys .workers) (and-left (leb (u .actor) (sys .workers)) _ (allowed-worker (sys .workers) u z ok)))
             (and-right (leb (u .actor) (sys .workers)) _ (allowed-worker (sys .workers) u z ok)))
-
-    -- the machine after a turn is the state after it
-    pub after-refines : (u : Turn) → viewOf sys (afterM sys s u) ≡ after sys st u
-    unfolding afterM after
-    after-refines u = go (stepM sys s u) ∙ ap (λ (o : Option State). Option·getD o st) (step-refines u)
-      where
-        go : (o : Option Machine) → viewOf sys (Option·getD o s) ≡ Option·getD (mapO (viewOf sys) o) st
-        go none = refl
-        go (some s′) = refl
-
-    -- a turn changes the machine exactly if it changes the state
-    pub changes-refines : (u : Turn) → isSome (stepM sys s u) ≡ changes sys st u
-    unfolding changes
-    changes-refines u = go (stepM sys s u) ∙ ap isSome (step-refines u)
-      where
-        go : (o : Option Machine) → isSome o ≡ isSome (mapO (viewOf sys) o)
-        go none = refl
-        go (some s′) = refl

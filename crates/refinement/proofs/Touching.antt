@@ -16,16 +16,18 @@ use Rattle.disac4.specs.System.{System}
 use Rattle.disac4.specs.declared.Tally.{Tally}
 use Rattle.network.proofs.Loaded.{loaded-intro}
 use Rattle.network.specs.Network.{Label, label, supports}
+use Rattle.cells.proofs.Stores.{store-same, store-other}
 use Rattle.cells.specs.Layout.{WORKERS, DOMAIN, COUNTERS, HEADS, TAIL, LOGEND}
 use Rattle.cells.specs.Lists.{deleteM}
 use Rattle.cells.specs.Memory.{Mem, store}
+use Rattle.counters.proofs.Kept.{row-heads}
 use Rattle.counters.specs.Treat.{loseM, touchM, touchValuesM, touchVariableM, touchVariablesM}
 use Rattle.cells.specs.View.{LISTED, counterRow, viewCounter, view}
-use Rattle.refinement.proofs.Frames.{store-same, store-other, Apart, delete-apart, delete-domain, delete-counter}
+use Rattle.refinement.proofs.Frames.{Apart, delete-apart, delete-domain, delete-counter}
 use Rattle.refinement.proofs.Growing.{Both, both-none, both-more, both-delete}
 use Rattle.refinement.specs.Inv.{Small}
 use Rattle.index.specs.Index.{Paired}
-use Rattle.refinement.proofs.Labelwise.{row-heads, own-row, Shows}
+use Rattle.refinement.proofs.Labelwise.{own-row, Shows}
 use Rattle.refinement.proofs.Walking.{loop, walk}
 
 module _ (sys : System) (i y w : ℕ) where

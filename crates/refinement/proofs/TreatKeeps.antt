@@ -26,9 +26,9 @@ use Rattle.cells.specs.Memory.{Mem, store}
 use Rattle.controller.specs.Controller.{Machine}
 use Rattle.counters.specs.Treat.{treatM}
 use Rattle.cells.specs.View.{LISTED, LISTMARK, labelOf, view}
+use Rattle.refinement.proofs.Frame.{paired-kept}
 use Rattle.refinement.proofs.Growing.{Both, both-none, both-more}
 use Rattle.refinement.specs.Inv.{Small, Inv, Row, Totals, Replied, listsOut}
-use Rattle.refinement.proofs.Labelwise.{paired-heads}
 use Rattle.refinement.proofs.RowsKept.{same-bound, row-kept, polled-kept}
 use Rattle.refinement.proofs.Treating.{treatedM, treated-apart, treated-both, treated-unmoved, head-after, other-row, domain-after, heads-after, treat-busy, treat-idle}
 use Rattle.refinement.proofs.Unmoved.{Unmoved}
@@ -194,7 +194,7 @@ module _ (sys : System) (small : Small sys) (s : Machine) (inv : Inv sys s) (i :
     totals = totals-after;
     polled = polled-kept sys m n t u (inv .polled);
     replied = replied-after;
-    paired = paired-heads sys m n (heads-after sys small s inv i h busy) (inv .paired);
+    paired = paired-kept m n sys (heads-after sys small s inv i h busy) (inv .paired);
     listed = λ x v e.
         inv .listed x v
         (and-left (eqb (m DOMAIN x v) LISTED)
