@@ -12,7 +12,6 @@ pub mod Growing
 pub mod Grown
 pub mod Hearing
 pub mod HeldPoll
-pub mod IndexKept
 pub mod Keeps
 pub mod LabelLoad
 pub mod Labelwise

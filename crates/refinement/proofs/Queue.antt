@@ -1,6 +1,6 @@
 -- A queue in a row: what stands from one column to another. It grows at its end and is taken from its front.
-use Prim.Native.Nat.{ℕ, zero, suc, _+_, _-_, _<_, _≤_}
-use mathlib.Core.List.{List, [], _∷_, _++_, append-assoc, append-nil}
+use Prim.Native.Nat.{ℕ, suc, _+_, _-_, _<_, _≤_}
+use mathlib.Core.List.{List, [], _∷_, _++_}
 use mathlib.Core.Path.{_≡_, refl, sym, _∙_, ap, ap₂}
 use native.Mathlib.Decide.{ℕ-discrete}
 use native.Mathlib.Omega.{arith}
@@ -78,24 +78,6 @@ module _ {A : Type 0} where
       same d k =
           let y : q′ .start + d ≡ q .start + suc d = omega arith in
           sym (h (q .start + suc d) (omega arith) (omega arith)) ∙ ap (q′ .place) (sym y)
-
-  -- one queue behind another
-  pub queue-append : (start stop n : ℕ) (f : ℕ → A) → start ≤ stop
-      → listBetween start (stop + n) f ≡ listBetween start stop f ++ listBetween stop (stop + n) f
-  queue-append start stop zero f l =
-      let e : stop + 0 ≡ stop = omega arith in
-      ap (λ (k : ℕ). listBetween start k f) e
-      ∙ sym (append-nil (listBetween start stop f))
-      ∙ ap (λ (l : List A). listBetween start stop f ++ l) (sym (queue-none (queue stop (stop + 0) f) (omega arith)))
-  queue-append start stop (suc n) f l =
-      one-more start (omega arith)
-      ∙ ap (λ (k : List A). k ++ (f (stop + n) ∷ [])) (queue-append start stop n f l)
-      ∙ append-assoc (listBetween start stop f) (listBetween stop (stop + n) f) (f (stop + n) ∷ [])
-      ∙ ap (λ (k : List A). listBetween start stop f ++ k) (sym (one-more stop (omega arith)))
-    where
-      one-more : (a : ℕ) → a ≤ stop + n
-          → listBetween a (stop + suc n) f ≡ listBetween a (stop + n) f ++ (f (stop + n) ∷ [])
-      one-more a h = queue-put (queue a (stop + n) f) (queue a (stop + suc n) f) (λ d p q. refl) h refl (omega arith)
 
   -- it is empty exactly if it ends where it begins
   pub queue-empty : (q : Queue A) → q .start ≤ q .stop → isEmpty (listed q) ≡ eqb (q .start) (q .stop)
