@@ -61,7 +61,7 @@ module _ (i : ℕ) (m : Mem) where
     };
     wanted = λ n. refl;
     heads = λ x y. refl;
-    domain = λ x v. refl;
+    listed = λ x v e. e;
   }
 
 -- what an answer asks: a poll is held, both lists are empty, and the list counter equals the wanted count

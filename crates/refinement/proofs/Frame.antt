@@ -2,7 +2,7 @@
 use Prim.Native.Nat.{ℕ, _+_, _^_, _<_, _≤_}
 use mathlib.Core.Bool.{true}
 use mathlib.Core.Logic.{_⊎_, inl, inr, ⊎-elim}
-use mathlib.Core.Path.{_≡_, refl, sym, _∙_, ap, ap₂, fun-ext, subst}
+use mathlib.Core.Path.{_≡_, refl, sym, _∙_, ap, ap₂, fun-ext}
 use native.Mathlib.Numerals.{add-one}
 use native.Mathlib.Omega.{arith}
 use lib.Dec.{leb, eqb}
@@ -27,6 +27,16 @@ pub record SameRow (m m′ : Mem) (i : ℕ) : Type 0 where
   pub work : (d : ℕ) → m′ WORK i d ≡ m WORK i d
   pub out : (e : ℕ) → m′ OUT i e ≡ m OUT i e
 
+-- a worker's cells where its lists have grown: its head, the ends of its lists and its list counter may have changed
+pub record GrownRow (sys : System) (m m′ : Mem) (i : ℕ) : Type 0 where
+  pub column : (c : ℕ) → (c ≡ HEAD → ⊥) × (c ≡ TAIL → ⊥) × (c ≡ LOGEND → ⊥) × (c ≡ LISTS → ⊥) → m′ WORKERS i c ≡ m WORKERS i c
+  pub bounds : (n : ℕ) → m′ BOUNDS i n ≡ m BOUNDS i n
+  pub out : (e : ℕ) → m′ OUT i e ≡ m OUT i e
+  pub queue : m′ WORKERS i HEAD ≤ m′ WORKERS i TAIL
+  pub log-end : m WORKERS i LOGEND ≤ m′ WORKERS i LOGEND
+  pub log-codes : (d : ℕ) → d < m′ WORKERS i LOGEND → Code sys (m′ LOG i d)
+  pub work-codes : (d : ℕ) → d < m′ WORKERS i TAIL → Code sys (m′ WORK i d)
+
 -- the wanted counts
 abbrev pub SameWanted : Mem → Mem → Type 0
 SameWanted m m′ = (n : ℕ) → m′ WANTED 0 n ≡ m WANTED 0 n
@@ -36,48 +46,46 @@ abbrev pub SameHeads : Mem → Mem → Type 0
 SameHeads m m′ = (x y : ℕ) → m′ HEADS x y ≡ m HEADS x y
 
 module _ (m m′ : Mem) where
-  -- a worker's row depends on its cells and on how many polls there were; its work list may grow
-  pub row-grown : (sys : System) (t t′ : Tally) (i : ℕ)
-      → ((c : ℕ) → (c ≡ TAIL → ⊥) → (c ≡ LISTS → ⊥) → m′ WORKERS i c ≡ m WORKERS i c)
-      → ((n : ℕ) → m′ BOUNDS i n ≡ m BOUNDS i n) → ((d : ℕ) → m′ LOG i d ≡ m LOG i d)
-      → ((e : ℕ) → m′ OUT i e ≡ m OUT i e) → t .timestamp .0 ≤ t′ .timestamp .0
-      → m WORKERS i TAIL ≤ m′ WORKERS i TAIL → ((d : ℕ) → d < m′ WORKERS i TAIL → Code sys (m′ WORK i d))
+  -- a worker's row depends on its cells and on how many polls there were; its lists may grow
+  pub row-grown : (sys : System) (t t′ : Tally) (i : ℕ) → GrownRow sys m m′ i → t .timestamp .0 ≤ t′ .timestamp .0
       → Row sys m t i → Row sys m′ t′ i
-  row-grown sys t t′ i workers bounds log out l longer codes r = record {
-    queue = omega (arith, column HEAD (omega arith), r .queue);
-    first-bound = bounds 0 ∙ r .first-bound;
-    bounds-rise = λ n h. omega (arith, bounds n, bounds (n + 1), r .bounds-rise n (omega (arith, sends)));
-    last-bound = rw (sends, log-end, bounds (m WORKERS i SENDS)) (r .last-bound);
-    out-read = omega (arith, column OUTREAD (omega arith), out-end, r .out-read);
-    out-list = λ e h g. omega (arith, out e, sends, r .out-list e (omega (arith, out-end)) (omega (arith, out e)));
+  row-grown sys t t′ i g l r = record {
+    queue = g .queue;
+    first-bound = g .bounds 0 ∙ r .first-bound;
+    bounds-rise = λ n h. omega (arith, g .bounds n, g .bounds (n + 1), r .bounds-rise n (omega (arith, sends)));
+    last-bound = rw (sends, g .bounds (m WORKERS i SENDS)) (omega (arith, g .log-end, r .last-bound));
+    out-read = omega (arith, g .column OUTREAD (omega arith), out-end, r .out-read);
+    out-list = λ e h k. omega (arith, g .out e, sends, r .out-list e (omega (arith, out-end)) (omega (arith, g .out e)));
     polls-read = omega (arith, polls, r .polls-read);
-    held-read = omega (arith, column HELD (omega arith), polls, r .held-read);
-    log-codes = λ d h. rw (log d) (r .log-codes d (omega (arith, log-end)));
-    work-codes = codes;
+    held-read = omega (arith, g .column HELD (omega arith), polls, r .held-read);
+    log-codes = g .log-codes;
+    work-codes = g .work-codes;
   }
     where
-      column : (c : ℕ) → (c ≡ TAIL → ⊥) × (c ≡ LISTS → ⊥) → m′ WORKERS i c ≡ m WORKERS i c
-      column c n = workers c (n .0) (n .1)
-
       sends : m′ WORKERS i SENDS ≡ m WORKERS i SENDS
-      sends = column SENDS (omega arith)
-
-      log-end : m′ WORKERS i LOGEND ≡ m WORKERS i LOGEND
-      log-end = column LOGEND (omega arith)
+      sends = g .column SENDS (omega arith)
 
       out-end : m′ WORKERS i OUTEND ≡ m WORKERS i OUTEND
-      out-end = column OUTEND (omega arith)
+      out-end = g .column OUTEND (omega arith)
 
       polls : m′ WORKERS i POLLS ≡ m WORKERS i POLLS
-      polls = column POLLS (omega arith)
+      polls = g .column POLLS (omega arith)
 
-  -- the same where the work list is kept too
+  -- the same where all its cells are kept
   pub row-kept : (sys : System) (t t′ : Tally) (i : ℕ) → SameRow m m′ i → t .timestamp .0 ≤ t′ .timestamp .0
       → Row sys m t i → Row sys m′ t′ i
   row-kept sys t t′ i s l r =
-      row-grown sys t t′ i (λ c p q. s .workers c) (s .bounds) (s .log) (s .out) l (omega (arith, s .workers TAIL))
-      (λ d h.
-      rw (s .work d) (r .work-codes d (omega (arith, s .workers TAIL)))) r
+      row-grown sys t t′ i
+      (record {
+        column = λ c p. s .workers c;
+        bounds = s .bounds;
+        out = s .out;
+        queue = omega (arith, s .workers HEAD, s .workers TAIL, r .queue);
+        log-end = omega (arith, s .workers LOGEND);
+        log-codes = λ d h. rw (s .log d) (r .log-codes d (omega (arith, s .workers LOGEND)));
+        work-codes = λ d h. rw (s .work d) (r .work-codes d (omega (arith, s .workers TAIL)));
+      })
+      l r
 
   -- polls depend on the wanted counts
   pub polled-kept : (t : Tally) → SameWanted m m′ → Polled m t → Polled m′ t
@@ -195,12 +203,12 @@ totals-kept sys m m′ t t′ s e u = record {
     ends : (i : ℕ) → m′ WORKERS i LOGEND ≡ m WORKERS i LOGEND
     ends i = s .workers i LOGEND (omega arith) (omega arith)
 
--- of what the invariant mentions row by row, only row `i` is changed
+-- of what the invariant mentions row by row, only row `i` is changed, and no label has joined its domain
 pub record OnlyRow (m m′ : Mem) (i : ℕ) : Type 0 where
   pub others : (k : ℕ) → (k ≡ i → ⊥) → SameRow m m′ k
   pub wanted : SameWanted m m′
   pub heads : SameHeads m m′
-  pub domain : (x v : ℕ) → m′ DOMAIN x v ≡ m DOMAIN x v
+  pub listed : (x v : ℕ) → eqb (m′ DOMAIN x v) LISTED ≡ true → eqb (m DOMAIN x v) LISTED ≡ true
 
 -- a row has put as many messages for the controller as its count says, or one more where it has replied
 abbrev pub Answered : Mem → Tally → ℕ → Type 0
@@ -236,7 +244,7 @@ row-action sys s s′ i inv only next row totals answered marks = record {
       (replied-kept (s .mem) (s′ .mem) (s′ .tally) k (λ c p. only .others k n .workers c) (only .others k n .bounds)
       (only .wanted) (next .replied k r)))
       (inv .replied k h));
-  listed = λ x v e. inv .listed x v (subst (λ (c : ℕ). eqb c LISTED ≡ true) (only .domain x v) e);
+  listed = λ x v e. inv .listed x v (only .listed x v e);
   paired = paired-kept (s .mem) (s′ .mem) sys (only .heads) (inv .paired);
   marks = marks;
 }

@@ -90,7 +90,7 @@ module _ (sys : System) (m : Mem) (t t′ : Tally) (i : ℕ) (inv : Inv sys (rec
     };
     wanted = λ n. refl;
     heads = λ x y. refl;
-    domain = λ x v. refl;
+    listed = λ x v e. e;
   }
 
   row : Row sys (outReadM i m) t′ i

@@ -25,7 +25,6 @@ pub mod Polling
 pub mod Queue
 pub mod Reading
 pub mod Refined
-pub mod RowsKept
 pub mod Runs
 pub mod Seen
 pub mod Sending

@@ -21,7 +21,7 @@ use Rattle.refinement.specs.Inv.{Small, Row, Totals, Inv, listsOut}
 use Rattle.index.specs.Index.{Paired}
 use Rattle.refinement.proofs.Frame.{paired-kept}
 use Rattle.refinement.proofs.Loading.{Blank, startTally, loaded-both, loaded-unmoved, column-loaded, domain-loaded, heads-loaded}
-use Rattle.refinement.proofs.RowsKept.{row-kept}
+use Rattle.refinement.proofs.Unmoved.{row-longer}
 
 module _ (sys : System) (small : Small sys) (z : Mem) (paired : Paired sys z) (blank : Blank z) where
   abbrev n : Mem
@@ -99,7 +99,7 @@ module _ (sys : System) (small : Small sys) (z : Mem) (paired : Paired sys z) (b
   pub load-starts : Inv sys (record { mem = loadM sys z; tally = startTally })
   load-starts = record {
     rows = λ i h.
-        row-kept sys z n startTally (loaded-unmoved sys small z paired blank) i (loadedDeletions sys (suc i))
+        row-longer sys z n startTally (loaded-unmoved sys small z paired blank) i (loadedDeletions sys (suc i))
         (loaded-both sys small z paired blank i h)
         (omega (arith, column i HEAD (omega arith)))
         (blank-row i);

@@ -1,22 +1,23 @@
 -- Reading a list message keeps the invariant: its labels join the reader's work list, and the reader counts it.
 use Prim.Native.Nat.{ℕ, _+_, _-_, _<_, _≤_}
+use mathlib.Core.Bool.{true}
 use mathlib.Core.Logic.{inl, ⊎-elim}
 use mathlib.Core.Option.{some}
 use mathlib.Core.Path.{_≡_, sym, _∙_, ap, subst}
 use native.Mathlib.Decide.{ℕ-discrete}
 use native.Mathlib.Omega.{arith}
 use borrow.Author.Tests.{ltb-true}
-use lib.Dec.{leb, ltb}
+use lib.Dec.{leb, ltb, eqb}
 use Rattle.base.proofs.Choice.{if-some, some-same, everywhere}
 use Rattle.base.proofs.Sums.{sum-ext, sum-change}
 use Rattle.base.specs.Below.{sumBelow}
 use Rattle.disac4.specs.System.{System}
 use Rattle.disac4.specs.declared.Tally.{Tally}
 use Rattle.cells.proofs.Stores.{store-same, store-other, store-apart, copy-other, Beside}
-use Rattle.cells.specs.Layout.{WORKERS, CURSORS, BOUNDS, LOG, WORK, OUT, WANTED, DOMAIN, HEADS, TAIL, LOGEND, SENDS, LISTS, OUTEND, OUTREAD}
+use Rattle.cells.specs.Layout.{WORKERS, CURSORS, BOUNDS, LOG, WORK, OUT, WANTED, DOMAIN, HEADS, TAIL, LOGEND, SENDS, LISTS, OUTEND, OUTREAD, HEAD}
 use Rattle.cells.specs.Lists.{copyM}
 use Rattle.cells.specs.Memory.{Mem, store}
-use Rattle.cells.specs.View.{listAt, labelsBetween}
+use Rattle.cells.specs.View.{listAt, labelsBetween, LISTED}
 use Rattle.messages.specs.Messages.{letterStart, letterEnd, takenM, readListM}
 use Rattle.controller.specs.Controller.{Machine}
 use Rattle.refinement.proofs.Capacity.{letter-room, bound-logged}
@@ -83,7 +84,7 @@ module _ (j i : ℕ) (m : Mem) where
     };
     wanted = region WANTED (omega arith) 0;
     heads = region HEADS (omega arith);
-    domain = region DOMAIN (omega arith);
+    listed = λ x v. subst (λ (c : ℕ). eqb c LISTED ≡ true) (region DOMAIN (omega arith) x v);
   }
 
   -- a sum over what row `i` has read of each row grows at row `j`
@@ -135,9 +136,19 @@ module _ (sys : System) (m : Mem) (t : Tally) (j i : ℕ) (inv : Inv sys (record
     (joined : Grown sys WORK TAIL i m (takenM j i m) (listAt m j (m CURSORS j i))) where
   row : Row sys (takenM j i m) t i
   row =
-      row-grown m (takenM j i m) sys t t i (λ c p q. column j i m i c (λ x. p) (λ x. q)) (region j i m BOUNDS (omega arith) i)
-      (region j i m LOG (omega arith) i) (region j i m OUT (omega arith) i) (omega arith) (omega (arith, joined .end))
-      (joined .codes (inv .rows i hi .work-codes)) (inv .rows i hi)
+      let r = inv .rows i hi in
+      row-grown m (takenM j i m) sys t t i
+      (record {
+        column = λ c p. column j i m i c (λ x. p .1) (λ x. p .3);
+        bounds = region j i m BOUNDS (omega arith) i;
+        out = region j i m OUT (omega arith) i;
+        queue = omega (arith, column j i m i HEAD (omega arith) (omega arith), joined .end, r .queue);
+        log-end = omega (arith, column j i m i LOGEND (omega arith) (omega arith));
+        log-codes = λ d h. rw (region j i m LOG (omega arith) i d)
+            (r .log-codes d (omega (arith, column j i m i LOGEND (omega arith) (omega arith))));
+        work-codes = joined .codes (r .work-codes);
+      })
+      (omega arith) r
 
   longer : takenM j i m WORKERS i TAIL ≡ m WORKERS i TAIL + letterLength j i m
   unfolding listAt

@@ -68,7 +68,7 @@ module _ (i : ℕ) (m : Mem) where
     };
     wanted = λ n. refl;
     heads = λ x y. refl;
-    domain = λ x v. refl;
+    listed = λ x v e. e;
   }
 
 -- ---- the parts of the invariant

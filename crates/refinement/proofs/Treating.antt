@@ -35,10 +35,9 @@ use Rattle.refinement.proofs.Growing.{labels-first, labels-none, Both, 
 use Rattle.refinement.specs.Inv.{Small, Inv}
 use Rattle.index.specs.Index.{Paired}
 use Rattle.refinement.proofs.Labelwise.{unloaded-apart, Shows, shows-start, walk-apart, walk-shows, walk-both}
-use Rattle.refinement.proofs.RowsKept.{same-bound}
 use Rattle.refinement.proofs.Seen.{workOf, sendOf}
 use Rattle.refinement.proofs.Touching.{touchLabelM, touch-walk, touch-apart, touch-shows, touch-both}
-use Rattle.refinement.proofs.Unmoved.{Unmoved, held-kept, lists-kept, channel-kept}
+use Rattle.refinement.proofs.Unmoved.{Unmoved, held-kept, lists-kept, channel-kept, same-bound}
 use Rattle.refinement.proofs.Walking.{walk}
 
 module _ (sys : System) (small : Small sys) (s : Machine) (inv : Inv sys s) (i : ℕ) (h : i < sys .workers)

@@ -1,17 +1,21 @@
 -- The part of a view that a memory action leaves alone when it only deletes labels: polls, counts of lists and channels.
-use Prim.Native.Nat.{ℕ, _-_, _<_}
+use Prim.Native.Nat.{ℕ, _-_, _<_, _≤_}
 use mathlib.Core.Bool.{cond}
-use mathlib.Core.Path.{_≡_, refl, ap}
+use mathlib.Core.List.{List}
+use mathlib.Core.Path.{_≡_, refl, ap, _∙_}
 use native.Mathlib.Omega.{arith}
 use lib.Dec.{eqb}
+use Rattle.network.specs.Network.{Label}
 use Rattle.disac4.specs.System.{System}
 use Rattle.disac4.specs.declared.Tally.{Tally}
 use Rattle.cells.specs.Layout.{WORKERS, CURSORS, BOUNDS, LOG, OUT, WANTED, HEAD, TAIL, LOGEND, SENDS, LISTS, HELD, POLLS, OUTEND, OUTREAD}
 use Rattle.cells.specs.Memory.{Mem}
 use Rattle.cells.specs.View.{isWorker, viewHeld, viewLists, viewChannel}
 use Rattle.controller.specs.Controller.{Machine}
-use Rattle.refinement.specs.Inv.{Small, Inv}
+use Rattle.refinement.specs.Inv.{Small, Row, Inv}
 use Rattle.refinement.proofs.ChannelRows.{channels-stay}
+use Rattle.refinement.proofs.Frame.{row-grown}
+use Rattle.refinement.proofs.Growing.{Both}
 use Rattle.refinement.proofs.Grown.{channels-kept}
 use Rattle.refinement.proofs.HeldPoll.{held-same, held-row}
 use Rattle.refinement.proofs.Seen.{rowsOf}
@@ -42,6 +46,26 @@ module _ (sys : System) (m n : Mem) (t : Tally) (u : Unmoved m n) where
   lists-kept k =
       ap (λ (c : ℕ). cond (eqb k 0) (t .lists .0) (cond (isWorker sys k) c 0))
       (u .column (k - 1) LISTS (omega arith))
+
+  -- where a row's last list message ends
+  pub same-bound : (i : ℕ) → n BOUNDS i (n WORKERS i SENDS) ≡ m BOUNDS i (m WORKERS i SENDS)
+  same-bound i = ap (n BOUNDS i) (u .column i SENDS (omega arith)) ∙ u .bounds i (m WORKERS i SENDS)
+
+  -- a row whose lists have grown
+  pub row-longer : (i : ℕ) (l : List Label) → Both sys i m n l → n WORKERS i HEAD ≤ n WORKERS i TAIL → Row sys m t i
+      → Row sys n t i
+  row-longer i l both queue row =
+      row-grown m n sys t t i
+      (record {
+        column = λ c p. u .column i c (p .0, p .1, p .2);
+        bounds = u .bounds i;
+        out = u .out i;
+        queue = queue;
+        log-end = omega (arith, both .log .end);
+        log-codes = both .log .codes (row .log-codes);
+        work-codes = both .work .codes (row .work-codes);
+      })
+      (omega arith) row
 
 -- the channels
 pub channel-kept : (sys : System) → Small sys → (s : Machine) → Inv sys s → (n : Mem) → Unmoved (s .mem) n → (j k : ℕ)
