@@ -162,5 +162,6 @@ module _ (sys : System) (small : Small sys) (s : Machine) (inv : Inv sys s) (i :
           ≡ answerTo (suc i) (viewOf sys s) (cond b none (some held))
       go true = refl
       go false =
-          mapO-cond (λ m′. view sys m′ t) isReady m′ (afterAnswer (suc i) held (viewOf sys s)) answer-view
+          mapO-cond (λ m′. view sys m′ t) isReady (some m′) none (some (afterAnswer (suc i) held (viewOf sys s))) none
+          (λ p. ap some answer-view) (λ p. refl)
           ∙ ap (λ (b : Bool). cond b (some (afterAnswer (suc i) held (viewOf sys s))) none) (sym ready-row)

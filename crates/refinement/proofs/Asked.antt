@@ -26,7 +26,7 @@ use Rattle.refinement.proofs.Grown.{Grown, pollsQueue, polls-kept, chan
 use Rattle.refinement.proofs.HeldPoll.{heldAt, held-same, held-row}
 use Rattle.refinement.specs.Inv.{Small, Inv}
 use Rattle.refinement.proofs.Queue.{queue-put}
-use Rattle.refinement.proofs.Seen.{mapO, mapO-unless, viewOf, view-parts, rowsOf, same-state}
+use Rattle.refinement.proofs.Seen.{mapO, viewOf, view-parts, rowsOf, same-state, mapO-cond}
 
 module _ (sys : System) (small : Small sys) (s : Machine) (inv : Inv sys s) where
   abbrev m : Mem
@@ -115,4 +115,5 @@ module _ (sys : System) (small : Small sys) (s : Machine) (inv : Inv sys s) wher
   unfolding view ask
   ask-refines =
       ap (mapO (viewOf sys)) ask-room
-      ∙ mapO-unless (viewOf sys) (t .polling) after (afterAsk sys (viewOf sys s)) asked-view
+      ∙ mapO-cond (viewOf sys) (t .polling) none (some after) none (some (afterAsk sys (viewOf sys s))) (λ p. refl)
+      (λ p. ap some asked-view)

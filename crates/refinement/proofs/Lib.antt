@@ -1,4 +1,5 @@
 pub mod Actors
+pub mod Allowed
 pub mod Answered
 pub mod Answering
 pub mod Asked

@@ -2,7 +2,7 @@
 use Prim.Native.Nat.{ℕ, _+_, _-_, _<_}
 use mathlib.Core.Bool.{Bool, true, false, cond}
 use mathlib.Core.List.{List}
-use mathlib.Core.Option.{none, some}
+use mathlib.Core.Option.{Option}
 pub use mathlib.Core.Option.{Option·map as mapO}
 use mathlib.Core.Path.{_≡_, refl, _∙_, ap, fun-ext}
 use native.Mathlib.Omega.{arith}
@@ -74,17 +74,11 @@ same-state s s′ e = λ i. record {
   };
 }
 
--- a choice between idle and an action
-pub mapO-cond {ℓ κ} : {A : Type ℓ} {B : Type κ} (f : A → B) (b : Bool) (a : A) (c : B) → f a ≡ c
-    → mapO f (cond b (some a) none) ≡ cond b (some c) none
-mapO-cond f true a c e = ap some e
-mapO-cond f false a c e = refl
-
--- the other way round
-pub mapO-unless {ℓ κ} : {A : Type ℓ} {B : Type κ} (f : A → B) (b : Bool) (a : A) (c : B) → f a ≡ c
-    → mapO f (cond b none (some a)) ≡ cond b none (some c)
-mapO-unless f true a c e = refl
-mapO-unless f false a c e = ap some e
+-- a choice between two results, part by part
+pub mapO-cond {ℓ κ} : {A : Type ℓ} {B : Type κ} (f : A → B) (b : Bool) (x y : Option A) (x′ y′ : Option B)
+    → (b ≡ true → mapO f x ≡ x′) → (b ≡ false → mapO f y ≡ y′) → mapO f (cond b x y) ≡ cond b x′ y′
+mapO-cond f true x y x′ y′ p q = p refl
+mapO-cond f false x y x′ y′ p q = q refl
 
 -- a number from 1,024 on stands for a list message
 pub list-code : (m : Mem) (i c n : ℕ) → c ≡ LISTMARK + n → messageOf m i c ≡ list (listAt m i n)

@@ -26,7 +26,7 @@ use Rattle.refinement.proofs.Growing.{labels-same, labels-none, labels-
 use Rattle.refinement.proofs.Grown.{Grown, send-kept, lettersQueue, letters-kept, outQueue, out-kept, channels-kept}
 use Rattle.refinement.specs.Inv.{Small, Inv}
 use Rattle.refinement.proofs.Queue.{queue-put}
-use Rattle.refinement.proofs.Seen.{mapO, mapO-unless, viewOf, view-parts, rowsOf, list-code, same-state, sendOf}
+use Rattle.refinement.proofs.Seen.{mapO, viewOf, view-parts, rowsOf, list-code, same-state, sendOf, mapO-cond}
 
 module _ (sys : System) (small : Small sys) (s : Machine) (inv : Inv sys s) (i : ℕ) (h : i < sys .workers) where
   abbrev m : Mem
@@ -147,6 +147,6 @@ module _ (sys : System) (small : Small sys) (s : Machine) (inv : Inv sys s) (i :
   unfolding view send
   send-refines =
       ap (mapO (λ m′. view sys m′ t)) send-room
-      ∙ mapO-unless (λ m′. view sys m′ t) (eqb (m BOUNDS i (m WORKERS i SENDS)) (m WORKERS i LOGEND)) (sentM i m)
-      (afterSend sys (suc i) (viewOf sys s)) sent-view
+      ∙ mapO-cond (λ m′. view sys m′ t) (eqb (m BOUNDS i (m WORKERS i SENDS)) (m WORKERS i LOGEND)) none (some (sentM i m))
+      none (some (afterSend sys (suc i) (viewOf sys s))) (λ p. refl) (λ p. ap some sent-view)
       ∙ ap (λ (b : Bool). cond b none (some (afterSend sys (suc i) (viewOf sys s)))) (sym nothing-to-send)
