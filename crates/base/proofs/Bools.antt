@@ -28,6 +28,11 @@ and-right false b e = absurd (false≢true e)
 pub and-intro : {a b : Bool} → a ≡ true → b ≡ true → a && b ≡ true
 and-intro {a} {b} p q = ap (λ (x : Bool). x && b) p ∙ q
 
+-- a test beside one that holds decides alone
+pub and-true : (a : Bool) {b : Bool} → b ≡ true → a && b ≡ a
+and-true true e = e
+and-true false e = refl
+
 -- two tests fail where the first does
 pub and-false-left : {a : Bool} (b : Bool) → a ≡ false → a && b ≡ false
 and-false-left b p = ap (λ (x : Bool). x && b) p

@@ -5,7 +5,7 @@ use mathlib.Core.Option.{Option, none, some}
 use mathlib.Core.Path.{_≡_, refl, sym, ap, subst}
 use native.Mathlib.Decide.{ℕ-discrete}
 use native.Mathlib.Omega.{arith}
-use borrow.Author.Tests.{leb-true, eq-eqb, ne-eqb}
+use borrow.Author.Tests.{leb-true, le-leb, eq-eqb, ne-eqb}
 use lib.Dec.{leb, eqb}
 use Rattle.base.proofs.Bools.{and-left, and-right, and-intro, and-false-left, and-false-right}
 use Rattle.base.specs.Choice.{update, update₂, between}
@@ -99,10 +99,14 @@ module _ {ℓ} {A : Type ℓ} where
   pub some-same : (P : A → Type 0) {a b : A} → some a ≡ some b → P a → P b
   some-same P {a} {b} e p = let same : a ≡ b = cc in subst P same p
 
--- a number between two bounds is at least the lower one
+-- a number between two bounds
+pub between-intro : (low high x : ℕ) → low ≤ x → x ≤ high → between low high x ≡ true
+between-intro low high x p q = and-intro (le-leb low x p) (le-leb x high q)
+
+-- it is at least the lower one
 pub between-low : (low high x : ℕ) → between low high x ≡ true → low ≤ x
 between-low low high x e = leb-true low x (and-left (leb low x) (leb x high) e)
 
--- and it is at most the upper one
+-- and at most the upper one
 pub between-high : (low high x : ℕ) → between low high x ≡ true → x ≤ high
 between-high low high x e = leb-true x high (and-right (leb low x) (leb x high) e)

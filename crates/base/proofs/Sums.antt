@@ -3,7 +3,7 @@ use Prim.Native.Nat.{ℕ, zero, suc, _+_, _*_, _<_, _≤_}
 use mathlib.Core.Bool.{Bool, true, false, _&&_, not}
 use mathlib.Core.Logic.{⊎-elim}
 use mathlib.Core.Path.{_≡_, refl, sym, ap, ap₂}
-use native.Mathlib.Nat.{not-suc-le-zero, le-step, le-refl}
+use native.Mathlib.Nat.{not-suc-le-zero, eq-or-lt-of-le, le-of-suc-le-suc, le-step, le-refl}
 use native.Mathlib.Numerals.{add-one}
 use native.Mathlib.Omega.{arith}
 use Rattle.base.proofs.Below.{below-cases}
@@ -131,11 +131,11 @@ pub count-le : (n : ℕ) (t : ℕ → Bool) → countBelow n t ≤ n
 count-le n t = omega (arith, sum-le n (λ i. one (t i)) (λ i. 1) (λ i p. one-le (t i)), sum-const n 1)
 
 -- a longer count is no smaller
-pub count-more : (n d : ℕ) (t : ℕ → Bool) → countBelow n t ≤ countBelow (n + d) t
-count-more n zero t = let e : n + 0 ≡ n = omega arith in omega (arith, ap (λ (k : ℕ). countBelow k t) e)
-count-more n (suc d) t =
-    let e : n + suc d ≡ suc (n + d) = omega arith in
-    omega (arith, ap (λ (k : ℕ). countBelow k t) e, count-more n d t)
+pub count-more : (n n′ : ℕ) (t : ℕ → Bool) → n ≤ n′ → countBelow n t ≤ countBelow n′ t
+count-more n zero t h = let e : n ≡ 0 = omega arith in omega (arith, ap (λ (k : ℕ). countBelow k t) e)
+count-more n (suc n′) t h =
+    ⊎-elim (λ e. omega (arith, ap (λ (k : ℕ). countBelow k t) e)) (λ l. omega (arith, count-more n n′ t (le-of-suc-le-suc l)))
+    (eq-or-lt-of-le h)
 
 -- tests that agree below the bound count alike
 pub count-ext : (n : ℕ) (t u : ℕ → Bool) → ((i : ℕ) → i < n → t i ≡ u i) → countBelow n t ≡ countBelow n u

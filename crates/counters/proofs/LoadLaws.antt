@@ -1,13 +1,13 @@
 -- Laws that the code of loading meets its definitions in memory by.
 use Prim.Native.Nat.{ℕ, _+_, _-_, _<_}
-use mathlib.Core.Bool.{Bool, true, false, cond, _&&_}
+use mathlib.Core.Bool.{true, false, cond, _&&_}
 use mathlib.Core.Path.{_≡_, refl, sym, _∙_, ap}
 use native.Mathlib.Omega.{arith}
 use lib.Dec.{eqb}
 use Rattle.base.proofs.Below.{any-below, some-below}
 use Rattle.base.proofs.Bools.{and-false-left, refuted}
 use Rattle.base.proofs.Choice.{cond-true, cond-false}
-use Rattle.base.proofs.Sums.{sum-none, sum-some}
+use Rattle.base.proofs.Sums.{sum-none, sum-some, one-passes}
 use Rattle.base.specs.Below.{one, countBelow}
 use Rattle.disac4.specs.Loading.{loadedCounter, unsupported}
 use Rattle.disac4.specs.System.{System}
@@ -56,11 +56,7 @@ module _ (net : Network) (x v : ℕ) (l : loaded net x v ≡ true) where
   unsupported-some h =
       let r = sum-some (net .variables) (λ y. one (lacks net x v y)) h in
       any-below (net .variables) (λ y. net .linked x y && eqb (loadedCounter net x v y) 0) (r .0) (r .1)
-      (lacks-loaded (r .0) ∙ holds (lacks net x v (r .0)) (r .2))
-    where
-      holds : (t : Bool) → 0 < one t → t ≡ true
-      holds true p = refl
-      holds false p = absurd (omega arith)
+      (lacks-loaded (r .0) ∙ one-passes (lacks net x v (r .0)) (r .2))
 
   pub unsupported-none : countBelow (net .variables) (lacks net x v) ≡ 0 → unsupported net x v ≡ false
   unfolding unsupported

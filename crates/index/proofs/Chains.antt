@@ -12,6 +12,7 @@ use native.Mathlib.Omega.{arith}
 use lib.Dec.{eqb}
 use Rattle.base.proofs.Below.{below-cases}
 use Rattle.base.proofs.Bools.{decided, and-left, and-right, and-intro, and-false-left, and-comm, or-cases, or-comm, or-right, bool-ext}
+pub use Rattle.base.proofs.Bools.{and-true}
 use Rattle.base.proofs.Choice.{cond-true, cond-false}
 use Rattle.base.specs.Below.{allBelow, anyBelow}
 use Rattle.index.specs.Index.{over, chainBelow, Indexed, placesM, linkM, constraintStart, chainsM, indexM}
@@ -38,10 +39,6 @@ unfolding chainBelow
 chain-turned b x y zero = refl
 chain-turned b x y (suc k) =
     ap₂ (λ (t : Bool) (n : ℕ). cond t (suc k) n) (over-turned b x y k) (chain-turned b x y k)
-
-pub and-true : (a : Bool) {b : Bool} → b ≡ true → a && b ≡ a
-and-true true e = e
-and-true false e = refl
 
 module _ (b : List ℕ) (x y : ℕ) where
   chain-here : (c : ℕ) → over b x y c ≡ true → chainBelow b x y (suc c) ≡ suc c

@@ -4,10 +4,9 @@ use mathlib.Core.Bool.{true, cond}
 use mathlib.Core.Path.{_≡_, refl, sym, _∙_, ap}
 use native.Mathlib.Decide.{ℕ-discrete}
 use native.Mathlib.Omega.{arith}
-use borrow.Author.Tests.{le-leb, ne-eqb}
+use borrow.Author.Tests.{ne-eqb}
 use lib.Dec.{eqb}
-use Rattle.base.proofs.Bools.{and-intro}
-use Rattle.base.proofs.Choice.{cond-true, cond-false, update-same, update-other, between-low, between-high, cond-ext}
+use Rattle.base.proofs.Choice.{cond-true, cond-false, update-same, update-other, between-low, between-high, cond-ext, between-intro}
 use Rattle.base.specs.Choice.{update}
 use Rattle.disac4.specs.System.{System}
 use Rattle.cells.specs.View.{isWorker}
@@ -18,7 +17,7 @@ atActor sys f none k = cond (isWorker sys k) (f (k - 1)) none
 
 -- worker `i + 1` is a worker
 pub worker-row : (sys : System) (i : ℕ) → i < sys .workers → isWorker sys (suc i) ≡ true
-worker-row sys i h = and-intro (le-leb 1 (suc i) (omega arith)) (le-leb (suc i) (sys .workers) (omega arith))
+worker-row sys i h = between-intro 1 (sys .workers) (suc i) (omega arith) h
 
 -- and a worker has a row
 pub row-of : (sys : System) (k : ℕ) → isWorker sys k ≡ true → (k - 1 < sys .workers) × (k ≡ suc (k - 1))

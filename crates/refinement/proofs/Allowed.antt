@@ -46,9 +46,9 @@ controller-may p t controller ok n =
     (sym (cond-true (between 1 p (t .action) || eqb (t .action) pollNumber) _ controller) ∙ ok))
 
 -- what is none of the three actions reads from another actor
-pub may-read : (p k d : ℕ) → WorkerMay p k d → eqb d treatNumber ≡ false → eqb d sendNumber ≡ false
+pub reads-other : (p k d : ℕ) → WorkerMay p k d → eqb d treatNumber ≡ false → eqb d sendNumber ≡ false
     → eqb d answerNumber ≡ false → (d ≤ p) × (d ≡ k → ⊥)
-may-read p k d may n₁ n₂ n₃ =
+reads-other p k d may n₁ n₂ n₃ =
     ⊎-elim (λ a. a)
     (λ a.
     absurd (omega (arith, eqb-false d treatNumber n₁, eqb-false d sendNumber n₂, eqb-false d answerNumber n₃))) may

@@ -23,7 +23,7 @@ use Rattle.refinement.proofs.Capacity.{sends-few, outend-few, held-few,
 use Rattle.refinement.proofs.ChannelRows.{at-out, Stays, Beside, channels-update}
 use Rattle.refinement.proofs.Growing.{labels-empty}
 use Rattle.refinement.proofs.Grown.{Grown, outQueue, out-kept, channels-kept}
-use Rattle.refinement.proofs.HeldPoll.{heldAt, held-worker, held-update}
+use Rattle.refinement.proofs.HeldPoll.{heldAt, held-worker, held-update, held-row}
 use Rattle.refinement.specs.Inv.{Small, Inv}
 use Rattle.refinement.proofs.Queue.{queue, queue-put}
 use Rattle.refinement.proofs.Seen.{mapO, mapO-cond, viewOf, view-parts, rowsOf, reply-code, same-state, workOf}
@@ -107,8 +107,7 @@ module _ (sys : System) (small : Small sys) (s : Machine) (inv : Inv sys s) (i :
           ap (λ (n : ℕ). cond (eqb n 0) none (some (pollAt m n))) (update-same (λ j. m WORKERS j HELD) i 0)
 
       there : (j : ℕ) → j < sys .workers → (j ≡ i → ⊥) → heldAt m′ j ≡ heldAt m j
-      there j hj n =
-          ap (λ (n : ℕ). cond (eqb n 0) none (some (pollAt m n))) (update-other (λ j. m WORKERS j HELD) i 0 j n)
+      there j hj n = held-row m m′ j (update-other (λ j. m WORKERS j HELD) i 0 j n) refl
 
   -- both lists are empty, and the list counter equals the wanted count
   abbrev isReady : Bool

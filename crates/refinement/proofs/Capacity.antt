@@ -162,12 +162,9 @@ module _ (sys : System) (small : Small sys) (s : Machine) (inv : Inv sys s) wher
     where
       part : (i : ℕ) → i < sys .workers → listsOut m i (m WORKERS i OUTREAD) ≤ m WORKERS i SENDS
       part i h =
-          let l : m WORKERS i OUTREAD ≤ m WORKERS i OUTEND = inv .rows i h .out-read in
-          let e : m WORKERS i OUTREAD + (m WORKERS i OUTEND - m WORKERS i OUTREAD) ≡ m WORKERS i OUTEND = omega arith in
           omega (
             arith,
-            ap (listsOut m i) e,
-            count-more (m WORKERS i OUTREAD) (m WORKERS i OUTEND - m WORKERS i OUTREAD) (λ e. leb LISTMARK (m OUT i e)),
+            count-more (m WORKERS i OUTREAD) (m WORKERS i OUTEND) (λ e. leb LISTMARK (m OUT i e)) (inv .rows i h .out-read),
             inv .totals .all-out i h,
           )
 

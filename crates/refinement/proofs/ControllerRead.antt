@@ -9,6 +9,7 @@ use native.Mathlib.Omega.{arith}
 use borrow.Author.Tests.{lt-ltb, ltb-true, ltb-false}
 use lib.Dec.{leb, ltb, eqb}
 use Rattle.base.proofs.Below.{all-ext}
+use Rattle.base.proofs.Bools.{and-true}
 use Rattle.base.proofs.Choice.{cond-true, cond-false, update-same, update-other}
 use Rattle.base.specs.Choice.{update, update₂}
 use Rattle.base.specs.Row.{bit}
@@ -202,11 +203,10 @@ module _ (sys : System) (small : Small sys) (s : Machine) (inv : Inv sys s) (i :
             (omega (arith, inv .rows i h .out-read, outend-few sys small s inv i h)),
         lt-ltb (t .lists .0) 65535 (omega (arith, heard-few sys small s inv)),
       )
-      (go (ltb (m WORKERS i OUTREAD) (m WORKERS i OUTEND)))
+      (and-true (some-out && true) refl ∙ and-true some-out refl)
     where
-      go : (b : Bool) → b && true && true ≡ b
-      go true = refl
-      go false = refl
+      some-out : Bool
+      some-out = ltb (m WORKERS i OUTREAD) (m WORKERS i OUTEND)
 
   abbrev heard : Machine
   heard = record { mem = m′; tally = toldT (sys .workers) i oldest t }

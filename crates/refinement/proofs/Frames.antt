@@ -4,7 +4,7 @@ use mathlib.Core.Bool.{true}
 use mathlib.Core.Path.{_≡_, _∙_}
 use native.Mathlib.Omega.{arith}
 use Rattle.disac4.specs.System.{System}
-use Rattle.cells.proofs.Stores.{store-same, store-other, push-other}
+use Rattle.cells.proofs.Stores.{store-same, store-other, push-other, Beside}
 use Rattle.cells.specs.Layout.{WORKERS, LOG, WORK, DOMAIN, COUNTERS, TAIL, LOGEND}
 use Rattle.cells.specs.Lists.{pushM, deleteM}
 use Rattle.cells.specs.Memory.{Mem, store}
@@ -20,31 +20,26 @@ pub record Apart (sys : System) (m : Mem) (i x v r a b : ℕ) : Type 0 where
   pub work-end : r ≡ WORKERS → a ≡ i → b ≡ TAIL → ⊥
 
 module _ (sys : System) (i x v : ℕ) (m : Mem) where
+  -- beside the two lists, deleting a label is a store
+  delete-stores : (r a b : ℕ) → Beside WORK TAIL i r a b → Beside LOG LOGEND i r a b
+      → deleteM i x v m r a b ≡ store m DOMAIN x v 0 r a b
+  unfolding deleteM
+  delete-stores r a b work log =
+      push-other WORK TAIL i (codeOf x v) (pushM LOG LOGEND i (codeOf x v) (store m DOMAIN x v 0)) r a b work
+      ∙ push-other LOG LOGEND i (codeOf x v) (store m DOMAIN x v 0) r a b log
+
   -- deleting a label leaves what stands apart alone
   pub delete-apart : (n : Mem) (r a b : ℕ) → Apart sys n i x v r a b → deleteM i x v m r a b ≡ m r a b
-  unfolding deleteM
   delete-apart n r a b h =
-      push-other WORK TAIL i (codeOf x v) (pushM LOG LOGEND i (codeOf x v) (store m DOMAIN x v 0)) r a b
-      (h .work, h .work-end)
-      ∙ push-other LOG LOGEND i (codeOf x v) (store m DOMAIN x v 0) r a b (h .log, h .log-end)
-      ∙ store-other m DOMAIN x v 0 r a b (h .domain)
+      delete-stores r a b (h .work, h .work-end) (h .log, h .log-end) ∙ store-other m DOMAIN x v 0 r a b (h .domain)
 
   -- the label leaves its domain
   pub delete-domain : deleteM i x v m DOMAIN x v ≡ 0
-  unfolding deleteM
-  delete-domain =
-      push-other WORK TAIL i (codeOf x v) (pushM LOG LOGEND i (codeOf x v) (store m DOMAIN x v 0)) DOMAIN x v
-      (omega arith)
-      ∙ push-other LOG LOGEND i (codeOf x v) (store m DOMAIN x v 0) DOMAIN x v (omega arith)
-      ∙ store-same m DOMAIN x v 0
+  delete-domain = delete-stores DOMAIN x v (omega arith) (omega arith) ∙ store-same m DOMAIN x v 0
 
-  -- counters and index stay
+  -- the counters stay
   pub delete-counter : (a b : ℕ) → deleteM i x v m COUNTERS a b ≡ m COUNTERS a b
-  unfolding deleteM
-  delete-counter a b =
-      push-other WORK TAIL i (codeOf x v) (pushM LOG LOGEND i (codeOf x v) (store m DOMAIN x v 0)) COUNTERS a b
-      (omega arith)
-      ∙ push-other LOG LOGEND i (codeOf x v) (store m DOMAIN x v 0) COUNTERS a b (omega arith)
+  delete-counter a b = delete-stores COUNTERS a b (omega arith) (omega arith)
 
 -- the domain cell of one label stands apart from another label
 pub domain-apart : (sys : System) (m : Mem) (i x v x′ v′ : ℕ) → (x ≡ x′ → v ≡ v′ → ⊥) → Apart sys m i x′ v′ DOMAIN x v

@@ -14,7 +14,7 @@ use Rattle.cells.specs.Memory.{Mem}
 use Rattle.controller.specs.Controller.{Machine}
 use Rattle.refinement.specs.Step.{withMem, readM, workerM, stepM}
 use Rattle.counters.specs.Treat.{treatM}
-use Rattle.refinement.proofs.Allowed.{WorkerMay, worker-may, controller-may, may-read}
+use Rattle.refinement.proofs.Allowed.{WorkerMay, worker-may, controller-may, reads-other}
 use Rattle.refinement.proofs.Answering.{answer-keeps}
 use Rattle.refinement.proofs.Hearing.{hear-keeps}
 use Rattle.refinement.specs.Inv.{Small, Inv}
@@ -33,7 +33,7 @@ module _ (sys : System) (small : Small sys) (s : Machine) (inv : Inv sys s)
       by-test (eqb d sendNumber) e₁ (λ p. send-keeps sys (s .mem) m′ (s .tally) i inv h) (λ n₂ e₂.
       by-test (eqb d answerNumber) e₂ (λ p. answer-keeps sys (s .mem) m′ (s .tally) i inv h) (λ n₃ e₃.
       by-test (eqb d 0) e₃ (λ p. read-poll-keeps sys (s .mem) m′ (s .tally) i inv h) (λ n₄ e₄.
-      let other = may-read (sys .workers) (suc i) d may n₁ n₂ n₃ in
+      let other = reads-other (sys .workers) (suc i) d may n₁ n₂ n₃ in
       let some-row : 0 < d = omega (arith, eqb-false d 0 n₄) in
       read-list-keeps sys small (s .mem) m′ (s .tally) (d - 1) i inv (omega arith) h (λ q. other .1 (omega arith)) e₄))))
 

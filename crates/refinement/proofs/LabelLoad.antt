@@ -28,25 +28,19 @@ use Rattle.refinement.proofs.Growing.{Both, both-none, both-more, both-
 use Rattle.refinement.specs.Inv.{Small}
 use Rattle.index.specs.Index.{Paired}
 use Rattle.refinement.proofs.Labelwise.{own-row, Shows, both-other}
-use Rattle.refinement.proofs.Walking.{loop, walk}
+use Rattle.refinement.proofs.Walking.{loop, walk, is-loop}
 
 module _ (sys : System) where
   values-loop : (x n : ℕ) (m : Mem) → loadValuesM sys x n m ≡ loop (loadLabelM sys x) n m
   unfolding loadValuesM
-  values-loop x zero m = refl
-  values-loop x (suc n) m = ap (loadLabelM sys x n) (values-loop x n m)
-
-  variables-walk : (n : ℕ) (m : Mem) → loadVariablesM sys n m ≡ walk (sys .net) (loadLabelM sys) n m
-  unfolding loadVariablesM
-  variables-walk zero m = refl
-  variables-walk (suc n) m =
-      values-loop n (sys .net .size n) (loadVariablesM sys n m)
-      ∙ ap (loop (loadLabelM sys n) (sys .net .size n)) (variables-walk n m)
+  values-loop x = is-loop (loadLabelM sys x) (loadValuesM sys x) (λ m. refl) (λ n m. refl)
 
   -- the two loops are a walk over the labels
   pub load-walk : (m : Mem) → loadM sys m ≡ walk (sys .net) (loadLabelM sys) (sys .net .variables) m
-  unfolding loadM
-  load-walk m = variables-walk (sys .net .variables) m
+  unfolding loadM loadVariablesM
+  load-walk =
+      is-loop (λ x. loop (loadLabelM sys x) (sys .net .size x)) (loadVariablesM sys) (λ m. refl)
+      (λ x m. values-loop x (sys .net .size x) (loadVariablesM sys x m)) (sys .net .variables)
 
   -- ---- the counters of one label
 

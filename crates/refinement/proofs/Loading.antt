@@ -5,12 +5,12 @@ use mathlib.Core.List.{List, [], _∷_, _++_}
 use mathlib.Core.Option.{none}
 use mathlib.Core.Path.{_≡_, refl, sym, _∙_, ap, subst}
 use native.Mathlib.Omega.{arith}
-use borrow.Author.Tests.{eqb-true, le-leb}
+use borrow.Author.Tests.{eqb-true}
 use lib.Dec.{eqb}
 use lib.ListN.{length}
 use Rattle.base.proofs.Below.{gather-none}
-use Rattle.base.proofs.Bools.{clash, refuted, and-intro, and-false-left, and-false-right}
-use Rattle.base.proofs.Choice.{cond-false, cond-same}
+use Rattle.base.proofs.Bools.{clash, refuted, and-false-left, and-false-right}
+use Rattle.base.proofs.Choice.{cond-false, cond-same, between-intro}
 use Rattle.base.proofs.Row.{bit-past}
 use Rattle.base.proofs.Sums.{sum-part, sum-zero}
 use Rattle.base.specs.Below.{one}
@@ -177,8 +177,8 @@ module _ (sys : System) (small : Small sys) (z : Mem) (paired : Paired sys z) (b
         where
           owner-worker : (x : ℕ) → x < sys .net .variables → sys .owner x ≡ k → isWorker sys k ≡ true
           owner-worker x h p =
-              and-intro (le-leb 1 k (omega (arith, small .sound .owned x h .above)))
-              (le-leb k (sys .workers) (omega (arith, small .sound .owned x h .within)))
+              between-intro 1 (sys .workers) k (omega (arith, small .sound .owned x h .above))
+              (omega (arith, small .sound .owned x h .within))
 
   -- a column other than the ends of the lists
   pub column-loaded : (i b : ℕ) → (b ≡ TAIL → ⊥) × (b ≡ LOGEND → ⊥) → n WORKERS i b ≡ 0

@@ -18,7 +18,7 @@ use Rattle.controller.specs.Controller.{Machine, hearM, pollM}
 use Rattle.refinement.specs.Step.{withMem, readM, workerM, stepM}
 use Rattle.counters.specs.Treat.{treatM}
 use Rattle.cells.specs.View.{view}
-use Rattle.refinement.proofs.Allowed.{WorkerMay, worker-may, controller-may, may-read}
+use Rattle.refinement.proofs.Allowed.{WorkerMay, worker-may, controller-may, reads-other}
 use Rattle.refinement.proofs.Answered.{answer-refines}
 use Rattle.refinement.proofs.Asked.{ask-refines}
 use Rattle.refinement.proofs.ControllerRead.{hear-refines}
@@ -75,7 +75,7 @@ module _ (sys : System) (small : Small sys) (s : Machine) (inv : Inv sys s) wher
         (λ p. mapO-cond seen (eqb d sendNumber) _ _ _ _ (λ q. send-refines sys small s inv i h)
         (λ q. mapO-cond seen (eqb d answerNumber) _ _ _ _ (λ r. answer-refines sys small s inv i h)
         (λ r.
-        let other = may-read (sys .workers) (suc i) d may p q r in
+        let other = reads-other (sys .workers) (suc i) d may p q r in
         read-refines i d h (other .0) (other .1))))
 
     -- a worker takes its turn

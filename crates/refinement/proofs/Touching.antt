@@ -1,5 +1,5 @@
 -- Treating a label in memory goes over the labels one by one, and each loses and is deleted as document 01 words it.
-use Prim.Native.Nat.{ℕ, zero, suc, _+_, _-_, _<_, _≤_}
+use Prim.Native.Nat.{ℕ, suc, _+_, _-_, _<_, _≤_}
 use mathlib.Core.Bool.{Bool, true, false, cond, _&&_}
 use mathlib.Core.List.{List, [], _∷_}
 use mathlib.Core.Path.{_≡_, refl, sym, _∙_, ap, subst}
@@ -28,7 +28,7 @@ use Rattle.refinement.proofs.Growing.{Both, both-none, both-more, both-
 use Rattle.refinement.specs.Inv.{Small}
 use Rattle.index.specs.Index.{Paired}
 use Rattle.refinement.proofs.Labelwise.{own-row, Shows}
-use Rattle.refinement.proofs.Walking.{loop, walk}
+use Rattle.refinement.proofs.Walking.{loop, walk, is-loop}
 
 module _ (sys : System) (i y w : ℕ) where
   -- the step at one label
@@ -36,32 +36,26 @@ module _ (sys : System) (i y w : ℕ) where
   touchLabelM x v m =
       cond (eqb (sys .owner x) (suc i)) (cond (sys .net .linked x y) (touchM sys i y w x v m) m) m
 
-  idle-loop : (n : ℕ) (m : Mem) → loop (λ v m. m) n m ≡ m
-  idle-loop zero m = refl
-  idle-loop (suc n) m = idle-loop n m
-
-  values-loop : (x n : ℕ) (m : Mem) → touchValuesM sys i y w x n m ≡ loop (touchM sys i y w x) n m
-  unfolding touchValuesM
-  values-loop x zero m = refl
-  values-loop x (suc n) m = ap (touchM sys i y w x n) (values-loop x n m)
+  idle-loop : (n : ℕ) (m : Mem) → m ≡ loop (λ v m. m) n m
+  idle-loop = is-loop (λ v m. m) (λ n m. m) (λ m. refl) (λ n m. refl)
 
   variable-loop : (x : ℕ) (m : Mem) → touchVariableM sys i y w x m ≡ loop (touchLabelM x) (sys .net .size x) m
-  unfolding touchVariableM
+  unfolding touchVariableM touchValuesM
   variable-loop x m = go (eqb (sys .owner x) (suc i)) (sys .net .linked x y)
     where
       go : (a b : Bool)
           → cond a (cond b (touchValuesM sys i y w x (sys .net .size x) m) m) m
           ≡ loop (λ v m. cond a (cond b (touchM sys i y w x v m) m) m) (sys .net .size x) m
-      go true true = values-loop x (sys .net .size x) m
-      go true false = sym (idle-loop (sys .net .size x) m)
-      go false b = sym (idle-loop (sys .net .size x) m)
+      go true true = is-loop (touchM sys i y w x) (touchValuesM sys i y w x) (λ m. refl) (λ n m. refl) (sys .net .size x) m
+      go true false = idle-loop (sys .net .size x) m
+      go false b = idle-loop (sys .net .size x) m
 
   -- the two loops are a walk over the labels
   pub touch-walk : (n : ℕ) (m : Mem) → touchVariablesM sys i y w n m ≡ walk (sys .net) touchLabelM n m
   unfolding touchVariablesM
-  touch-walk zero m = refl
-  touch-walk (suc n) m =
-      variable-loop n (touchVariablesM sys i y w n m) ∙ ap (loop (touchLabelM n) (sys .net .size n)) (touch-walk n m)
+  touch-walk =
+      is-loop (λ x. loop (touchLabelM x) (sys .net .size x)) (touchVariablesM sys i y w) (λ m. refl)
+      (λ x m. variable-loop x (touchVariablesM sys i y w x m))
 
   -- ---- one label
 

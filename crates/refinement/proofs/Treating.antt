@@ -9,7 +9,7 @@ use native.Mathlib.Omega.{arith}
 use borrow.Author.Tests.{lt-ltb, le-ltb}
 use lib.Dec.{eqb}
 use lib.ListN.{length}
-use Rattle.base.proofs.Bools.{clash, refuted, and-left, and-right, and-false-left, and-false-right}
+use Rattle.base.proofs.Bools.{clash, refuted, and-left, and-right, and-false-left, and-true, and-never}
 use Rattle.base.proofs.Choice.{cond-true, cond-false}
 use Rattle.base.specs.Choice.{update}
 use Rattle.network.proofs.DomainSize.{domainSize}
@@ -145,12 +145,8 @@ module _ (sys : System) (small : Small sys) (s : Machine) (inv : Inv sys s) (i :
   domain-after x v = go (loaded (sys .net) x v) refl
     where
       kept : (b : Bool) (d : ℕ) → eqb (cond b 0 d) LISTED ≡ eqb d LISTED && not b
-      kept true d = sym (and-false-right (eqb d LISTED) refl)
-      kept false d = all (eqb d LISTED)
-        where
-          all : (c : Bool) → c ≡ c && true
-          all true = refl
-          all false = refl
+      kept true d = sym (and-never (eqb d LISTED))
+      kept false d = sym (and-true (eqb d LISTED) refl)
 
       go : (b : Bool) → loaded (sys .net) x v ≡ b
           → eqb (treatedM DOMAIN x v) LISTED ≡ eqb (m DOMAIN x v) LISTED && not (deletes sys (suc i) a st x v)
