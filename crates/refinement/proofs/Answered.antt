@@ -96,10 +96,7 @@ module _ (sys : System) (small : Small sys) (s : Machine) (inv : Inv sys s) (i :
         ∙ replied
         ∙ ap (λ (l : List Message). l ++ (reply (held .number) ∷ [])) (sym (at-out sys (rowsOf m t) i h)))
         other-channels;
-    timestamp = refl;
-    pollOpen = refl;
-    marked = λ k. refl;
-    closed = refl;
+    controller = refl;
   })
     where
       here : heldAt m′ i ≡ none

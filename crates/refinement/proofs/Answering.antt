@@ -19,7 +19,7 @@ use Rattle.cells.specs.Memory.{Mem}
 use Rattle.messages.specs.Messages.{answerM, answeredM}
 use Rattle.cells.specs.View.{LISTMARK}
 use Rattle.refinement.proofs.Capacity.{risen}
-use Rattle.refinement.proofs.Frame.{OnlyRow, Answered, row-action, follows-itself}
+use Rattle.refinement.proofs.Frame.{OnlyRow, Answered, worker-action}
 use Rattle.refinement.specs.Inv.{Row, Polled, Replied, Totals, Inv}
 use Rattle.refinement.proofs.Outgoing.{Put, put-lists, put-counted, put-heard}
 
@@ -157,8 +157,7 @@ module _ (sys : System) (m : Mem) (t : Tally) (i : ℕ) (inv : Inv sys (record {
 
   answered-keeps : Inv sys (record { mem = answeredM i m; tally = t })
   answered-keeps =
-      row-action sys (record { mem = m; tally = t }) (record { mem = answeredM i m; tally = t }) i inv (only-row i m)
-      (follows-itself m t (inv .polled)) row totals answered (inv .marks)
+      worker-action sys (record { mem = m; tally = t }) (answeredM i m) i inv (only-row i m) row totals answered
 
 -- answering keeps the invariant
 pub answer-keeps : (sys : System) (m m′ : Mem) (t : Tally) (i : ℕ) → Inv sys (record { mem = m; tally = t })

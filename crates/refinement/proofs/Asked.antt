@@ -69,10 +69,12 @@ module _ (sys : System) (small : Small sys) (s : Machine) (inv : Inv sys s) wher
     held = held-same sys m m′ kept;
     listCounter = λ k. refl;
     channel = channels-broadcast sys (rowsOf m t) (rowsOf m′ t′) 0 _ (omega arith) to stays;
-    timestamp = add-one (t .timestamp .0);
-    pollOpen = refl;
-    marked = λ k. and-false-right (isWorker sys k) (bit-past 0 0 (k - 1) (omega arith) (omega arith));
-    closed = refl;
+    controller = λ ι. record {
+      timestamp = add-one (t .timestamp .0) ι;
+      pollOpen = true;
+      marked = λ k. and-false-right (isWorker sys k) (bit-past 0 0 (k - 1) (omega arith) (omega arith)) ι;
+      closed = t .closed;
+    };
   })
     where
       kept : (i : ℕ) → i < sys .workers → heldAt m′ i ≡ heldAt m i

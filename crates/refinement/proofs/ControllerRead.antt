@@ -66,10 +66,7 @@ module _ (sys : System) (small : Small sys) (s : Machine) (inv : Inv sys s) (i :
   record Told (t′ : Tally) (lists : ℕ → ℕ) (c : Controller) : Type 0 where
     pub listCounter : (k : ℕ) → viewLists sys m t′ k ≡ lists k
     pub timestamp : t′ .timestamp .0 ≡ t .timestamp .0
-    pub unchanged : c .timestamp ≡ t .timestamp .0
-    pub pollOpen : t′ .polling ≡ c .pollOpen
-    pub marked : (k : ℕ) → isWorker sys k && bit (t′ .marks) (k - 1) ≡ c .marked k
-    pub closed : t′ .closed ≡ c .closed
+    pub controller : view sys m t′ .controller ≡ c
 
   abbrev after : (ℕ → ℕ) → Controller → State
   after lists c = record {
@@ -94,10 +91,7 @@ module _ (sys : System) (small : Small sys) (s : Machine) (inv : Inv sys s) (i :
     listCounter = told .listCounter;
     channel = channels-update sys (rowsOf m t) (rowsOf m′ t′) (suc i) 0 (viewOut m′ i)
         (at-out sys (rowsOf m′ t′) i h) (other-channels t′ (told .timestamp));
-    timestamp = told .timestamp ∙ sym (told .unchanged);
-    pollOpen = told .pollOpen;
-    marked = told .marked;
-    closed = told .closed;
+    controller = told .controller;
   })
 
   -- a list message
@@ -107,10 +101,7 @@ module _ (sys : System) (small : Small sys) (s : Machine) (inv : Inv sys s) (i :
       heard-view (countedT t) _ _ (record {
         listCounter = λ k. one-more (eqb k 0) (atActor sys (λ j. m WORKERS j LISTS) 0 k);
         timestamp = refl;
-        unchanged = refl;
-        pollOpen = refl;
-        marked = λ k. refl;
-        closed = refl;
+        controller = refl;
       })
     where
       one-more : (b : Bool) (n : ℕ)
@@ -125,10 +116,7 @@ module _ (sys : System) (small : Small sys) (s : Machine) (inv : Inv sys s) (i :
       heard-view t _ _ (record {
         listCounter = λ k. refl;
         timestamp = refl;
-        unchanged = refl;
-        pollOpen = refl;
-        marked = λ k. refl;
-        closed = refl;
+        controller = refl;
       })
 
   -- the workers marked by a row of bits
@@ -168,10 +156,12 @@ module _ (sys : System) (small : Small sys) (s : Machine) (inv : Inv sys s) (i :
       heard-view (markedT (sys .workers) i t) _ _ (record {
         listCounter = λ k. refl;
         timestamp = refl;
-        unchanged = refl;
-        pollOpen = refl;
-        marked = marked-more;
-        closed = closed-full;
+        controller = λ ι. record {
+          timestamp = t .timestamp .0;
+          pollOpen = t .polling;
+          marked = λ k. marked-more k ι;
+          closed = closed-full ι;
+        };
       })
 
   -- the oldest message to the controller

@@ -220,7 +220,7 @@ pub record Follows (m : Mem) (t t′ : Tally) : Type 0 where
   pub polled : Polled m t′
   pub replied : (i : ℕ) → Replied m t i → Replied m t′ i
 
--- an action of a worker leaves the tally as it is
+-- as a tally does itself
 pub follows-itself : (m : Mem) (t : Tally) → Polled m t → Follows m t t
 follows-itself m t p = record { later = omega arith; polled = p; replied = λ i r. r }
 
@@ -248,3 +248,10 @@ row-action sys s s′ i inv only next row totals answered marks = record {
   paired = paired-kept (s .mem) (s′ .mem) sys (only .heads) (inv .paired);
   marks = marks;
 }
+
+-- an action of a worker leaves the tally as it is
+pub worker-action : (sys : System) (s : Machine) (m : Mem) (i : ℕ) → Inv sys s → OnlyRow (s .mem) m i → Row sys m (s .tally) i
+    → Totals sys m (s .tally) → Answered m (s .tally) i → Inv sys (record { mem = m; tally = s .tally })
+worker-action sys s m i inv only row totals answered =
+    row-action sys s (record { mem = m; tally = s .tally }) i inv only (follows-itself (s .mem) (s .tally) (inv .polled)) row
+    totals answered (inv .marks)

@@ -3,7 +3,7 @@ use Prim.Native.Nat.{ℕ, suc, _+_, _-_, _<_, _≤_}
 use mathlib.Core.Bool.{Bool, true, false, cond, _&&_, not}
 use mathlib.Core.List.{List, [], _∷_, _++_}
 use mathlib.Core.Option.{none}
-use mathlib.Core.Path.{_≡_, refl, sym, _∙_, ap, subst}
+use mathlib.Core.Path.{_≡_, refl, sym, _∙_, ap}
 use native.Mathlib.Omega.{arith}
 use borrow.Author.Tests.{eqb-true}
 use lib.Dec.{eqb}
@@ -34,7 +34,7 @@ use Rattle.refinement.specs.Inv.{Small}
 use Rattle.index.specs.Index.{Paired}
 use Rattle.refinement.proofs.Grown.{lettersQueue, outQueue, pollsQueue}
 use Rattle.refinement.proofs.LabelLoad.{load-walk, load-apart, load-shows, load-both}
-use Rattle.refinement.proofs.Labelwise.{unloaded-apart, Shows, shows-start, walk-apart, walk-shows, walk-both}
+use Rattle.refinement.proofs.Labelwise.{unloaded-apart, Shows, walk-apart, walk-shows, walk-both}
 use Rattle.refinement.proofs.Queue.{queue-none}
 use Rattle.refinement.proofs.Unmoved.{Unmoved}
 
@@ -64,19 +64,14 @@ module _ (sys : System) (small : Small sys) (z : Mem) (paired : Paired sys z) (b
   pub loaded-apart : (r a b : ℕ)
       → ((x v : ℕ) → x < sys .net .variables → v < sys .net .size x → Apart sys z (sys .owner x - 1) x v r a b)
       → loadM sys z r a b ≡ z r a b
-  loaded-apart r a b p =
-      ap (λ (m : Mem). m r a b) (load-walk sys z)
-      ∙ walk-apart sys small (loadLabelM sys) (λ x. sys .owner x - 1) local z paired r a b p
+  loaded-apart = walk-apart sys small (loadLabelM sys) (λ x. sys .owner x - 1) local z paired n (load-walk sys z)
 
   -- each label's own cells
   pub loaded-shows : (x v : ℕ) → x < sys .net .variables → v < sys .net .size x
       → Shows sys z x v (cond (unsupported (sys .net) x v) 0 LISTED) (supportCount (sys .net) x v) (loadM sys z)
   loaded-shows x v h l =
-      subst (Shows sys z x v (cond (unsupported (sys .net) x v) 0 LISTED) (supportCount (sys .net) x v))
-      (sym (load-walk sys z))
-      (walk-shows sys small (loadLabelM sys) (λ x. sys .owner x - 1) local z paired x v (z DOMAIN x v)
-      (cond (unsupported (sys .net) x v) 0 LISTED) (λ y. z COUNTERS (counterRow z x y) v) (supportCount (sys .net) x v) h l
-      (load-shows sys x v small z paired h l (z DOMAIN x v) (λ y. z COUNTERS (counterRow z x y) v)) (shows-start sys z x v))
+      walk-shows sys small (loadLabelM sys) (λ x. sys .owner x - 1) local z paired n (load-walk sys z) x v _ _ h l
+      (load-shows sys x v small z paired h l (z DOMAIN x v) (λ y. z COUNTERS (counterRow z x y) v))
 
   -- a row deletes at most as many labels as were loaded
   few-deleted : (i : ℕ) → i < sys .workers → length (loadedDeletions sys (suc i)) ≤ 512
@@ -93,12 +88,11 @@ module _ (sys : System) (small : Small sys) (z : Mem) (paired : Paired sys z) (b
   pub loaded-both : (i : ℕ) → i < sys .workers → Both sys i z (loadM sys z) (loadedDeletions sys (suc i))
   unfolding loadedDeletions labelsWhere
   loaded-both i h =
-      subst (λ m. Both sys i z m (loadedDeletions sys (suc i))) (sym (load-walk sys z))
-      (walk-both sys small (loadLabelM sys) (λ x. sys .owner x - 1) local z paired i
+      walk-both sys small (loadLabelM sys) (λ x. sys .owner x - 1) local z paired n (load-walk sys z) i
       (λ x v. cond (eqb (sys .owner x) (suc i) && unsupported (sys .net) x v) (label x v ∷ []) [])
       (λ x v k l m s. load-both sys x v small z paired k l i m)
       (omega (arith, blank WORKERS i LOGEND (omega arith), few-deleted i h))
-      (omega (arith, blank WORKERS i TAIL (omega arith), few-deleted i h)))
+      (omega (arith, blank WORKERS i TAIL (omega arith), few-deleted i h))
 
   -- what else the view shows stays
   pub loaded-unmoved : Unmoved z (loadM sys z)

@@ -66,10 +66,7 @@ module _ (sys : System) (small : Small sys) (s : Machine) (inv : Inv sys s) (i :
     listCounter = λ k. refl;
     channel = channels-update sys (rowsOf m t) (rowsOf m′ t) 0 (suc i) (viewPolls m′ t i)
         (at-polls sys (rowsOf m′ t) i h) other-channels;
-    timestamp = refl;
-    pollOpen = refl;
-    marked = λ k. refl;
-    closed = refl;
+    controller = refl;
   })
     where
       here : heldAt m′ i ≡ some newest

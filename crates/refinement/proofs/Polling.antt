@@ -19,7 +19,7 @@ use Rattle.cells.specs.Memory.{Mem, store}
 use Rattle.messages.specs.Messages.{readPollM}
 use Rattle.controller.specs.Controller.{askM, askedT, asksT}
 use Rattle.controller.specs.Controller.{Machine, pollM}
-use Rattle.refinement.proofs.Frame.{OnlyRow, row-action, row-kept, totals-kept, paired-kept, follows-itself}
+use Rattle.refinement.proofs.Frame.{OnlyRow, row-kept, totals-kept, paired-kept, worker-action}
 use Rattle.refinement.specs.Inv.{Row, Polled, Replied, Totals, Inv}
 
 -- ---- a worker reads a poll
@@ -94,8 +94,8 @@ module _ (sys : System) (m : Mem) (t : Tally) (i : ℕ) (inv : Inv sys (record {
 
   held-keeps : Inv sys (record { mem = heldM i m; tally = t })
   held-keeps =
-      row-action sys (record { mem = m; tally = t }) (record { mem = heldM i m; tally = t }) i inv only-row
-      (follows-itself m t (inv .polled)) row totals (⊎-elim inl (λ r. inr (replied r)) (inv .replied i h)) (inv .marks)
+      worker-action sys (record { mem = m; tally = t }) (heldM i m) i inv only-row row totals
+      (⊎-elim inl (λ r. inr (replied r)) (inv .replied i h))
 
 -- reading a poll keeps the invariant
 pub read-poll-keeps : (sys : System) (m m′ : Mem) (t : Tally) (i : ℕ) → Inv sys (record { mem = m; tally = t })

@@ -21,7 +21,7 @@ use Rattle.cells.specs.View.{listAt, labelsBetween, LISTED}
 use Rattle.messages.specs.Messages.{letterStart, letterEnd, takenM, readListM}
 use Rattle.controller.specs.Controller.{Machine}
 use Rattle.refinement.proofs.Capacity.{letter-room, bound-logged}
-use Rattle.refinement.proofs.Frame.{OnlyRow, Answered, row-action, row-grown, follows-itself, lists-out-kept, logged-kept, heard-kept}
+use Rattle.refinement.proofs.Frame.{OnlyRow, Answered, row-grown, lists-out-kept, logged-kept, heard-kept, worker-action}
 use Rattle.refinement.proofs.Growing.{Grown, grown-copy, labels-length}
 use Rattle.refinement.specs.Inv.{Row, Totals, Inv, Small}
 
@@ -224,8 +224,7 @@ module _ (sys : System) (m : Mem) (t : Tally) (j i : ℕ) (inv : Inv sys (record
 
   taken-keeps : Inv sys (record { mem = takenM j i m; tally = t })
   taken-keeps =
-      row-action sys (record { mem = m; tally = t }) (record { mem = takenM j i m; tally = t }) i inv
-      (only-row j i m) (follows-itself m t (inv .polled)) row totals answered (inv .marks)
+      worker-action sys (record { mem = m; tally = t }) (takenM j i m) i inv (only-row j i m) row totals answered
 
 -- reading a list message keeps the invariant
 pub read-list-keeps : (sys : System) → Small sys → (m m′ : Mem) (t : Tally) (j i : ℕ)

@@ -51,10 +51,7 @@ pub record Same (s s′ : State) : Type 0 where
   pub held : (k : ℕ) → s .held k ≡ s′ .held k
   pub listCounter : (k : ℕ) → s .listCounter k ≡ s′ .listCounter k
   pub channel : (j k : ℕ) → s .channel j k ≡ s′ .channel j k
-  pub timestamp : s .controller .timestamp ≡ s′ .controller .timestamp
-  pub pollOpen : s .controller .pollOpen ≡ s′ .controller .pollOpen
-  pub marked : (k : ℕ) → s .controller .marked k ≡ s′ .controller .marked k
-  pub closed : s .controller .closed ≡ s′ .controller .closed
+  pub controller : s .controller ≡ s′ .controller
 
 -- they are one state
 pub same-state : (s s′ : State) → Same s s′ → s ≡ s′
@@ -66,12 +63,7 @@ same-state s s′ e = λ i. record {
   held = fun-ext (e .held) i;
   listCounter = fun-ext (e .listCounter) i;
   channel = fun-ext (λ j. fun-ext (e .channel j)) i;
-  controller = record {
-    timestamp = e .timestamp i;
-    pollOpen = e .pollOpen i;
-    marked = fun-ext (e .marked) i;
-    closed = e .closed i;
-  };
+  controller = e .controller i;
 }
 
 -- a choice between two results, part by part

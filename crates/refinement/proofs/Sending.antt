@@ -18,7 +18,7 @@ use Rattle.cells.specs.Layout.{WORKERS, CURSORS, BOUNDS, OUT, LOGEND, SENDS, LI
 use Rattle.cells.specs.Memory.{Mem}
 use Rattle.messages.specs.Messages.{sendM, sentM}
 use Rattle.cells.specs.View.{LISTMARK}
-use Rattle.refinement.proofs.Frame.{OnlyRow, Answered, row-action, follows-itself}
+use Rattle.refinement.proofs.Frame.{OnlyRow, Answered, worker-action}
 use Rattle.refinement.specs.Inv.{Row, Totals, Inv}
 use Rattle.refinement.proofs.Outgoing.{Put, put-lists, put-counted, put-heard}
 
@@ -140,8 +140,7 @@ module _ (sys : System) (m : Mem) (t : Tally) (i : ℕ) (inv : Inv sys (record {
 
   sent-keeps : Inv sys (record { mem = sentM i m; tally = t })
   sent-keeps =
-      row-action sys (record { mem = m; tally = t }) (record { mem = sentM i m; tally = t }) i inv (only-row i m)
-      (follows-itself m t (inv .polled)) row totals answered (inv .marks)
+      worker-action sys (record { mem = m; tally = t }) (sentM i m) i inv (only-row i m) row totals answered
 
 -- sending keeps the invariant
 pub send-keeps : (sys : System) (m m′ : Mem) (t : Tally) (i : ℕ) → Inv sys (record { mem = m; tally = t })

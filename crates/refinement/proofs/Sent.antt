@@ -110,10 +110,7 @@ module _ (sys : System) (small : Small sys) (s : Machine) (inv : Inv sys s) (i :
         (λ j hj n. update-other (λ j. m WORKERS j LISTS) i (m WORKERS i LISTS + 1) j n);
     channel = channels-broadcast sys (rowsOf m t) (rowsOf (sentM i m) t) (suc i) (list (viewSend sys m (suc i))) h
         sent-to not-sent;
-    timestamp = refl;
-    pollOpen = refl;
-    marked = λ k. refl;
-    closed = refl;
+    controller = refl;
   })
     where
       all-sent : sendOf (sentM i m) i ≡ []

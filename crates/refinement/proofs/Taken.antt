@@ -97,10 +97,7 @@ module _ (sys : System) (small : Small sys) (s : Machine) (inv : Inv sys s) (j i
           (λ k hk n. column j i m k LISTS (omega arith) (λ e x. n e));
       channel = channels-update sys (rowsOf m t) (rowsOf m′ t) (suc j) (suc i) (viewLetters m′ j i)
           (at-letters sys (rowsOf m′ t) j i hj hi apart) other-channels;
-      timestamp = refl;
-      pollOpen = refl;
-      marked = λ k. refl;
-      closed = refl;
+      controller = refl;
     })
 
     -- there is room for every label of the list message

@@ -27,7 +27,7 @@ use Rattle.refinement.proofs.Frames.{Apart, delete-apart, delete-domain
 use Rattle.refinement.proofs.Growing.{Both, both-none, both-more, both-delete}
 use Rattle.refinement.specs.Inv.{Small}
 use Rattle.index.specs.Index.{Paired}
-use Rattle.refinement.proofs.Labelwise.{own-row, Shows}
+use Rattle.refinement.proofs.Labelwise.{own-row, Shows, As}
 use Rattle.refinement.proofs.Walking.{loop, walk, is-loop}
 
 module _ (sys : System) (i y w : ℕ) where
@@ -127,9 +127,6 @@ module _ (sys : System) (i y w : ℕ) where
       abbrev counterOf : ℕ → ℕ
       counterOf y′ = m₀ COUNTERS (counterRow m₀ x y′) v
 
-      abbrev As : Mem → Type 0
-      As m = Shows sys m₀ x v (m₀ DOMAIN x v) counterOf m
-
       abbrev lowered-to : ℕ
       lowered-to = counterOf y - 1
 
@@ -140,12 +137,12 @@ module _ (sys : System) (i y w : ℕ) where
           (store m COUNTERS (counterRow m₀ x y) v lowered-to))
           m
 
-      same-loses : (m : Mem) → As m → losesIn m x v ≡ losesIn m₀ x v
+      same-loses : (m : Mem) → As sys m₀ x v m → losesIn m x v ≡ losesIn m₀ x v
       unfolding loses view
       same-loses m s =
           ap (λ (d : ℕ). eqb (sys .owner x) (suc i) && eqb d LISTED && supports (sys .net) x v y w) (s .domain)
 
-      touch-is : (m : Mem) → As m → touchLabelM x v m ≡ outcome (losesIn m₀ x v) (eqb lowered-to 0) m
+      touch-is : (m : Mem) → As sys m₀ x v m → touchLabelM x v m ≡ outcome (losesIn m₀ x v) (eqb lowered-to 0) m
       touch-is m s =
           touch-loses x v m
           ∙ ap (λ (b : Bool). cond b (loseM i x v y m) m) (same-loses m s)
@@ -181,7 +178,7 @@ module _ (sys : System) (i y w : ℕ) where
       deletes-when false e c f = ap (λ (a : Bool). a && eqb (lowered sys (suc i) (label y w) st x v y) 0) e
 
       -- the label's domain cell and counters after its step
-      pub touch-shows : (m : Mem) → As m
+      pub touch-shows : (m : Mem) → As sys m₀ x v m
           → Shows sys m₀ x v (cond (deletes sys (suc i) (label y w) st x v) 0 (m₀ DOMAIN x v))
           (lowered sys (suc i) (label y w) st x v) (touchLabelM x v m)
       touch-shows m s =
@@ -232,7 +229,7 @@ module _ (sys : System) (i y w : ℕ) where
           }
 
       -- it is appended to the lists of row `i` exactly if it is deleted
-      pub touch-both : (m : Mem) → As m
+      pub touch-both : (m : Mem) → As sys m₀ x v m
           → m WORKERS i LOGEND + length (cond (deletes sys (suc i) (label y w) st x v) (label x v ∷ []) []) ≤ 512
           → m WORKERS i TAIL + length (cond (deletes sys (suc i) (label y w) st x v) (label x v ∷ []) []) ≤ 512
           → Both sys i m (touchLabelM x v m) (cond (deletes sys (suc i) (label y w) st x v) (label x v ∷ []) [])

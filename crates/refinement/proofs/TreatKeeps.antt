@@ -25,7 +25,7 @@ use Rattle.cells.specs.Memory.{Mem, store}
 use Rattle.controller.specs.Controller.{Machine}
 use Rattle.counters.specs.Treat.{treatM}
 use Rattle.cells.specs.View.{LISTED, labelOf, view}
-use Rattle.refinement.proofs.Frame.{OnlyRow, Answered, row-action, follows-itself, lists-out-kept, heard-kept}
+use Rattle.refinement.proofs.Frame.{OnlyRow, Answered, lists-out-kept, heard-kept, worker-action}
 use Rattle.refinement.proofs.Growing.{Both, both-none, both-more}
 use Rattle.refinement.specs.Inv.{Small, Inv, Row, Totals}
 use Rattle.refinement.proofs.Treating.{treatedM, treated-apart, treated-both, treated-unmoved, head-after, other-row, domain-after, heads-after, treat-busy, treat-idle}
@@ -142,9 +142,7 @@ module _ (sys : System) (small : Small sys) (s : Machine) (inv : Inv sys s) (i :
       (λ p. absurd (omega (arith, p .no-work))) (inv .replied i h)
 
   inv-after : Inv sys (record { mem = n; tally = t })
-  inv-after =
-      row-action sys s (record { mem = n; tally = t }) i inv only-row (follows-itself m t (inv .polled)) row totals answered
-      (inv .marks)
+  inv-after = worker-action sys s n i inv only-row row totals answered
 
 -- treating keeps the invariant
 pub treat-keeps : (sys : System) → Small sys → (s : Machine) → Inv sys s → (i : ℕ) → i < sys .workers → (m′ : Mem)

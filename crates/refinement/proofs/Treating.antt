@@ -34,7 +34,7 @@ use Rattle.refinement.proofs.Frames.{Apart}
 use Rattle.refinement.proofs.Growing.{labels-first, labels-none, Both, labels-same}
 use Rattle.refinement.specs.Inv.{Small, Inv}
 use Rattle.index.specs.Index.{Paired}
-use Rattle.refinement.proofs.Labelwise.{unloaded-apart, Shows, shows-start, walk-apart, walk-shows, walk-both}
+use Rattle.refinement.proofs.Labelwise.{unloaded-apart, Shows, walk-apart, walk-shows, walk-both}
 use Rattle.refinement.proofs.Seen.{workOf, sendOf}
 use Rattle.refinement.proofs.Touching.{touchLabelM, touch-walk, touch-apart, touch-shows, touch-both}
 use Rattle.refinement.proofs.Unmoved.{Unmoved, held-kept, lists-kept, channel-kept, same-bound}
@@ -85,20 +85,15 @@ module _ (sys : System) (small : Small sys) (s : Machine) (inv : Inv sys s) (i :
   pub treated-apart : (r b c : ℕ)
       → ((x v : ℕ) → x < sys .net .variables → v < sys .net .size x → Apart sys taken i x v r b c)
       → treatedM r b c ≡ taken r b c
-  treated-apart r b c p =
-      ap (λ (n : Mem). n r b c) walked ∙ walk-apart sys small step (λ x. i) local taken paired r b c p
+  treated-apart = walk-apart sys small step (λ x. i) local taken paired treatedM walked
 
   -- each label's own cells
   pub treated-shows : (x v : ℕ) → x < sys .net .variables → v < sys .net .size x
       → Shows sys taken x v (cond (deletes sys (suc i) a st x v) 0 (m DOMAIN x v)) (lowered sys (suc i) a st x v) treatedM
   unfolding step deletes lowered loses view viewCounter counterRow
   treated-shows x v k l =
-      subst (Shows sys taken x v (cond (deletes sys (suc i) a st x v) 0 (m DOMAIN x v)) (lowered sys (suc i) a st x v))
-      (sym walked)
-      (walk-shows sys small step (λ x. i) local taken paired x v (m DOMAIN x v)
-      (cond (deletes sys (suc i) a st x v) 0 (m DOMAIN x v)) (λ y. taken COUNTERS (counterRow taken x y) v)
-      (lowered sys (suc i) a st x v) k l
-      (touch-shows sys i (a .variable) (a .value) t small taken paired x v k l) (shows-start sys taken x v))
+      walk-shows sys small step (λ x. i) local taken paired treatedM walked x v _ _ k l
+      (touch-shows sys i (a .variable) (a .value) t small taken paired x v k l)
 
   -- as many labels are deleted as there is room for
   deleted-size : length (deletions sys (suc i) a st) ≤ domainSize (sys .net) (st .domain)
@@ -112,11 +107,10 @@ module _ (sys : System) (small : Small sys) (s : Machine) (inv : Inv sys s) (i :
   pub treated-both : Both sys i taken treatedM (deletions sys (suc i) a st)
   unfolding step deletions labelsWhere deletes lowered loses view viewCounter counterRow
   treated-both =
-      subst (λ n. Both sys i taken n (deletions sys (suc i) a st)) (sym walked)
-      (walk-both sys small step (λ x. i) local taken paired i
+      walk-both sys small step (λ x. i) local taken paired treatedM walked i
       (λ x v. cond (deletes sys (suc i) a st x v) (label x v ∷ []) [])
       (λ x v k l n. touch-both sys i (a .variable) (a .value) t small taken paired x v k l n)
-      (room LOGEND (log-room sys small s inv i h)) (room TAIL (tail-room sys small s inv i h)))
+      (room LOGEND (log-room sys small s inv i h)) (room TAIL (tail-room sys small s inv i h))
 
   -- nothing else that the view shows has changed
   pub treated-unmoved : Unmoved m treatedM
