@@ -10,6 +10,10 @@ use lib.Dec.{leb, eqb}
 use Rattle.base.proofs.Bools.{and-left, and-right, and-intro, and-false-left, and-false-right}
 use Rattle.base.specs.Choice.{update, update₂, between}
 
+-- what holds at one number and at every other, holds at each
+pub everywhere : (P : ℕ → Type 0) (i : ℕ) → P i → ((k : ℕ) → (k ≡ i → ⊥) → P k) → (k : ℕ) → P k
+everywhere P i here there k = elim (ℕ-discrete k i) [ yes e ↦ subst P (sym e) here | no n ↦ there k n ]
+
 module _ {ℓ} {A : Type ℓ} where
   -- what is chosen where the test holds
   pub cond-true : {b : Bool} (x y : A) → b ≡ true → cond b x y ≡ x
@@ -58,11 +62,8 @@ module _ {ℓ} {A : Type ℓ} where
   -- what holds at the place that was changed and at every other, holds everywhere
   pub update-each : (P : ℕ → A → Type 0) (f : ℕ → A) (i : ℕ) (v : A) → P i v
       → ((j : ℕ) → (j ≡ i → ⊥) → P j (f j)) → (j : ℕ) → P j (update f i v j)
-  update-each P f i v here there j =
-      elim (ℕ-discrete j i) [
-        | yes e ↦ rw (e, update-same f i v) here
-        | no n ↦ rw (update-other f i v j n) (there j n)
-      ]
+  update-each P f i v here there =
+      everywhere (λ j. P j (update f i v j)) i (rw (update-same f i v) here) (λ j n. rw (update-other f i v j n) (there j n))
 
   -- the same for a function of two numbers
   pub update₂-each : (P : ℕ → ℕ → A → Type 0) (f : ℕ → ℕ → A) (i k : ℕ) (v : A) → P i k v
@@ -75,10 +76,6 @@ module _ {ℓ} {A : Type ℓ} where
         ]
         | no n ↦ rw (update₂-first f i k v j l n) (there j l (λ p q. n p))
       ]
-
--- what holds at one number and at every other, holds at each
-pub everywhere : (P : ℕ → Type 0) (i : ℕ) → P i → ((k : ℕ) → (k ≡ i → ⊥) → P k) → (k : ℕ) → P k
-everywhere P i here there k = elim (ℕ-discrete k i) [ yes e ↦ subst P (sym e) here | no n ↦ there k n ]
 
 -- nothing is not a result
 pub none≢some {ℓ κ} : {A : Type ℓ} {B : Type κ} {a : A} → none ≡ some a → B

@@ -48,6 +48,12 @@ same = record { static = λ r i j h. refl }
 then : {m n o : Mem} → Kept m n → Kept n o → Kept m o
 then p q = record { static = λ r i j h. q .static r i j h ∙ p .static r i j h }
 
+-- what each step keeps, all of them do
+repeated : (F : ℕ → Mem → Mem) → ((m : Mem) → Kept m (F 0 m)) → ((n : ℕ) (m : Mem) → Kept (F n m) (F (suc n) m)) → (n : ℕ)
+    (m : Mem) → Kept m (F n m)
+repeated F start more zero m = start m
+repeated F start more (suc n) m = then (repeated F start more n m) (more n m)
+
 either : (t : Bool) {m n o : Mem} → Kept m n → Kept m o → Kept m (cond t n o)
 either true p q = p
 either false p q = q
@@ -84,8 +90,8 @@ module _ (sys : System) (i y w : ℕ) where
 
   pub touch-values-kept : (x n : ℕ) (m : Mem) → Kept m (touchValuesM sys i y w x n m)
   unfolding touchValuesM
-  touch-values-kept x zero m = same
-  touch-values-kept x (suc n) m = then (touch-values-kept x n m) (touch-kept x n (touchValuesM sys i y w x n m))
+  touch-values-kept x =
+      repeated (touchValuesM sys i y w x) (λ m. same) (λ n m. touch-kept x n (touchValuesM sys i y w x n m))
 
   pub touch-variable-kept : (x : ℕ) (m : Mem) → Kept m (touchVariableM sys i y w x m)
   unfolding touchVariableM
@@ -94,8 +100,8 @@ module _ (sys : System) (i y w : ℕ) where
 
   pub touch-variables-kept : (n : ℕ) (m : Mem) → Kept m (touchVariablesM sys i y w n m)
   unfolding touchVariablesM
-  touch-variables-kept zero m = same
-  touch-variables-kept (suc n) m = then (touch-variables-kept n m) (touch-variable-kept n (touchVariablesM sys i y w n m))
+  touch-variables-kept =
+      repeated (touchVariablesM sys i y w) (λ m. same) (λ n m. touch-variable-kept n (touchVariablesM sys i y w n m))
 
 -- ---- loading
 
@@ -117,11 +123,9 @@ module _ (sys : System) (x : ℕ) where
 
   pub load-values-kept : (n : ℕ) (m : Mem) → Kept m (loadValuesM sys x n m)
   unfolding loadValuesM
-  load-values-kept zero m = same
-  load-values-kept (suc n) m = then (load-values-kept n m) (load-label-kept n (loadValuesM sys x n m))
+  load-values-kept = repeated (loadValuesM sys x) (λ m. same) (λ n m. load-label-kept n (loadValuesM sys x n m))
 
 pub load-variables-kept : (sys : System) (n : ℕ) (m : Mem) → Kept m (loadVariablesM sys n m)
 unfolding loadVariablesM
-load-variables-kept sys zero m = same
-load-variables-kept sys (suc n) m =
-    then (load-variables-kept sys n m) (load-values-kept sys n (sys .net .size n) (loadVariablesM sys n m))
+load-variables-kept sys =
+    repeated (loadVariablesM sys) (λ m. same) (λ n m. load-values-kept sys n (sys .net .size n) (loadVariablesM sys n m))
