@@ -1,7 +1,7 @@
 -- The points that deleting a label leaves alone.
 use Prim.Native.Nat.{ℕ}
-use mathlib.Core.Bool.{true}
-use mathlib.Core.Path.{_≡_, _∙_}
+use mathlib.Core.Bool.{true, Bool, false, cond}
+use mathlib.Core.Path.{_≡_, _∙_, refl}
 use native.Mathlib.Omega.{arith}
 use Rattle.disac4.specs.System.{System}
 use Rattle.cells.proofs.Stores.{store-same, store-other, push-other, Beside}
@@ -19,6 +19,10 @@ pub record Apart (sys : System) (m : Mem) (i x v r a b : ℕ) : Type 0 where
   pub log-end : r ≡ WORKERS → a ≡ i → b ≡ LOGEND → ⊥
   pub work-end : r ≡ WORKERS → a ≡ i → b ≡ TAIL → ⊥
 
+-- row `i` deletes label `v` of `x` if a test holds
+abbrev pub deleteIf : Bool → ℕ → ℕ → ℕ → Mem → Mem
+deleteIf z i x v m = cond z (deleteM i x v m) m
+
 module _ (sys : System) (i x v : ℕ) (m : Mem) where
   -- beside the two lists, deleting a label is a store
   delete-stores : (r a b : ℕ) → Beside WORK TAIL i r a b → Beside LOG LOGEND i r a b
@@ -32,6 +36,11 @@ module _ (sys : System) (i x v : ℕ) (m : Mem) where
   pub delete-apart : (n : Mem) (r a b : ℕ) → Apart sys n i x v r a b → deleteM i x v m r a b ≡ m r a b
   delete-apart n r a b h =
       delete-stores r a b (h .work, h .work-end) (h .log, h .log-end) ∙ store-other m DOMAIN x v 0 r a b (h .domain)
+
+  -- so it does where it is deleted only if a test holds
+  pub delete-if-apart : (z : Bool) (n : Mem) (r a b : ℕ) → Apart sys n i x v r a b → deleteIf z i x v m r a b ≡ m r a b
+  delete-if-apart true n r a b h = delete-apart n r a b h
+  delete-if-apart false n r a b h = refl
 
   -- the label leaves its domain
   pub delete-domain : deleteM i x v m DOMAIN x v ≡ 0

@@ -1,5 +1,6 @@
 -- A row's log or work list that has grown: its end, the labels before it, and the new ones behind them.
 use Prim.Native.Nat.{ℕ, zero, suc, _+_, _-_, _/_, _%_, _<_, _≤_}
+use mathlib.Core.Bool.{Bool, true, false, cond}
 use mathlib.Core.List.{List, [], _∷_, _++_, append-assoc, append-nil}
 use mathlib.Core.Path.{_≡_, refl, sym, _∙_, ap, ap₂, subst}
 use native.Mathlib.Decide.{ℕ-discrete}
@@ -16,6 +17,7 @@ use Rattle.cells.specs.Lists.{pushM, deleteM, copyM}
 use Rattle.cells.specs.Memory.{Mem, store}
 use Rattle.cells.specs.View.{codeOf, labelOf, labelsBetween}
 use Rattle.refinement.specs.Inv.{Code}
+use Rattle.refinement.proofs.Frames.{deleteIf}
 use Rattle.refinement.proofs.Queue.{Queue, queue, queue-same, queue-put, queue-taken, queue-none, queue-empty}
 
 -- ---- the labels of a row as a queue
@@ -190,6 +192,10 @@ pub record Both (sys : System) (i : ℕ) (m n : Mem) (l : List Label) : Type 0 w
   pub log : Grown sys LOG LOGEND i m n l
   pub work : Grown sys WORK TAIL i m n l
 
+-- where there is room, they grow by the labels `l`
+abbrev pub Appends : System → ℕ → Mem → Mem → List Label → Type 0
+Appends sys i m n l = m WORKERS i LOGEND + length l ≤ 512 → m WORKERS i TAIL + length l ≤ 512 → Both sys i m n l
+
 module _ (sys : System) (i : ℕ) where
   -- lists that stay
   pub both-none : (m n : Mem) → n WORKERS i LOGEND ≡ m WORKERS i LOGEND → n WORKERS i TAIL ≡ m WORKERS i TAIL
@@ -207,7 +213,7 @@ module _ (sys : System) (i : ℕ) where
   }
 
   -- with room, a deleted label joins both
-  pub both-delete : (m : Mem) (x v : ℕ) → x < sys .net .variables → v < sys .net .size x → v < 16
+  both-delete : (m : Mem) (x v : ℕ) → x < sys .net .variables → v < sys .net .size x → v < 16
       → m WORKERS i LOGEND < 512 → m WORKERS i TAIL < 512 → Both sys i m (deleteM i x v m) (label x v ∷ [])
   unfolding deleteM
   both-delete m x v h k l room room′ =
@@ -243,3 +249,11 @@ module _ (sys : System) (i : ℕ) where
 
       worked-other : (r b : ℕ) → Beside WORK TAIL i r i b → pushM WORK TAIL i c logged r i b ≡ logged r i b
       worked-other r b e = push-other WORK TAIL i c logged r i b e
+
+  -- a label joins both if it is deleted
+  pub appends-if : (z : Bool) (m low : Mem) (x v : ℕ) → x < sys .net .variables → v < sys .net .size x → v < 16
+      → Both sys i m low [] → Appends sys i m (deleteIf z i x v low) (cond z (label x v ∷ []) [])
+  appends-if true m low x v h k l same room room′ =
+      both-more m low (deleteM i x v low) [] (label x v ∷ []) same
+      (both-delete low x v h k l (omega (arith, same .log .end)) (omega (arith, same .work .end)))
+  appends-if false m low x v h k l same room room′ = same

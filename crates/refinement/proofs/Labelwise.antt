@@ -1,7 +1,7 @@
 -- A walk over the labels in memory whose steps each change what is their label's own and the lists of one row: the labels
 -- don't disturb one another.
-use Prim.Native.Nat.{ℕ, _+_, _-_, _<_, _≤_}
-use mathlib.Core.Bool.{true, false}
+use Prim.Native.Nat.{ℕ, _+_, _-_, _<_}
+use mathlib.Core.Bool.{true, false, Bool, cond}
 use mathlib.Core.List.{List, [], _++_}
 use mathlib.Core.Logic.{_⊎_, inl, inr}
 use mathlib.Core.Path.{_≡_, refl, sym, _∙_, ap, subst}
@@ -21,8 +21,8 @@ use Rattle.cells.specs.Memory.{Mem}
 use Rattle.cells.specs.View.{counterRow}
 use Rattle.counters.proofs.Kept.{row-heads}
 use Rattle.refinement.proofs.Frame.{SameHeads}
-use Rattle.refinement.proofs.Frames.{Apart, domain-apart}
-use Rattle.refinement.proofs.Growing.{Both, both-none, both-more}
+use Rattle.refinement.proofs.Frames.{Apart, domain-apart, deleteIf, delete-apart, delete-domain, delete-counter}
+use Rattle.refinement.proofs.Growing.{Both, both-none, both-more, Appends}
 use Rattle.refinement.specs.Inv.{Small}
 use Rattle.index.specs.Index.{Paired}
 use Rattle.refinement.proofs.Walking.{walk, gathered, Others, walk-keeps, walk-at, walk-gather}
@@ -74,6 +74,16 @@ As sys m₀ x v m = Shows sys m₀ x v (m₀ DOMAIN x v) (λ y. m₀ COUNTERS (c
 -- so it is at the start
 as-start : (sys : System) (m : Mem) (x v : ℕ) → As sys m x v m
 as-start sys m x v = record { heads = λ a b. refl; domain = refl; counter = λ y l. refl }
+
+-- a label that is deleted if a test holds
+pub shows-if : (sys : System) (m₀ : Mem) (i x v d : ℕ) (c : ℕ → ℕ) (z : Bool) (m : Mem) → Shows sys m₀ x v d c m
+    → Shows sys m₀ x v (cond z 0 d) c (deleteIf z i x v m)
+shows-if sys m₀ i x v d c true m s = record {
+  heads = λ a b. delete-apart sys i x v m m HEADS a b (omega arith) ∙ s .heads a b;
+  domain = delete-domain sys i x v m;
+  counter = λ y k. delete-counter sys i x v m (counterRow m₀ x y) v ∙ s .counter y k;
+}
+shows-if sys m₀ i x v d c false m s = s
 
 module _ (sys : System) (small : Small sys) (f : ℕ → ℕ → Mem → Mem) (row : ℕ → ℕ) where
   -- each step leaves alone what stands apart from its label and its row's lists
@@ -137,23 +147,16 @@ module _ (sys : System) (small : Small sys) (f : ℕ → ℕ → Mem → Mem) (r
 
     -- the lists of row `i` grow by what the steps append, as long as there is room
     pub walk-both : (i : ℕ) (g : ℕ → ℕ → List Label)
-        → ((x v : ℕ) → x < sys .net .variables → v < sys .net .size x → (m : Mem)
-        → As sys m₀ x v m → m WORKERS i LOGEND + length (g x v) ≤ 512 → m WORKERS i TAIL + length (g x v) ≤ 512
-        → Both sys i m (f x v m) (g x v))
-        → m₀ WORKERS i LOGEND + length (gathered (sys .net) g) ≤ 512
-        → m₀ WORKERS i TAIL + length (gathered (sys .net) g) ≤ 512
-        → Both sys i m₀ m₁ (gathered (sys .net) g)
-    walk-both i g s room room′ =
-        subst (λ m. Both sys i m₀ m (gathered (sys .net) g)) (sym walked)
-        (walk-gather (sys .net) f (As sys m₀) (λ x v. shows-others x v _ _) Roomy g step m₀ (λ x v h l. as-start sys m₀ x v)
-        (λ k k′. both-none sys i m₀ m₀ refl refl (λ d. refl) (λ d. refl)) room room′)
+        → ((x v : ℕ) → x < sys .net .variables → v < sys .net .size x → (m : Mem) → As sys m₀ x v m
+        → Appends sys i m (f x v m) (g x v))
+        → Appends sys i m₀ m₁ (gathered (sys .net) g)
+    walk-both i g s =
+        subst (λ m. Appends sys i m₀ m (gathered (sys .net) g)) (sym walked)
+        (walk-gather (sys .net) f (As sys m₀) (λ x v. shows-others x v _ _) (λ l m. Appends sys i m₀ m l) g step m₀
+        (λ x v h l. as-start sys m₀ x v) (λ k k′. both-none sys i m₀ m₀ refl refl (λ d. refl) (λ d. refl)))
       where
-        Roomy : List Label → Mem → Type 0
-        Roomy l m =
-            m₀ WORKERS i LOGEND + length l ≤ 512 → m₀ WORKERS i TAIL + length l ≤ 512 → Both sys i m₀ m l
-
         step : (x v : ℕ) → x < sys .net .variables → v < sys .net .size x → (l : List Label) (m : Mem)
-            → As sys m₀ x v m → Roomy l m → Roomy (l ++ g x v) (f x v m)
+            → As sys m₀ x v m → Appends sys i m₀ m l → Appends sys i m₀ (f x v m) (l ++ g x v)
         step x v h k l m q b room room′ =
             let fit : length (l ++ g x v) ≡ length l + length (g x v) = length-append l (g x v) in
             let so-far : Both sys i m₀ m l = b (omega arith) (omega arith) in
