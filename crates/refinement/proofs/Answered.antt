@@ -12,6 +12,7 @@ use Rattle.disac4.specs.Action.{isEmpty, pollOf, afterAnswer, ready, answerTo, 
 use Rattle.disac4.specs.State.{Poll, Message, reply}
 use Rattle.disac4.specs.System.{System}
 use Rattle.disac4.specs.declared.Tally.{Tally}
+use Rattle.cells.proofs.Queue.{labels-empty, queue, queue-put}
 use Rattle.cells.proofs.Stores.{store-other}
 use Rattle.cells.specs.Layout.{WORKERS, BOUNDS, WORK, OUT, WANTED, HEAD, TAIL, LOGEND, SENDS, LISTS, HELD, OUTEND}
 use Rattle.cells.specs.Memory.{Mem}
@@ -21,11 +22,9 @@ use Rattle.cells.specs.View.{messageOf, pollAt, view, viewWork, viewLists, view
 use Rattle.refinement.proofs.Actors.{at-worker, counter-worker}
 use Rattle.refinement.proofs.Capacity.{sends-few, outend-few, held-few, timestamp-few}
 use Rattle.refinement.proofs.ChannelRows.{at-out, Stays, Beside, channels-update}
-use Rattle.refinement.proofs.Growing.{labels-empty}
 use Rattle.refinement.proofs.Grown.{Grown, outQueue, out-kept, channels-kept}
 use Rattle.refinement.proofs.HeldPoll.{heldAt, held-worker, held-update, held-row}
 use Rattle.refinement.specs.Inv.{Small, Inv}
-use Rattle.refinement.proofs.Queue.{queue, queue-put}
 use Rattle.refinement.proofs.Seen.{mapO, mapO-cond, viewOf, view-parts, rowsOf, reply-code, same-state, workOf}
 use Rattle.refinement.proofs.Sent.{nothing-to-send}
 

@@ -14,6 +14,7 @@ use Rattle.disac4.specs.Action.{pollOf, afterAsk, ask}
 use Rattle.disac4.specs.State.{Poll, Message, poll}
 use Rattle.disac4.specs.System.{System}
 use Rattle.disac4.specs.declared.Tally.{Tally}
+use Rattle.cells.proofs.Queue.{queue-put}
 use Rattle.cells.proofs.Stores.{store-other}
 use Rattle.cells.specs.Layout.{WORKERS, WANTED, HELD}
 use Rattle.cells.specs.Memory.{Mem}
@@ -25,7 +26,6 @@ use Rattle.refinement.proofs.ChannelRows.{atChannel, at-polls, Stays, c
 use Rattle.refinement.proofs.Grown.{Grown, pollsQueue, polls-kept, channels-kept}
 use Rattle.refinement.proofs.HeldPoll.{heldAt, held-same, held-row}
 use Rattle.refinement.specs.Inv.{Small, Inv}
-use Rattle.refinement.proofs.Queue.{queue-put}
 use Rattle.refinement.proofs.Seen.{mapO, viewOf, view-parts, rowsOf, same-state, mapO-cond}
 
 module _ (sys : System) (small : Small sys) (s : Machine) (inv : Inv sys s) where

@@ -17,6 +17,7 @@ use Rattle.disac4.specs.Action.{afterCount, afterMark, afterDrop, allMarked, cu
 use Rattle.disac4.specs.State.{State, Controller, list, reply}
 use Rattle.disac4.specs.System.{System}
 use Rattle.disac4.specs.declared.Tally.{Tally}
+use Rattle.cells.proofs.Queue.{queue-taken, queue-none}
 use Rattle.cells.specs.Layout.{WORKERS, OUT, LISTS, OUTEND, OUTREAD}
 use Rattle.cells.specs.Memory.{Mem}
 use Rattle.controller.specs.Controller.{countedT, markedT, toldT, withMark, hasOut, outReadM}
@@ -28,7 +29,6 @@ use Rattle.refinement.proofs.ChannelRows.{at-out, Stays, Beside, channe
 use Rattle.refinement.proofs.Grown.{Grown, outQueue, out-kept, channels-kept}
 use Rattle.refinement.specs.Inv.{Small, Inv}
 use Rattle.refinement.proofs.Marks.{mark-small, mark-bit, marks-full}
-use Rattle.refinement.proofs.Queue.{queue-taken, queue-none}
 use Rattle.refinement.proofs.Seen.{mapO, viewOf, view-parts, rowsOf, channel-rows, same-state}
 
 module _ (sys : System) (small : Small sys) (s : Machine) (inv : Inv sys s) (i : ℕ) (h : i < sys .workers) where

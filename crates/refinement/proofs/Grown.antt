@@ -10,6 +10,7 @@ use Rattle.base.proofs.Choice.{cond-ext}
 use Rattle.disac4.specs.State.{Message, list, poll}
 use Rattle.disac4.specs.System.{System}
 use Rattle.disac4.specs.declared.Tally.{Tally}
+use Rattle.cells.proofs.Queue.{labels-same, Queue, Kept, queue, queue-same}
 use Rattle.cells.specs.Layout.{WORKERS, CURSORS, BOUNDS, LOG, OUT, WANTED, LOGEND, SENDS, POLLS, OUTEND, OUTREAD}
 use Rattle.cells.specs.Memory.{Mem}
 use Rattle.controller.specs.Controller.{Machine}
@@ -17,8 +18,6 @@ use Rattle.cells.specs.View.{LISTMARK, listAt, messageOf, pollAt, viewLetters, 
 use Rattle.refinement.proofs.Capacity.{bound-logged}
 use Rattle.refinement.proofs.ChannelRows.{Stays}
 use Rattle.refinement.specs.Inv.{Small, Inv}
-use Rattle.refinement.proofs.Growing.{labels-same}
-use Rattle.refinement.proofs.Queue.{Queue, Kept, queue, queue-same}
 use Rattle.refinement.proofs.Seen.{rowsOf, sendOf}
 
 -- the memory after keeps what stands in the memory before

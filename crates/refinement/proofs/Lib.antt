@@ -23,7 +23,6 @@ pub mod Marks
 pub mod Outgoing
 pub mod PollRead
 pub mod Polling
-pub mod Queue
 pub mod Reading
 pub mod Refined
 pub mod Runs

@@ -21,6 +21,7 @@ use Rattle.disac4.specs.System.{System}
 use Rattle.network.proofs.Loaded.{loaded-variable, loaded-value}
 use Rattle.network.proofs.Supports.{support-count}
 use Rattle.network.specs.Network.{Label, label, loaded, labelsWhere, supports, supportCount}
+use Rattle.cells.proofs.Queue.{labels-none, queue-none}
 use Rattle.cells.specs.Layout.{WORKERS, CURSORS, BOUNDS, LOG, WORK, OUT, WANTED, DOMAIN, COUNTERS, HEADS, HEAD, TAIL, LOGEND, SENDS, LISTS, HELD, OUTEND}
 use Rattle.counters.proofs.Kept.{row-heads}
 use Rattle.counters.specs.Load.{loadLabelM, loadM}
@@ -29,13 +30,12 @@ pub use Rattle.refinement.specs.Run.{freshTally as startTally}
 use Rattle.cells.specs.View.{LISTED, isWorker, labelsBetween, counterRow, viewCounter, viewWork, viewSend, viewHeld, viewLists, viewLetters, viewPolls, viewOut, viewChannel, view}
 use Rattle.refinement.proofs.Actors.{atActor, row-of}
 use Rattle.refinement.proofs.Frames.{Apart}
-use Rattle.refinement.proofs.Growing.{labels-none, Grown, Both}
+use Rattle.refinement.proofs.Growing.{Grown, Both}
 use Rattle.refinement.specs.Inv.{Small}
 use Rattle.index.specs.Index.{Paired}
 use Rattle.refinement.proofs.Grown.{lettersQueue, outQueue, pollsQueue}
 use Rattle.refinement.proofs.LabelLoad.{load-walk, load-apart, load-shows, load-both}
 use Rattle.refinement.proofs.Labelwise.{unloaded-apart, Shows, walk-apart, walk-shows, walk-both}
-use Rattle.refinement.proofs.Queue.{queue-none}
 use Rattle.refinement.proofs.Unmoved.{Unmoved}
 
 -- the regions before the index are 0

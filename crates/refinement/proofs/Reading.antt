@@ -13,6 +13,7 @@ use Rattle.base.proofs.Sums.{sum-ext, sum-change}
 use Rattle.base.specs.Below.{sumBelow}
 use Rattle.disac4.specs.System.{System}
 use Rattle.disac4.specs.declared.Tally.{Tally}
+use Rattle.cells.proofs.Queue.{labels-length}
 use Rattle.cells.proofs.Stores.{store-same, store-other, store-apart, copy-other, Beside}
 use Rattle.cells.specs.Layout.{WORKERS, CURSORS, BOUNDS, LOG, WORK, OUT, WANTED, DOMAIN, HEADS, TAIL, LOGEND, SENDS, LISTS, OUTEND, OUTREAD, HEAD}
 use Rattle.cells.specs.Lists.{copyM}
@@ -22,7 +23,7 @@ use Rattle.messages.specs.Messages.{letterStart, letterEnd, takenM, readListM}
 use Rattle.controller.specs.Controller.{Machine}
 use Rattle.refinement.proofs.Capacity.{letter-room, bound-logged}
 use Rattle.refinement.proofs.Frame.{OnlyRow, Answered, row-grown, lists-out-kept, logged-kept, heard-kept, worker-action}
-use Rattle.refinement.proofs.Growing.{Grown, grown-copy, labels-length}
+use Rattle.refinement.proofs.Growing.{Grown, grown-copy}
 use Rattle.refinement.specs.Inv.{Row, Totals, Inv, Small}
 
 -- how many labels the next list message of row `j` for row `i` has

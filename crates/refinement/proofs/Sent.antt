@@ -13,6 +13,7 @@ use Rattle.disac4.specs.Action.{isEmpty, afterSend, send}
 use Rattle.disac4.specs.State.{Message, list}
 use Rattle.disac4.specs.System.{System}
 use Rattle.disac4.specs.declared.Tally.{Tally}
+use Rattle.cells.proofs.Queue.{labels-same, labels-none, labels-empty, queue-put}
 use Rattle.cells.proofs.Stores.{store-other, store-same}
 use Rattle.cells.specs.Layout.{WORKERS, BOUNDS, LOG, OUT, LOGEND, SENDS, LISTS, OUTEND}
 use Rattle.cells.specs.Memory.{Mem}
@@ -22,10 +23,8 @@ use Rattle.cells.specs.View.{LISTMARK, listAt, messageOf, view, viewSend, viewL
 use Rattle.refinement.proofs.Actors.{at-worker, actors-update, counters-more}
 use Rattle.refinement.proofs.Capacity.{sends-few, outend-few, lists-few}
 use Rattle.refinement.proofs.ChannelRows.{atChannel, at-letters, at-out, Stays, channels-broadcast}
-use Rattle.refinement.proofs.Growing.{labels-same, labels-none, labels-empty}
 use Rattle.refinement.proofs.Grown.{Grown, send-kept, lettersQueue, letters-kept, outQueue, out-kept, channels-kept}
 use Rattle.refinement.specs.Inv.{Small, Inv}
-use Rattle.refinement.proofs.Queue.{queue-put}
 use Rattle.refinement.proofs.Seen.{mapO, viewOf, view-parts, rowsOf, list-code, same-state, sendOf, mapO-cond}
 
 module _ (sys : System) (small : Small sys) (s : Machine) (inv : Inv sys s) (i : ℕ) (h : i < sys .workers) where

@@ -12,6 +12,7 @@ use Rattle.disac4.specs.Action.{afterList, readFrom, readWorker}
 use Rattle.disac4.specs.System.{System}
 use Rattle.disac4.specs.declared.Tally.{Tally}
 use Rattle.network.specs.Network.{Label, loaded}
+use Rattle.cells.proofs.Queue.{labels-same, queue, queue-taken, queue-none}
 use Rattle.cells.specs.Layout.{WORKERS, CURSORS, LOG, WORK, HEAD, TAIL, SENDS, LISTS, BOUNDS, OUT, WANTED, DOMAIN, COUNTERS, HEADS, LOGEND, HELD, POLLS, OUTEND, OUTREAD}
 use Rattle.cells.specs.Memory.{Mem}
 use Rattle.messages.specs.Messages.{letterEnd, takenM, readListM}
@@ -21,11 +22,9 @@ use Rattle.counters.proofs.Kept.{row-heads}
 use Rattle.refinement.proofs.Actors.{at-worker, actors-update, counters-more, actors-same}
 use Rattle.refinement.proofs.Capacity.{bound-logged, logend-small, sends-few, lists-few}
 use Rattle.refinement.proofs.ChannelRows.{at-letters, Stays, Beside, channels-update}
-use Rattle.refinement.proofs.Growing.{labels-same}
 use Rattle.refinement.proofs.Grown.{Grown, lettersQueue, letters-kept, channels-kept, send-kept}
 use Rattle.refinement.specs.Inv.{Small, Inv}
 use Rattle.refinement.proofs.HeldPoll.{held-same, held-row}
-use Rattle.refinement.proofs.Queue.{queue, queue-taken, queue-none}
 use Rattle.refinement.proofs.Reading.{region, column, other-work, more-lists, new-cursor, old-cursor, taken-list}
 use Rattle.refinement.proofs.Seen.{mapO, viewOf, rowsOf, channel-rows, same-state, workOf, sendOf}
 

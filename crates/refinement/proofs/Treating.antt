@@ -20,6 +20,7 @@ use Rattle.disac4.specs.System.{System}
 use Rattle.disac4.specs.declared.Tally.{Tally}
 use Rattle.network.proofs.Loaded.{loaded-variable, loaded-value}
 use Rattle.network.specs.Network.{Label, label, loaded, labelsWhere}
+use Rattle.cells.proofs.Queue.{labels-first, labels-none, labels-same}
 use Rattle.cells.proofs.Stores.{store-same, store-other}
 use Rattle.cells.specs.Layout.{WORKERS, CURSORS, BOUNDS, LOG, WORK, OUT, WANTED, DOMAIN, COUNTERS, HEADS, HEAD, TAIL, LOGEND, SENDS}
 use Rattle.cells.specs.Memory.{Mem, store}
@@ -31,7 +32,7 @@ use Rattle.refinement.proofs.Actors.{at-worker, actors-update}
 use Rattle.refinement.proofs.Capacity.{log-room, tail-room, tail-small}
 use Rattle.refinement.proofs.Frame.{paired-kept}
 use Rattle.refinement.proofs.Frames.{Apart}
-use Rattle.refinement.proofs.Growing.{labels-first, labels-none, Both, labels-same}
+use Rattle.refinement.proofs.Growing.{Both}
 use Rattle.refinement.specs.Inv.{Small, Inv}
 use Rattle.index.specs.Index.{Paired}
 use Rattle.refinement.proofs.Labelwise.{unloaded-apart, Shows, walk-apart, walk-shows, walk-both}
