@@ -1,6 +1,6 @@
 -- A queue in a row: what stands from one column to another. It grows at its end and is taken from its front. The labels of
 -- a row are one.
-use Prim.Native.Nat.{ℕ, suc, _+_, _-_, _<_, _≤_, _/_, _%_}
+use Prim.Native.Nat.{ℕ, suc, _+_, _-_, _/_, _%_, _<_, _≤_}
 use mathlib.Core.List.{List, [], _∷_, _++_}
 use mathlib.Core.Path.{_≡_, refl, sym, _∙_, ap, ap₂}
 use native.Mathlib.Decide.{ℕ-discrete}
@@ -13,7 +13,7 @@ use Rattle.base.specs.Below.{listBelow}
 use Rattle.network.specs.Network.{Label, label}
 use Rattle.disac4.specs.Action.{isEmpty}
 use Rattle.cells.specs.Memory.{Mem}
-use Rattle.cells.specs.View.{listBetween, codeOf, labelOf, labelsBetween}
+use Rattle.cells.specs.View.{codeOf, labelOf, listBetween, labelsBetween}
 
 -- where a queue begins, where it ends, and what stands at each place
 pub record Queue (A : Type 0) : Type 0 where
@@ -57,15 +57,11 @@ module _ {A : Type 0} where
   pub queue-put : (q q′ : Queue A) → Kept q q′ → q .start ≤ q .stop → q′ .start ≡ q .start → q′ .stop ≡ q .stop + 1
       → listed q′ ≡ listed q ++ (q′ .place (q .stop) ∷ [])
   queue-put q q′ h l a b =
-      let e : q′ .stop - q′ .start ≡ suc (q .stop - q .start) = omega arith in
-      let z : q′ .start + (q .stop - q .start) ≡ q .stop = omega arith in
+      let e : q′ .stop - q′ .start ≡ suc (q .stop - q′ .start) = omega arith in
+      let z : q′ .start + (q .stop - q′ .start) ≡ q .stop = omega arith in
       ap (λ (n : ℕ). listBelow n (λ d. q′ .place (q′ .start + d))) e
       ∙ ap₂ (λ (l : List A) (a : A). l ++ (a ∷ []))
-      (list-ext (q .stop - q .start) (λ d. q′ .place (q′ .start + d)) (λ d. q .place (q .start + d)) same)
-      (ap (q′ .place) z)
-    where
-      same : (d : ℕ) → d < q .stop - q .start → q′ .place (q′ .start + d) ≡ q .place (q .start + d)
-      same d k = h (q′ .start + d) (omega arith) (omega arith) ∙ ap (λ (n : ℕ). q .place (n + d)) a
+      (queue-same q (queue (q′ .start) (q .stop) (q′ .place)) h a refl) (ap (q′ .place) z)
 
   -- the oldest taken
   pub queue-taken : (q q′ : Queue A) → Kept q q′ → q .start < q .stop → q′ .start ≡ q .start + 1 → q′ .stop ≡ q .stop

@@ -6,7 +6,7 @@ use native.Mathlib.Decide.{ℕ-discrete}
 use native.Mathlib.Omega.{arith}
 use borrow.Author.Tests.{ne-eqb}
 use lib.Dec.{eqb}
-use Rattle.base.proofs.Choice.{cond-true, cond-false, update-same, update-other, between-low, between-high, cond-ext, between-intro}
+use Rattle.base.proofs.Choice.{cond-true, cond-false, cond-ext, update-same, update-other, between-intro, between-low, between-high}
 use Rattle.base.specs.Choice.{update}
 use Rattle.disac4.specs.System.{System}
 use Rattle.cells.specs.View.{isWorker}

@@ -1,13 +1,13 @@
 -- Which turns are allowed, taken apart.
 use Prim.Native.Nat.{ℕ, _-_, _<_, _≤_}
-use mathlib.Core.Bool.{true, false, not, _&&_, _||_}
+use mathlib.Core.Bool.{true, false, _&&_, _||_, not}
 use mathlib.Core.Logic.{_⊎_, inl, inr, ⊎-elim}
 use mathlib.Core.Path.{_≡_, sym, _∙_}
 use native.Mathlib.Omega.{arith}
 use borrow.Author.Tests.{leb-true, eqb-false, not-true}
 use lib.Dec.{leb, eqb}
 use Rattle.base.proofs.Bools.{and-left, and-right, or-cases, clash}
-use Rattle.base.proofs.Choice.{between-low, between-high, cond-true, cond-false}
+use Rattle.base.proofs.Choice.{cond-true, cond-false, between-low, between-high}
 use Rattle.base.specs.Choice.{between}
 use Rattle.disac4.specs.Turn.{Turn, treatNumber, sendNumber, answerNumber, pollNumber, allowed}
 

@@ -18,7 +18,7 @@ use Rattle.cells.specs.Layout.{WORKERS, BOUNDS, WORK, OUT, WANTED, HEAD, TAIL, 
 use Rattle.cells.specs.Memory.{Mem}
 use Rattle.messages.specs.Messages.{answeredM, answerM}
 use Rattle.controller.specs.Controller.{Machine}
-use Rattle.cells.specs.View.{messageOf, pollAt, view, viewWork, viewLists, viewOut}
+use Rattle.cells.specs.View.{messageOf, pollAt, viewWork, viewLists, viewOut, view}
 use Rattle.refinement.proofs.Actors.{at-worker, counter-worker}
 use Rattle.refinement.proofs.Capacity.{sends-few, outend-few, held-few, timestamp-few}
 use Rattle.refinement.proofs.ChannelRows.{at-out, Stays, Beside, channels-update}

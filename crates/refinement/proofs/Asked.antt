@@ -1,5 +1,5 @@
 -- Poll in memory is poll.
-use Prim.Native.Nat.{ℕ, zero, suc, _+_, _-_, _≤_, _<_}
+use Prim.Native.Nat.{ℕ, zero, suc, _+_, _-_, _<_, _≤_}
 use mathlib.Core.Bool.{Bool, true, false, cond, _&&_, not}
 use mathlib.Core.List.{List, [], _∷_, _++_}
 use mathlib.Core.Option.{none, some}
@@ -20,7 +20,7 @@ use Rattle.cells.specs.Layout.{WORKERS, WANTED, HELD}
 use Rattle.cells.specs.Memory.{Mem}
 use Rattle.controller.specs.Controller.{askM, askedT, asksT}
 use Rattle.controller.specs.Controller.{Machine, pollM}
-use Rattle.cells.specs.View.{isWorker, pollAt, view, viewLists, viewPolls}
+use Rattle.cells.specs.View.{isWorker, pollAt, viewLists, viewPolls, view}
 use Rattle.refinement.proofs.Capacity.{held-few, timestamp-few}
 use Rattle.refinement.proofs.ChannelRows.{atChannel, at-polls, Stays, channels-broadcast}
 use Rattle.refinement.proofs.Grown.{Grown, pollsQueue, polls-kept, channels-kept}

@@ -1,10 +1,10 @@
 -- The points that deleting a label leaves alone.
 use Prim.Native.Nat.{ℕ}
-use mathlib.Core.Bool.{true, Bool, false, cond}
-use mathlib.Core.Path.{_≡_, _∙_, refl}
+use mathlib.Core.Bool.{Bool, true, false, cond}
+use mathlib.Core.Path.{_≡_, refl, _∙_}
 use native.Mathlib.Omega.{arith}
 use Rattle.disac4.specs.System.{System}
-use Rattle.cells.proofs.Stores.{store-same, store-other, push-other, Beside}
+use Rattle.cells.proofs.Stores.{store-same, store-other, Beside, push-other}
 use Rattle.cells.specs.Layout.{WORKERS, LOG, WORK, DOMAIN, COUNTERS, TAIL, LOGEND}
 use Rattle.cells.specs.Lists.{pushM, deleteM}
 use Rattle.cells.specs.Memory.{Mem, store}

@@ -14,7 +14,7 @@ use Rattle.cells.proofs.Queue.{labels-same, Queue, Kept, queue, queue-same}
 use Rattle.cells.specs.Layout.{WORKERS, CURSORS, BOUNDS, LOG, OUT, WANTED, LOGEND, SENDS, POLLS, OUTEND, OUTREAD}
 use Rattle.cells.specs.Memory.{Mem}
 use Rattle.controller.specs.Controller.{Machine}
-use Rattle.cells.specs.View.{LISTMARK, listAt, messageOf, pollAt, viewLetters, viewOut, viewPolls}
+use Rattle.cells.specs.View.{LISTMARK, listAt, messageOf, pollAt, viewLetters, viewPolls, viewOut}
 use Rattle.refinement.proofs.Capacity.{bound-logged}
 use Rattle.refinement.proofs.ChannelRows.{Stays}
 use Rattle.refinement.specs.Inv.{Small, Inv}

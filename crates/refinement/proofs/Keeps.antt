@@ -1,13 +1,13 @@
 -- Every turn keeps the invariant, if treating a label does.
 use Prim.Native.Nat.{ℕ, suc, _-_, _<_}
-use mathlib.Core.Bool.{true, not, _||_}
+use mathlib.Core.Bool.{true, _||_, not}
 use mathlib.Core.Option.{Option, none, some}
 use mathlib.Core.Path.{_≡_, refl}
 use native.Mathlib.Omega.{arith}
 use borrow.Author.Tests.{eqb-false, not-false}
 use lib.Dec.{eqb}
 use Rattle.base.proofs.Bools.{or-false-right}
-use Rattle.base.proofs.Choice.{unless-some, some-same, by-test, none≢some}
+use Rattle.base.proofs.Choice.{by-test, none≢some, unless-some, some-same}
 use Rattle.disac4.specs.System.{System}
 use Rattle.disac4.specs.Turn.{Turn, treatNumber, sendNumber, answerNumber, pollNumber, allowed}
 use Rattle.cells.specs.Memory.{Mem}

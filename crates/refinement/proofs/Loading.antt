@@ -35,7 +35,7 @@ use Rattle.refinement.specs.Inv.{Small}
 use Rattle.index.specs.Index.{Paired}
 use Rattle.refinement.proofs.Grown.{lettersQueue, outQueue, pollsQueue}
 use Rattle.refinement.proofs.LabelLoad.{load-walk, load-apart, load-shows, load-both}
-use Rattle.refinement.proofs.Labelwise.{unloaded-apart, Shows, walk-apart, walk-shows, walk-both}
+use Rattle.refinement.proofs.Labelwise.{unloaded-apart, Shows, walk-apart, walk-shows, walk-both, Local}
 use Rattle.refinement.proofs.Unmoved.{Unmoved}
 
 -- the regions before the index are 0
@@ -56,9 +56,8 @@ module _ (sys : System) (small : Small sys) (z : Mem) (paired : Paired sys z) (b
   abbrev n : Mem
   n = loadM sys z
 
-  local : (x v : ℕ) → x < sys .net .variables → v < sys .net .size x → (m : Mem) (r a b : ℕ)
-      → Apart sys m (sys .owner x - 1) x v r a b → loadLabelM sys x v m r a b ≡ m r a b
-  local x v h l m r a b p = load-apart sys x v m r a b p
+  local : Local sys small (loadLabelM sys) (λ x. sys .owner x - 1)
+  local x v h l = load-apart sys x v
 
   -- what stands apart from all labels is left alone
   pub loaded-apart : (r a b : ℕ)

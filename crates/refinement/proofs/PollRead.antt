@@ -16,7 +16,7 @@ use Rattle.cells.specs.Layout.{WORKERS, HELD, POLLS}
 use Rattle.cells.specs.Memory.{Mem, store}
 use Rattle.messages.specs.Messages.{readPollM}
 use Rattle.controller.specs.Controller.{Machine}
-use Rattle.cells.specs.View.{pollAt, view, viewPolls}
+use Rattle.cells.specs.View.{pollAt, viewPolls, view}
 use Rattle.refinement.proofs.ChannelRows.{at-polls, Stays, Beside, channels-update}
 use Rattle.refinement.proofs.Grown.{Grown, pollsQueue, polls-kept, channels-kept}
 use Rattle.refinement.proofs.HeldPoll.{heldAt, held-update, held-row}

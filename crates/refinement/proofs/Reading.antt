@@ -8,17 +8,17 @@ use native.Mathlib.Decide.{ℕ-discrete}
 use native.Mathlib.Omega.{arith}
 use borrow.Author.Tests.{ltb-true}
 use lib.Dec.{leb, ltb, eqb}
-use Rattle.base.proofs.Choice.{if-some, some-same, everywhere}
+use Rattle.base.proofs.Choice.{everywhere, if-some, some-same}
 use Rattle.base.proofs.Sums.{sum-ext, sum-change}
 use Rattle.base.specs.Below.{sumBelow}
 use Rattle.disac4.specs.System.{System}
 use Rattle.disac4.specs.declared.Tally.{Tally}
 use Rattle.cells.proofs.Queue.{labels-length}
-use Rattle.cells.proofs.Stores.{store-same, store-other, store-apart, copy-other, Beside}
-use Rattle.cells.specs.Layout.{WORKERS, CURSORS, BOUNDS, LOG, WORK, OUT, WANTED, DOMAIN, HEADS, TAIL, LOGEND, SENDS, LISTS, OUTEND, OUTREAD, HEAD}
+use Rattle.cells.proofs.Stores.{store-same, store-other, store-apart, Beside, copy-other}
+use Rattle.cells.specs.Layout.{WORKERS, CURSORS, BOUNDS, LOG, WORK, OUT, WANTED, DOMAIN, HEADS, HEAD, TAIL, LOGEND, SENDS, LISTS, OUTEND, OUTREAD}
 use Rattle.cells.specs.Lists.{copyM}
 use Rattle.cells.specs.Memory.{Mem, store}
-use Rattle.cells.specs.View.{listAt, labelsBetween, LISTED}
+use Rattle.cells.specs.View.{LISTED, labelsBetween, listAt}
 use Rattle.messages.specs.Messages.{letterStart, letterEnd, takenM, readListM}
 use Rattle.controller.specs.Controller.{Machine}
 use Rattle.refinement.proofs.Capacity.{letter-room, bound-logged}
@@ -61,14 +61,17 @@ module _ (j i : ℕ) (m : Mem) where
   unfolding takenM
   other-work k d n = uncopied WORK k d ((λ e. n), λ e. omega arith)
 
+  -- the reader counts it
   pub more-lists : takenM j i m WORKERS i LISTS ≡ m WORKERS i LISTS + 1
   unfolding takenM
   more-lists = store-same (copied j i m) WORKERS i LISTS (m WORKERS i LISTS + 1)
 
+  -- and has read one more of the sender's lists
   pub new-cursor : takenM j i m CURSORS j i ≡ m CURSORS j i + 1
   unfolding takenM
   new-cursor = store-same (copied j i m) CURSORS j i (m CURSORS j i + 1)
 
+  -- of no others
   pub old-cursor : (l k : ℕ) → (l ≡ j → k ≡ i → ⊥) → takenM j i m CURSORS l k ≡ m CURSORS l k
   unfolding takenM
   old-cursor l k n =

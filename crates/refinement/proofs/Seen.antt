@@ -16,7 +16,7 @@ use Rattle.cells.specs.Layout.{WORKERS, BOUNDS, LOG, WORK, HEAD, TAIL, LOGEND, 
 use Rattle.cells.specs.Memory.{Mem}
 pub use Rattle.refinement.specs.Run.{viewOf}
 use Rattle.controller.specs.Controller.{Machine}
-use Rattle.cells.specs.View.{LISTMARK, view, labelsBetween, listAt, messageOf, pollAt, counterRow, viewWork, viewSend, viewHeld, viewLists, viewLetters, viewPolls, viewOut, viewChannel, viewCounter}
+use Rattle.cells.specs.View.{LISTMARK, labelsBetween, listAt, messageOf, pollAt, counterRow, viewCounter, viewWork, viewSend, viewHeld, viewLists, viewLetters, viewPolls, viewOut, viewChannel, view}
 use Rattle.refinement.proofs.ChannelRows.{Rows, atChannel}
 
 -- Named on an `unfolding` line, this opens the view down to the channels' contents.

@@ -8,7 +8,7 @@ use borrow.Author.Tests.{eqb-false, le-leb, ne-eqb}
 use lib.Dec.{ltb, eqb}
 use Rattle.base.proofs.Below.{up-to}
 use Rattle.base.proofs.Bools.{and-never}
-use Rattle.base.proofs.Choice.{if-some, unless-some, some-same, everywhere}
+use Rattle.base.proofs.Choice.{everywhere, if-some, unless-some, some-same}
 use Rattle.base.proofs.Sums.{sum-ext}
 use Rattle.base.specs.Below.{sumBelow, one}
 use Rattle.disac4.specs.System.{System}

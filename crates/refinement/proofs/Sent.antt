@@ -14,12 +14,12 @@ use Rattle.disac4.specs.State.{Message, list}
 use Rattle.disac4.specs.System.{System}
 use Rattle.disac4.specs.declared.Tally.{Tally}
 use Rattle.cells.proofs.Queue.{labels-same, labels-none, labels-empty, queue-put}
-use Rattle.cells.proofs.Stores.{store-other, store-same}
+use Rattle.cells.proofs.Stores.{store-same, store-other}
 use Rattle.cells.specs.Layout.{WORKERS, BOUNDS, LOG, OUT, LOGEND, SENDS, LISTS, OUTEND}
 use Rattle.cells.specs.Memory.{Mem}
 use Rattle.messages.specs.Messages.{sentM, sendM}
 use Rattle.controller.specs.Controller.{Machine}
-use Rattle.cells.specs.View.{LISTMARK, listAt, messageOf, view, viewSend, viewLetters, viewOut}
+use Rattle.cells.specs.View.{LISTMARK, listAt, messageOf, viewSend, viewLetters, viewOut, view}
 use Rattle.refinement.proofs.Actors.{at-worker, actors-update, counters-more}
 use Rattle.refinement.proofs.Capacity.{sends-few, outend-few, lists-few}
 use Rattle.refinement.proofs.ChannelRows.{atChannel, at-letters, at-out, Stays, channels-broadcast}

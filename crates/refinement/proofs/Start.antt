@@ -17,7 +17,7 @@ use Rattle.index.proofs.Pairing.{paired}
 use Rattle.refinement.proofs.Loading.{Blank, load-refines}
 use Rattle.index.specs.Index.{Indexed, indexM}
 use Rattle.refinement.specs.Inv.{Small, Inv}
-use Rattle.cells.specs.Layout.{BEHIND, HEADS, PLACES, NEXT}
+use Rattle.cells.specs.Layout.{HEADS, PLACES, NEXT, BEHIND}
 use Rattle.counters.proofs.Kept.{load-variables-kept}
 use Rattle.counters.specs.Load.{clearedM, loadM}
 use Rattle.cells.specs.Memory.{Mem}

@@ -1,5 +1,5 @@
 -- No turn writes the plan's index or the cells behind the needed ones.
-use Prim.Native.Nat.{ℕ, _-_, _<_, _≤_, _+_, _/_, _%_}
+use Prim.Native.Nat.{ℕ, _+_, _-_, _/_, _%_, _<_, _≤_}
 use mathlib.Core.Bool.{Bool, true, false, cond, _||_, not}
 use mathlib.Core.List.{List, [], _∷_}
 use mathlib.Core.Option.{Option, none, some, Option·getD}
@@ -10,8 +10,8 @@ use lib.Dec.{leb, ltb, eqb}
 use Rattle.disac4.specs.System.{System}
 use Rattle.disac4.specs.Turn.{Turn, treatNumber, sendNumber, answerNumber, pollNumber, allowed}
 use Rattle.disac4.specs.declared.Tally.{Tally}
-use Rattle.cells.proofs.Stores.{copy-other, store-apart}
-use Rattle.cells.specs.Layout.{WORKERS, CURSORS, BOUNDS, OUT, WANTED, HEADS, HEAD, TAIL, LOGEND, LISTS, SENDS, OUTEND, OUTREAD, HELD, POLLS, WORK}
+use Rattle.cells.proofs.Stores.{store-apart, copy-other}
+use Rattle.cells.specs.Layout.{WORKERS, CURSORS, BOUNDS, WORK, OUT, WANTED, HEADS, HEAD, TAIL, LOGEND, SENDS, LISTS, HELD, POLLS, OUTEND, OUTREAD}
 use Rattle.cells.specs.Memory.{Mem, store}
 use Rattle.messages.specs.Messages.{letterEnd, letterStart, sentM, sendM, takenM, readListM, readPollM, answeredM, answerM}
 use Rattle.controller.specs.Controller.{askM, askedT, asksT, hasOut, outReadM, toldT}

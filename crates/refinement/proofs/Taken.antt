@@ -13,11 +13,11 @@ use Rattle.disac4.specs.System.{System}
 use Rattle.disac4.specs.declared.Tally.{Tally}
 use Rattle.network.specs.Network.{Label, loaded}
 use Rattle.cells.proofs.Queue.{labels-same, queue, queue-taken, queue-none}
-use Rattle.cells.specs.Layout.{WORKERS, CURSORS, LOG, WORK, HEAD, TAIL, SENDS, LISTS, BOUNDS, OUT, WANTED, DOMAIN, COUNTERS, HEADS, LOGEND, HELD, POLLS, OUTEND, OUTREAD}
+use Rattle.cells.specs.Layout.{WORKERS, CURSORS, BOUNDS, LOG, WORK, OUT, WANTED, DOMAIN, COUNTERS, HEADS, HEAD, TAIL, LOGEND, SENDS, LISTS, HELD, POLLS, OUTEND, OUTREAD}
 use Rattle.cells.specs.Memory.{Mem}
 use Rattle.messages.specs.Messages.{letterEnd, takenM, readListM}
 use Rattle.controller.specs.Controller.{Machine}
-use Rattle.cells.specs.View.{labelsBetween, listAt, view, viewLetters, LISTED, counterRow, viewCounter, viewWork, viewSend, viewLists, viewChannel}
+use Rattle.cells.specs.View.{LISTED, labelsBetween, listAt, counterRow, viewCounter, viewWork, viewSend, viewLists, viewLetters, viewChannel, view}
 use Rattle.counters.proofs.Kept.{row-heads}
 use Rattle.refinement.proofs.Actors.{at-worker, actors-update, counters-more, actors-same}
 use Rattle.refinement.proofs.Capacity.{bound-logged, logend-small, sends-few, lists-few}

@@ -35,7 +35,7 @@ use Rattle.refinement.proofs.Frames.{Apart}
 use Rattle.refinement.proofs.Growing.{Both}
 use Rattle.refinement.specs.Inv.{Small, Inv}
 use Rattle.index.specs.Index.{Paired}
-use Rattle.refinement.proofs.Labelwise.{unloaded-apart, Shows, walk-apart, walk-shows, walk-both}
+use Rattle.refinement.proofs.Labelwise.{unloaded-apart, Shows, walk-apart, walk-shows, walk-both, Local}
 use Rattle.refinement.proofs.Seen.{workOf, sendOf}
 use Rattle.refinement.proofs.Touching.{touchLabelM, touch-walk, touch-apart, touch-shows, touch-both}
 use Rattle.refinement.proofs.Unmoved.{Unmoved, held-kept, lists-kept, channel-kept, same-bound}
@@ -74,10 +74,9 @@ module _ (sys : System) (small : Small sys) (s : Machine) (inv : Inv sys s) (i :
   unfolding step
   walked = touch-walk sys i (a .variable) (a .value) (sys .net .variables) taken
 
-  local : (x v : ℕ) → x < sys .net .variables → v < sys .net .size x → (n : Mem) (r a b : ℕ) → Apart sys n i x v r a b
-      → step x v n r a b ≡ n r a b
+  local : Local sys small step (λ x. i)
   unfolding step
-  local x v k l n r b c p = touch-apart sys i (a .variable) (a .value) t x v n r b c p
+  local x v k l = touch-apart sys i (a .variable) (a .value) t x v
 
   paired : Paired sys taken
   paired = paired-kept m taken sys (λ a b. refl) (inv .paired)

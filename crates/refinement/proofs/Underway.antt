@@ -22,7 +22,7 @@ use Rattle.refinement.proofs.Start.{is-accepted, fits-regions, start-in
 use Rattle.refinement.proofs.Static.{play-static}
 use Rattle.index.specs.Index.{Ready}
 use Rattle.refinement.specs.Inv.{Inv}
-use Rattle.cells.specs.Layout.{BEHIND, HEADS, PLACES, NEXT}
+use Rattle.cells.specs.Layout.{HEADS, PLACES, NEXT, BEHIND}
 use Rattle.cells.specs.Memory.{Mem, memOf}
 use Rattle.refinement.specs.Run.{viewOf, playM, countM, startM, At, Going, Plays}
 use Rattle.controller.specs.Controller.{Machine, machine}
