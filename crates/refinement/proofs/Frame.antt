@@ -152,25 +152,30 @@ module _ (m m′ : Mem) where
       sum-ext p (λ i. listsOut m′ i (m′ WORKERS i OUTREAD)) (λ i. listsOut m i (m WORKERS i OUTREAD)) (λ i h.
       lists-out-kept i (m WORKERS i OUTREAD) (m′ WORKERS i OUTREAD) (read i h) (λ e l. out i e h l))
 
--- the cells of which the totals speak
-pub record SameTotals (m m′ : Mem) : Type 0 where
-  pub workers : (i c : ℕ) → (c ≡ HELD → ⊥) → (c ≡ POLLS → ⊥) → m′ WORKERS i c ≡ m WORKERS i c
+-- what the totals speak of: a row's log and work list may grow by as much, and by what leaves the domains
+pub record SameTotals (sys : System) (m m′ : Mem) : Type 0 where
+  pub sends : (i : ℕ) → m′ WORKERS i SENDS ≡ m WORKERS i SENDS
+  pub lists : (i : ℕ) → m′ WORKERS i LISTS ≡ m WORKERS i LISTS
+  pub out-end : (i : ℕ) → m′ WORKERS i OUTEND ≡ m WORKERS i OUTEND
+  pub out-read : (i : ℕ) → m′ WORKERS i OUTREAD ≡ m WORKERS i OUTREAD
   pub cursors : (j i : ℕ) → m′ CURSORS j i ≡ m CURSORS j i
   pub bounds : (i n : ℕ) → m′ BOUNDS i n ≡ m BOUNDS i n
-  pub domain : (x v : ℕ) → m′ DOMAIN x v ≡ m DOMAIN x v
   pub out : (i e : ℕ) → m′ OUT i e ≡ m OUT i e
+  pub ends : (i : ℕ) → m′ WORKERS i TAIL + m WORKERS i LOGEND ≡ m WORKERS i TAIL + m′ WORKERS i LOGEND
+  pub logged :
+      sumBelow (sys .workers) (λ i. m′ WORKERS i LOGEND) + domainSize (sys .net) (λ x v. eqb (m′ DOMAIN x v) LISTED)
+      ≡ sumBelow (sys .workers) (λ i. m WORKERS i LOGEND) + domainSize (sys .net) (λ x v. eqb (m DOMAIN x v) LISTED)
 
--- the totals depend on those cells and on how many lists the controller has counted
-pub totals-kept : (sys : System) (m m′ : Mem) (t t′ : Tally) → SameTotals m m′ → t′ .lists .0 ≡ t .lists .0
+-- the totals depend on that and on how many lists the controller has counted
+pub totals-kept : (sys : System) (m m′ : Mem) (t t′ : Tally) → SameTotals sys m m′ → t′ .lists .0 ≡ t .lists .0
     → Totals sys m t → Totals sys m′ t′
 totals-kept sys m m′ t t′ s e u = record {
   own-cursor = λ i h. s .cursors i i ∙ u .own-cursor i h;
-  cursor = λ j i h l. omega (arith, s .cursors j i, sends j, u .cursor j i h l);
+  cursor = λ j i h l. omega (arith, s .cursors j i, s .sends j, u .cursor j i h l);
   pushed = λ i h.
       omega (
         arith,
-        s .workers i TAIL (omega arith) (omega arith),
-        ends i,
+        s .ends i,
         sum-ext (sys .workers) (λ j. m′ BOUNDS j (m′ CURSORS j i)) (λ j. m BOUNDS j (m CURSORS j i)) (λ j l.
             s .bounds j (m′ CURSORS j i) ∙ ap (m BOUNDS j) (s .cursors j i)),
         u .pushed i h,
@@ -178,30 +183,19 @@ totals-kept sys m m′ t t′ s e u = record {
   counted = λ i h.
       omega (
         arith,
-        s .workers i LISTS (omega arith) (omega arith),
-        sends i,
+        s .lists i,
+        s .sends i,
         sum-ext (sys .workers) (λ j. m′ CURSORS j i) (λ j. m CURSORS j i) (λ j l. s .cursors j i),
         u .counted i h,
       );
-  logged = logged-kept m m′ sys ends (s .domain) ∙ u .logged;
+  logged = s .logged ∙ u .logged;
   all-out = λ i h.
-      lists-out-kept m m′ i (m WORKERS i OUTEND) (m′ WORKERS i OUTEND) (s .workers i OUTEND (omega arith) (omega arith))
-      (λ n l.
-      s .out i n)
+      lists-out-kept m m′ i (m WORKERS i OUTEND) (m′ WORKERS i OUTEND) (s .out-end i) (λ n l. s .out i n)
       ∙ u .all-out i h
-      ∙ sym (sends i);
+      ∙ sym (s .sends i);
   heard =
-      e
-      ∙ u .heard
-      ∙ sym
-      (heard-kept m m′ (sys .workers) (λ i h. s .workers i OUTREAD (omega arith) (omega arith)) (λ i n h l. s .out i n));
+      e ∙ u .heard ∙ sym (heard-kept m m′ (sys .workers) (λ i h. s .out-read i) (λ i n h l. s .out i n));
 }
-  where
-    sends : (i : ℕ) → m′ WORKERS i SENDS ≡ m WORKERS i SENDS
-    sends i = s .workers i SENDS (omega arith) (omega arith)
-
-    ends : (i : ℕ) → m′ WORKERS i LOGEND ≡ m WORKERS i LOGEND
-    ends i = s .workers i LOGEND (omega arith) (omega arith)
 
 -- of what the invariant mentions row by row, only row `i` is changed, and no label has joined its domain
 pub record OnlyRow (m m′ : Mem) (i : ℕ) : Type 0 where

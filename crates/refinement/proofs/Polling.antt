@@ -3,7 +3,7 @@ use Prim.Native.Nat.{ℕ, _+_, _<_, _≤_}
 use mathlib.Core.Bool.{false, not, false≢true}
 use mathlib.Core.Logic.{inl, inr, ⊎-elim}
 use mathlib.Core.Option.{some}
-use mathlib.Core.Path.{_≡_, refl, sym, _∙_}
+use mathlib.Core.Path.{_≡_, refl, sym}
 use native.Mathlib.Omega.{arith}
 use borrow.Author.Tests.{ltb-true, not-true, ne-eqb}
 use lib.Dec.{ltb}
@@ -70,14 +70,15 @@ module _ (sys : System) (m : Mem) (t : Tally) (i : ℕ) (inv : Inv sys (record {
   totals =
       totals-kept sys m (heldM i m) t t
       (record {
-        workers = λ k c held polls.
-            store-other (store m WORKERS i POLLS (m WORKERS i POLLS + 1)) WORKERS i HELD (m WORKERS i POLLS + 1) WORKERS k c
-            (λ r x e. held e)
-            ∙ store-other m WORKERS i POLLS (m WORKERS i POLLS + 1) WORKERS k c (λ r x e. polls e);
+        sends = λ k. refl;
+        lists = λ k. refl;
+        out-end = λ k. refl;
+        out-read = λ k. refl;
         cursors = λ j k. refl;
         bounds = λ k n. refl;
-        domain = λ x v. refl;
         out = λ k e. refl;
+        ends = λ k. refl;
+        logged = refl;
       })
       refl (inv .totals)
 
@@ -162,11 +163,15 @@ module _ (sys : System) (m : Mem) (t : Tally) (inv : Inv sys (record { mem = m; 
               }) (omega arith) (inv .rows i h);
           totals = totals-kept sys m (askM t m) t (askedT t)
               (record {
-                workers = λ k c held polls. refl;
+                sends = λ k. refl;
+                lists = λ k. refl;
+                out-end = λ k. refl;
+                out-read = λ k. refl;
                 cursors = λ j k. refl;
                 bounds = λ k n. refl;
-                domain = λ x v. refl;
                 out = λ k e. refl;
+                ends = λ k. refl;
+                logged = refl;
               }) refl (inv .totals);
           polled = polled;
           replied = λ i h. ⊎-elim inl (λ r. inr (replied-asked i h r)) (inv .replied i h);

@@ -11,8 +11,7 @@ use lib.Dec.{eqb}
 use lib.ListN.{length}
 use Rattle.base.proofs.Bools.{and-left}
 use Rattle.base.proofs.Choice.{everywhere}
-use Rattle.base.proofs.Sums.{sum-ext, sum-change}
-use Rattle.base.specs.Below.{sumBelow}
+use Rattle.base.proofs.Sums.{sum-change}
 use Rattle.network.proofs.DomainSize.{domainSize}
 use Rattle.disac4.proofs.DomainSize.{treat-size}
 use Rattle.disac4.specs.Action.{deletes, deletions}
@@ -20,12 +19,12 @@ use Rattle.disac4.specs.State.{State}
 use Rattle.disac4.specs.System.{System}
 use Rattle.disac4.specs.declared.Tally.{Tally}
 use Rattle.network.specs.Network.{Label}
-use Rattle.cells.specs.Layout.{WORKERS, CURSORS, BOUNDS, LOG, WORK, DOMAIN, HEAD, TAIL, LOGEND, SENDS, LISTS, OUTEND, OUTREAD}
+use Rattle.cells.specs.Layout.{WORKERS, LOG, WORK, DOMAIN, HEAD, TAIL, LOGEND, SENDS, LISTS, OUTEND, OUTREAD}
 use Rattle.cells.specs.Memory.{Mem, store}
 use Rattle.controller.specs.Controller.{Machine}
 use Rattle.counters.specs.Treat.{treatM}
 use Rattle.cells.specs.View.{LISTED, labelOf, view}
-use Rattle.refinement.proofs.Frame.{OnlyRow, Answered, lists-out-kept, heard-kept, worker-action}
+use Rattle.refinement.proofs.Frame.{OnlyRow, Answered, worker-action, totals-kept}
 use Rattle.refinement.proofs.Growing.{Both, both-none, both-more}
 use Rattle.refinement.specs.Inv.{Small, Inv, Row, Totals}
 use Rattle.refinement.proofs.Treating.{treatedM, treated-apart, treated-both, treated-unmoved, head-after, other-row, domain-after, heads-after, treat-busy, treat-idle}
@@ -92,48 +91,29 @@ module _ (sys : System) (small : Small sys) (s : Machine) (inv : Inv sys s) (i :
       (fun-ext λ x. fun-ext λ v. domain-after sys small s inv i h busy x v)
       ∙ treat-size sys (suc i) (labelOf (m WORK i (m WORKERS i HEAD))) st
 
-  -- what a row has read of all logs
-  abbrev read : Mem → ℕ → ℕ
-  read o j = sumBelow (sys .workers) (λ a. o BOUNDS a (o CURSORS a j))
-
-  same-read : (j : ℕ) → read n j ≡ read m j
-  same-read j =
-      sum-ext (sys .workers) (λ a. n BOUNDS a (n CURSORS a j)) (λ a. m BOUNDS a (m CURSORS a j))
-      (λ a b. ap (n BOUNDS a) (u .cursors a j) ∙ u .bounds a (m CURSORS a j))
-
   totals : Totals sys n t
-  totals = record {
-    own-cursor = λ j k. u .cursors j j ∙ inv .totals .own-cursor j k;
-    cursor = λ j k a b. omega (arith, u .cursors j k, u .column j SENDS (omega arith), inv .totals .cursor j k a b);
-    pushed = λ j k.
-        everywhere
-        (λ j. m WORKERS j TAIL ≡ m WORKERS j LOGEND + read m j → n WORKERS j TAIL ≡ n WORKERS j LOGEND + read n j) i
-        (λ e. omega (arith, both .work .end, both .log .end, same-read i))
-        (λ j d e. omega (arith, others j TAIL d, others j LOGEND d, same-read j)) j (inv .totals .pushed j k);
-    counted = λ j k.
-        omega (
+  totals =
+      totals-kept sys m n t t
+      (record {
+        sends = λ j. u .column j SENDS (omega arith);
+        lists = λ j. u .column j LISTS (omega arith);
+        out-end = λ j. u .column j OUTEND (omega arith);
+        out-read = λ j. u .column j OUTREAD (omega arith);
+        cursors = u .cursors;
+        bounds = u .bounds;
+        out = u .out;
+        ends =
+            everywhere (λ j. n WORKERS j TAIL + m WORKERS j LOGEND ≡ m WORKERS j TAIL + n WORKERS j LOGEND) i
+            (omega (arith, both .work .end, both .log .end))
+            (λ j d. omega (arith, others j TAIL d, others j LOGEND d));
+        logged = omega (
           arith,
-          u .column j LISTS (omega arith),
-          u .column j SENDS (omega arith),
-          inv .totals .counted j k,
-          sum-ext (sys .workers) (λ a. n CURSORS a j) (λ a. m CURSORS a j) (λ a b. u .cursors a j),
+          sum-change (sys .workers) (λ j. m WORKERS j LOGEND) (λ j. n WORKERS j LOGEND) i h (λ j k d. sym (others j LOGEND d)),
+          both .log .end,
+          size-after,
         );
-    logged = omega (
-      arith,
-      sum-change (sys .workers) (λ j. m WORKERS j LOGEND) (λ j. n WORKERS j LOGEND) i h (λ j k d. sym (others j LOGEND d)),
-      both .log .end,
-      size-after,
-      inv .totals .logged,
-    );
-    all-out = λ j k.
-        lists-out-kept m n j (m WORKERS j OUTEND) (n WORKERS j OUTEND) (u .column j OUTEND (omega arith)) (λ e l. u .out j e)
-        ∙ inv .totals .all-out j k
-        ∙ sym (u .column j SENDS (omega arith));
-    heard =
-        inv .totals .heard
-        ∙ sym
-        (heard-kept m n (sys .workers) (λ j k. u .column j OUTREAD (omega arith)) (λ j e k l. u .out j e));
-  }
+      })
+      refl (inv .totals)
 
   -- a row with work has not replied at its present count
   answered : Answered n t i
