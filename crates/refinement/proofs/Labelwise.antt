@@ -1,6 +1,6 @@
 -- A walk over the labels in memory whose steps each change what is their label's own and the lists of one row: the labels
 -- don't disturb one another.
-use Prim.Native.Nat.{ℕ, _+_, _-_, _<_}
+use Prim.Native.Nat.{ℕ, _+_, _<_}
 use mathlib.Core.Bool.{Bool, true, false, cond}
 use mathlib.Core.List.{List, [], _++_}
 use mathlib.Core.Logic.{_⊎_, inl, inr}

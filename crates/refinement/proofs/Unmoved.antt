@@ -1,4 +1,4 @@
--- The part of a view that a memory action leaves alone when it only deletes labels: polls, counts of lists and channels.
+-- What a memory action leaves alone when it only deletes labels: polls, counts of lists and channels; its rows stay in order.
 use Prim.Native.Nat.{ℕ, _-_, _<_, _≤_}
 use mathlib.Core.Bool.{cond}
 use mathlib.Core.List.{List}
@@ -19,8 +19,6 @@ use Rattle.refinement.proofs.Growing.{Both}
 use Rattle.refinement.proofs.Grown.{channels-kept}
 use Rattle.refinement.proofs.HeldPoll.{held-same, held-row}
 use Rattle.refinement.proofs.Seen.{rowsOf}
-
--- ---- what stays
 
 -- a column that deletions don't touch
 abbrev pub Steady : ℕ → Type 0
