@@ -27,7 +27,7 @@ loaded-code sys x v h k l =
 
 -- ---- a row that has grown by the labels `l`; its end is kept in a column of the worker's row
 
-pub record Grown (sys : System) (q col i : ℕ) (m n : Mem) (l : List Label) : Type 0 where
+pub record Longer (sys : System) (q col i : ℕ) (m n : Mem) (l : List Label) : Type 0 where
   pub end : n WORKERS i col ≡ m WORKERS i col + length l
   pub old : (d : ℕ) → d < m WORKERS i col → n q i d ≡ m q i d
   pub new : (from : ℕ) → from ≤ m WORKERS i col
@@ -36,9 +36,9 @@ pub record Grown (sys : System) (q col i : ℕ) (m n : Mem) (l : List Label) : T
 
 module _ (sys : System) (q col i : ℕ) where
   -- a row that stays
-  pub grown-none : (m n : Mem) → n WORKERS i col ≡ m WORKERS i col → ((d : ℕ) → n q i d ≡ m q i d)
-      → Grown sys q col i m n []
-  grown-none m n e h = record {
+  pub longer-none : (m n : Mem) → n WORKERS i col ≡ m WORKERS i col → ((d : ℕ) → n q i d ≡ m q i d)
+      → Longer sys q col i m n []
+  longer-none m n e h = record {
     end = omega arith;
     old = λ d p. h d;
     new = λ from p.
@@ -48,9 +48,9 @@ module _ (sys : System) (q col i : ℕ) where
   }
 
   -- first by some labels, then by others
-  pub grown-more : (m n o : Mem) (l k : List Label) → Grown sys q col i m n l → Grown sys q col i n o k
-      → Grown sys q col i m o (l ++ k)
-  grown-more m n o l k g h = record {
+  pub longer-more : (m n o : Mem) (l k : List Label) → Longer sys q col i m n l → Longer sys q col i n o k
+      → Longer sys q col i m o (l ++ k)
+  longer-more m n o l k g h = record {
     end = omega (arith, g .end, h .end, length-append l k);
     old = λ d p. h .old d (omega (arith, g .end)) ∙ g .old d p;
     new = λ from p.
@@ -61,9 +61,9 @@ module _ (sys : System) (q col i : ℕ) where
   }
 
   -- a push
-  pub grown-push : (m : Mem) (c : ℕ) → (q ≡ WORKERS → ⊥) → m WORKERS i col < 512 → Code sys c
-      → Grown sys q col i m (pushM q col i c m) (labelOf c ∷ [])
-  grown-push m c apart room code = subst (λ n. Grown sys q col i m n (labelOf c ∷ [])) (sym (push-stores q col i c m room)) stored
+  pub longer-push : (m : Mem) (c : ℕ) → (q ≡ WORKERS → ⊥) → m WORKERS i col < 512 → Code sys c
+      → Longer sys q col i m (pushM q col i c m) (labelOf c ∷ [])
+  longer-push m c apart room code = subst (λ n. Longer sys q col i m n (labelOf c ∷ [])) (sym (push-stores q col i c m room)) stored
     where
       at : ℕ
       at = m WORKERS i col
@@ -86,7 +86,7 @@ module _ (sys : System) (q col i : ℕ) where
           store-other put WORKERS i col (at + 1) q i d (λ e. absurd (apart e))
           ∙ store-other m q i at c q i d (λ e f. h)
 
-      stored : Grown sys q col i m n (labelOf c ∷ [])
+      stored : Longer sys q col i m n (labelOf c ∷ [])
       stored = record {
         end = end-at;
         old = λ d p. old-at d (λ e. omega arith);
@@ -102,14 +102,14 @@ module _ (sys : System) (q col i : ℕ) where
       }
 
 -- a copied list message: labels of row `j`'s log join the end of row `i`'s work list
-pub grown-copy : (sys : System) (j i from n : ℕ) (m : Mem) → m WORKERS i TAIL + n ≤ 512
+pub longer-copy : (sys : System) (j i from n : ℕ) (m : Mem) → m WORKERS i TAIL + n ≤ 512
     → ((d : ℕ) → d < from + n → Code sys (m LOG j d))
-    → Grown sys WORK TAIL i m (copyM j i from n m) (labelsBetween m LOG j from (from + n))
+    → Longer sys WORK TAIL i m (copyM j i from n m) (labelsBetween m LOG j from (from + n))
 unfolding copyM
-grown-copy sys j i from zero m room codes =
-    subst (Grown sys WORK TAIL i m m) (sym (labels-none m LOG j from (from + 0) (omega arith)))
-    (grown-none sys WORK TAIL i m m refl (λ d. refl))
-grown-copy sys j i from (suc n) m room codes = go (grown-copy sys j i from n m (omega arith) (λ d h. codes d (omega arith)))
+longer-copy sys j i from zero m room codes =
+    subst (Longer sys WORK TAIL i m m) (sym (labels-none m LOG j from (from + 0) (omega arith)))
+    (longer-none sys WORK TAIL i m m refl (λ d. refl))
+longer-copy sys j i from (suc n) m room codes = go (longer-copy sys j i from n m (omega arith) (λ d h. codes d (omega arith)))
   where
     before : Mem
     before = copyM j i from n m
@@ -123,23 +123,23 @@ grown-copy sys j i from (suc n) m room codes = go (grown-copy sys j i from n m (
     copied : List Label
     copied = labelsBetween m LOG j from (from + n)
 
-    go : Grown sys WORK TAIL i m before copied
-        → Grown sys WORK TAIL i m (pushM WORK TAIL i next before) (labelsBetween m LOG j from (from + suc n))
+    go : Longer sys WORK TAIL i m before copied
+        → Longer sys WORK TAIL i m (pushM WORK TAIL i next before) (labelsBetween m LOG j from (from + suc n))
     go grown =
-        subst (Grown sys WORK TAIL i m (pushM WORK TAIL i next before))
+        subst (Longer sys WORK TAIL i m (pushM WORK TAIL i next before))
         (ap (λ (c : ℕ). copied ++ (labelOf c ∷ [])) same
         ∙ sym (labels-last m LOG j from (from + n) (omega arith))
         ∙ ap (labelsBetween m LOG j from) (let e : from + n + 1 ≡ from + suc n = omega arith in e))
-        (grown-more sys WORK TAIL i m before (pushM WORK TAIL i next before) copied (labelOf next ∷ []) grown
-        (grown-push sys WORK TAIL i before next (λ e. omega arith)
+        (longer-more sys WORK TAIL i m before (pushM WORK TAIL i next before) copied (labelOf next ∷ []) grown
+        (longer-push sys WORK TAIL i before next (λ e. omega arith)
         (omega (arith, grown .end, labels-length m LOG j from (from + n)))
         (subst (Code sys) (sym same) (codes (from + n) (omega arith)))))
 
 -- ---- a row's log and work list that have grown by the same labels
 
 pub record Both (sys : System) (i : ℕ) (m n : Mem) (l : List Label) : Type 0 where
-  pub log : Grown sys LOG LOGEND i m n l
-  pub work : Grown sys WORK TAIL i m n l
+  pub log : Longer sys LOG LOGEND i m n l
+  pub work : Longer sys WORK TAIL i m n l
 
 -- where there is room, they grow by the labels `l`
 abbrev pub Appends : System → ℕ → Mem → Mem → List Label → Type 0
@@ -150,15 +150,15 @@ module _ (sys : System) (i : ℕ) where
   pub both-none : (m n : Mem) → n WORKERS i LOGEND ≡ m WORKERS i LOGEND → n WORKERS i TAIL ≡ m WORKERS i TAIL
       → ((d : ℕ) → n LOG i d ≡ m LOG i d) → ((d : ℕ) → n WORK i d ≡ m WORK i d) → Both sys i m n []
   both-none m n e f g h = record {
-    log = grown-none sys LOG LOGEND i m n e g;
-    work = grown-none sys WORK TAIL i m n f h;
+    log = longer-none sys LOG LOGEND i m n e g;
+    work = longer-none sys WORK TAIL i m n f h;
   }
 
   -- first by some labels, then by others
   pub both-more : (m n o : Mem) (l k : List Label) → Both sys i m n l → Both sys i n o k → Both sys i m o (l ++ k)
   both-more m n o l k g h = record {
-    log = grown-more sys LOG LOGEND i m n o l k (g .log) (h .log);
-    work = grown-more sys WORK TAIL i m n o l k (g .work) (h .work);
+    log = longer-more sys LOG LOGEND i m n o l k (g .log) (h .log);
+    work = longer-more sys WORK TAIL i m n o l k (g .work) (h .work);
   }
 
   -- with room, a deleted label joins both
@@ -168,16 +168,16 @@ module _ (sys : System) (i : ℕ) where
   both-delete m x v h k l room room′ =
       subst (λ a. Both sys i m (deleteM i x v m) (a ∷ [])) (label-code x v l)
       (record {
-        log = grown-more sys LOG LOGEND i m logged (deleteM i x v m) (labelOf c ∷ []) []
-            (grown-more sys LOG LOGEND i m out logged [] (labelOf c ∷ []) (grown-none sys LOG LOGEND i m out refl (λ d. refl))
-            (grown-push sys LOG LOGEND i out c (λ e. omega arith) room code))
-            (grown-none sys LOG LOGEND i logged (deleteM i x v m)
+        log = longer-more sys LOG LOGEND i m logged (deleteM i x v m) (labelOf c ∷ []) []
+            (longer-more sys LOG LOGEND i m out logged [] (labelOf c ∷ []) (longer-none sys LOG LOGEND i m out refl (λ d. refl))
+            (longer-push sys LOG LOGEND i out c (λ e. omega arith) room code))
+            (longer-none sys LOG LOGEND i logged (deleteM i x v m)
             (worked-other WORKERS LOGEND (omega arith))
             (λ d. worked-other LOG d (omega arith)));
-        work = grown-more sys WORK TAIL i m logged (deleteM i x v m) [] (labelOf c ∷ [])
-            (grown-none sys WORK TAIL i m logged (logged-other WORKERS TAIL (omega arith))
+        work = longer-more sys WORK TAIL i m logged (deleteM i x v m) [] (labelOf c ∷ [])
+            (longer-none sys WORK TAIL i m logged (logged-other WORKERS TAIL (omega arith))
             (λ d. logged-other WORK d (omega arith)))
-            (grown-push sys WORK TAIL i logged c (λ e. omega arith)
+            (longer-push sys WORK TAIL i logged c (λ e. omega arith)
             (omega (arith, logged-other WORKERS TAIL (omega arith))) code);
       })
     where

@@ -30,7 +30,7 @@ pub use Rattle.refinement.specs.Run.{freshTally as startTally}
 use Rattle.cells.specs.View.{LISTED, isWorker, labelsBetween, counterRow, viewCounter, viewWork, viewSend, viewHeld, viewLists, viewLetters, viewPolls, viewOut, viewChannel, view}
 use Rattle.refinement.proofs.Actors.{atActor, row-of}
 use Rattle.refinement.proofs.Frames.{Apart}
-use Rattle.refinement.proofs.Growing.{Grown, Both}
+use Rattle.refinement.proofs.Growing.{Longer, Both}
 use Rattle.refinement.specs.Inv.{Small}
 use Rattle.index.specs.Index.{Paired}
 use Rattle.refinement.proofs.Grown.{lettersQueue, outQueue, pollsQueue}
@@ -150,7 +150,7 @@ module _ (sys : System) (small : Small sys) (z : Mem) (paired : Paired sys z) (b
 
   -- the lists of an actor, from a place of its row of region `q` to the end that a column keeps
   queue-loaded : (q col : ℕ) (from : ℕ → ℕ) → ((i : ℕ) → from i ≡ 0) → ((i : ℕ) → z WORKERS i col ≡ 0)
-      → ((i : ℕ) → i < sys .workers → Grown sys q col i z n (loadedDeletions sys (suc i)))
+      → ((i : ℕ) → i < sys .workers → Longer sys q col i z n (loadedDeletions sys (suc i)))
       → (k : ℕ) → atActor sys (λ i. labelsBetween n q i (from i) (n WORKERS i col)) [] k ≡ loadedDeletions sys k
   queue-loaded q col from start end grown k = go (isWorker sys k) refl
     where

@@ -23,7 +23,7 @@ use Rattle.messages.specs.Messages.{letterStart, letterEnd, takenM, readListM}
 use Rattle.controller.specs.Controller.{Machine}
 use Rattle.refinement.proofs.Capacity.{letter-room, bound-logged}
 use Rattle.refinement.proofs.Frame.{OnlyRow, Answered, row-grown, lists-out-kept, logged-kept, heard-kept, worker-action}
-use Rattle.refinement.proofs.Growing.{Grown, grown-copy}
+use Rattle.refinement.proofs.Growing.{Longer, longer-copy}
 use Rattle.refinement.specs.Inv.{Row, Totals, Inv, Small}
 
 -- how many labels the next list message of row `j` for row `i` has
@@ -123,21 +123,21 @@ module _ (j i : ℕ) (m : Mem) where
 -- the list message joins the reader's work list
 pub taken-list : (sys : System) → Small sys → (s : Machine) → Inv sys s → (j i : ℕ) → j < sys .workers → i < sys .workers
     → (j ≡ i → ⊥) → s .mem CURSORS j i < s .mem WORKERS j SENDS
-    → Grown sys WORK TAIL i (s .mem) (takenM j i (s .mem)) (listAt (s .mem) j (s .mem CURSORS j i))
+    → Longer sys WORK TAIL i (s .mem) (takenM j i (s .mem)) (listAt (s .mem) j (s .mem CURSORS j i))
 unfolding takenM listAt labelsBetween
 taken-list sys small s inv j i hj hi apart unread =
     let m = s .mem in
     let e : letterStart j i m + letterLength j i m ≡ letterEnd j i m = omega (arith, inv .rows j hj .bounds-rise (m CURSORS j i) unread) in
-    let g = grown-copy sys j i (letterStart j i m) (letterLength j i m) m (letter-room sys small s inv j i hj hi apart unread)
+    let g = longer-copy sys j i (letterStart j i m) (letterLength j i m) m (letter-room sys small s inv j i hj hi apart unread)
     (λ d l. inv .rows j hj .log-codes d (omega (arith, bound-logged sys small s inv j hj (m CURSORS j i + 1) (omega arith)))) in
-    subst (λ (c : ℕ). Grown sys WORK TAIL i m (takenM j i m) (labelsBetween m LOG j (letterStart j i m) c)) e
+    subst (λ (c : ℕ). Longer sys WORK TAIL i m (takenM j i m) (labelsBetween m LOG j (letterStart j i m) c)) e
     (record { end = g .end; old = g .old; new = g .new; codes = g .codes })
 
 -- ---- the parts of the invariant
 
 module _ (sys : System) (m : Mem) (t : Tally) (j i : ℕ) (inv : Inv sys (record { mem = m; tally = t }))
     (hj : j < sys .workers) (hi : i < sys .workers) (apart : j ≡ i → ⊥) (unread : m CURSORS j i < m WORKERS j SENDS)
-    (joined : Grown sys WORK TAIL i m (takenM j i m) (listAt m j (m CURSORS j i))) where
+    (joined : Longer sys WORK TAIL i m (takenM j i m) (listAt m j (m CURSORS j i))) where
   row : Row sys (takenM j i m) t i
   row =
       let r = inv .rows i hi in
