@@ -12,9 +12,11 @@ use native.Mathlib.Omega.{arith}
 use lib.Dec.{eqb}
 use Rattle.base.proofs.Below.{below-cases}
 use Rattle.base.proofs.Bools.{decided, and-left, and-right, and-intro, and-false-left, and-comm, or-cases, or-comm, or-right, bool-ext}
+pub use Rattle.base.proofs.Bools.{and-true}
 use Rattle.base.proofs.Choice.{cond-true, cond-false}
 use Rattle.base.specs.Below.{allBelow, anyBelow}
 use Rattle.index.specs.Index.{over, chainBelow, Indexed, placesM, linkM, constraintStart, chainsM, indexM}
+use Rattle.cells.proofs.Stores.{store-apart}
 use Rattle.cells.specs.Layout.{HEADS, PLACES, NEXT}
 use Rattle.cells.specs.Memory.{Mem, store}
 use Rattle.plan.proofs.InOrder.{InOrder}
@@ -37,10 +39,6 @@ unfolding chainBelow
 chain-turned b x y zero = refl
 chain-turned b x y (suc k) =
     ap₂ (λ (t : Bool) (n : ℕ). cond t (suc k) n) (over-turned b x y k) (chain-turned b x y k)
-
-pub and-true : (a : Bool) {b : Bool} → b ≡ true → a && b ≡ a
-and-true true e = e
-and-true false e = refl
 
 module _ (b : List ℕ) (x y : ℕ) where
   chain-here : (c : ℕ) → over b x y c ≡ true → chainBelow b x y (suc c) ≡ suc c
@@ -96,12 +94,6 @@ module _ (b : List ℕ) (x y : ℕ) where
       ap (λ (t : Bool). anyBelow k (over b x y) || t) p ∙ or-comm (anyBelow k (over b x y)) false ∙ chain-any k
       ∙ ap (λ (n : ℕ). not (eqb n 0)) (sym (chain-past k p)))
       (decided (over b x y k))
-
--- ---- a store in another region
-
-pub store-apart : (m : Mem) (r i j v s k l : ℕ) → (s ≡ r → ⊥) → store m r i j v s k l ≡ m s k l
-store-apart m r i j v s k l h =
-    cond-false v (m s k l) (and-false-left (eqb k i) (and-false-left (eqb l j) (ne-eqb s r h)))
 
 -- ---- the variables of a constraint
 
