@@ -10,7 +10,6 @@ pub mod Links
 pub mod Pairs
 pub mod Parts
 pub mod Passed
-pub mod Scanned
 pub mod Sections
 pub mod Variables
 pub mod WellFormed

@@ -3,8 +3,6 @@ pub mod Check
 pub mod Computes
 pub mod Decode
 pub mod Fault
-pub mod Known
 pub mod Network
 pub mod Plan
-pub mod Scan
 pub mod WellFormed

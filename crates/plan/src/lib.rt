@@ -1,7 +1,5 @@
-// The plan check: from a plan's bytes to its figures, or to its first fault and the fault's place.
-use format::reader::byte_at;
+// Plans: definitions, theorems, and the types of the plan check's answer.
 ghost use mathlib.Core.Path.{_≡_};
-ghost use Rattle.plan.specs.Answer.{planCheck};
 ghost use Rattle.plan.specs.Fault.{numberOf};
 
 // Why a call declines: a case for each number of document 01.
@@ -58,11 +56,6 @@ pub enum Checked {
     Declined(Decline),
 }
 
-mod constraint;
-mod scan;
-mod section;
-mod variable;
-
 // The number that document 01 gives to a fault.
 pub fn fault_number(fault: Fault) -> usize
     ensures { λ r. ⌜ r ≡ numberOf fault ⌝ }
@@ -81,17 +74,4 @@ pub fn fault_number(fault: Fault) -> usize
         Fault::BadTurnList => 11,
         Fault::BadTurn => 12,
     }
-}
-
-// Checks the plan that the bytes hold: its figures, or its first fault and the fault's place.
-pub fn check_plan(plan: &[u8]) -> Checked
-    ensures { λ r. ⌜ r ≡ planCheck (now (plan .entry)) ⌝ }
-{
-    if plan.len() == 0 {
-        return scan::declined(Fault::Truncated, 0);
-    }
-    if byte_at(plan, 0) != 1 {
-        return scan::declined(Fault::BadVersion, 0);
-    }
-    scan::check_sections(plan)
 }

@@ -30,7 +30,7 @@ pub mod c;
 pub fn check_plan(plan: &[u8]) -> Checked
     ensures { λ r. ⌜ r ≡ planCheck (now (plan .entry)) ⌝ }
 {
-    plan::check_plan(plan)
+    parser::check_plan(plan)
 }
 
 fn declined(fault: Fault, place: usize) -> Answer
@@ -108,7 +108,7 @@ pub fn run_turns(plan: &[u8], turns: &[u8], work: &mut [u16], lists: &mut [u16])
     if !list_fits(turns) {
         return declined(Fault::BadTurnList, 0);
     }
-    match plan::check_plan(plan) {
+    match parser::check_plan(plan) {
         Checked::Declined(d) => Answer::Declined(d),
         Checked::Accepted(f) => {
             let p = f.workers;
@@ -129,7 +129,7 @@ pub fn run_round(plan: &[u8], work: &mut [u16], lists: &mut [u16]) -> Answer
     if let Verdict::Fails(fault) = verdict {
         return declined(fault, 0);
     }
-    match plan::check_plan(plan) {
+    match parser::check_plan(plan) {
         Checked::Declined(d) => Answer::Declined(d),
         Checked::Accepted(f) => {
             let p = f.workers;

@@ -68,7 +68,7 @@ fn declined(d: plan::Decline) {
 }
 
 fn answer(bytes: &[u8]) {
-    match plan::check_plan(bytes) {
+    match parser::check_plan(bytes) {
         Checked::Accepted(f) => accepted(f),
         Checked::Declined(d) => declined(d),
     }

@@ -1,0 +1,102 @@
+-- What the scan knows behind the sections that passed, and how one section more changes it.
+use Prim.Native.Nat.{ℕ, _+_, _<_, _≤_}
+use mathlib.Core.Logic.{⊎-elim}
+use mathlib.Core.List.{List}
+use mathlib.Core.Option.{Option, none, some}
+use mathlib.Core.Path.{_≡_, refl, sym, _∙_, ap}
+use borrow.Author.Tests.{leb-true, le-leb, ne-eqb}
+use native.Mathlib.Numerals.{add-one}
+use native.Mathlib.Omega.{arith}
+use lib.ListN.{length, set, getD}
+use lib.Seq.{getD-set-same, getD-set-other}
+use Rattle.base.proofs.Below.{below-cases, first-at, first-more}
+use Rattle.base.proofs.Choice.{between-high}
+use Rattle.base.specs.Below.{firstBelow}
+use Rattle.format.specs.Format.{behind, sectionStart, variableCount, sizeAt}
+use Rattle.plan.proofs.Checks.{each-holds}
+use Rattle.plan.proofs.Head.{variables-range}
+use Rattle.plan.proofs.Sections.{passed-before, start-within}
+use Rattle.plan.specs.Check.{firstFault, variableChecks, sectionChecks, faultAt, sectionFault, verdictOf}
+use Rattle.plan.specs.Decode.{sectionCount}
+use Rattle.plan.specs.Fault.{decline}
+use Rattle.parser.specs.Known.{PassedBefore, VariablesKnown}
+use Rattle.parser.specs.Scan.{answerOf, trailingFault, sectionsFault}
+use Rattle.plan.specs.declared.Checked.the-variants.{Declined}
+use Rattle.plan.specs.declared.Fault.{Fault}
+use Rattle.plan.specs.declared.Verdict.{Verdict}
+use Rattle.plan.specs.declared.Verdict.the-variants.{Passes, Fails}
+
+module _ (b starts : List ℕ) (k : ℕ) (known : PassedBefore b starts k) where
+  passes : (i : ℕ) → i < k → firstFault (sectionChecks b i) ≡ none
+  passes = passed-before b k (known .passed)
+
+  few-variables : 0 < k → variableCount b ≤ 32
+  unfolding sectionChecks
+  few-variables h = between-high 1 32 (variableCount b) (variables-range b (sectionStart b 0) (passes 0 h))
+
+  few-values : (s : ℕ) → 1 ≤ s → s ≤ variableCount b → s < k → sizeAt b s ≤ 16
+  unfolding sectionChecks variableChecks
+  few-values s l h p =
+      leb-true (sizeAt b s) 16
+      (each-holds (variableChecks b (sectionStart b s))
+      (rw (ne-eqb s 0 (omega arith), le-leb s (variableCount b) h) at (passes s p)) 2)
+
+  -- behind the variables' sections, the variables are known
+  pub variables-known : 0 < length b → variableCount b < k → VariablesKnown b starts
+  variables-known h p =
+      let few : variableCount b ≤ 32 = few-variables (omega arith) in
+      record {
+        few = few;
+        found = λ s l. known .found s (omega arith) (omega arith);
+        within = λ s l. start-within b h s (λ i q. passes i (omega arith));
+        small = λ s l r. few-values s l r (omega arith);
+      }
+
+  -- section k starts within the plan
+  pub next-within : 0 < length b → sectionStart b k ≤ length b
+  next-within h = start-within b h k passes
+
+  -- the section behind it starts where it ends
+  pub next-start : (at next : ℕ) → at ≡ sectionStart b k → next ≡ behind b at → next ≡ sectionStart b (k + 1)
+  unfolding sectionStart
+  next-start at next e p = rw add-one (p ∙ ap (behind b) e)
+
+  -- section k passes too
+  pub passed-more : (at : ℕ) → length starts ≡ 33 → at ≡ sectionStart b k → firstFault (sectionChecks b k) ≡ none
+      → PassedBefore b (set starts k at) (k + 1)
+  unfolding sectionFault
+  passed-more at n e p = record {
+    passed = first-more k (sectionFault b) (known .passed) (ap (faultAt (sectionStart b k)) p);
+    found = λ i l h.
+        ⊎-elim
+        (λ q. ap (λ (j : ℕ). getD (set starts k at) j 0) q ∙ getD-set-same starts k at 0 (omega arith) ∙ e ∙ ap (sectionStart b) (sym q))
+        (λ q. getD-set-other starts k i at 0 (λ r. omega arith) ∙ known .found i q h)
+        (below-cases (omega arith));
+  }
+
+  -- section k has the plan's first fault
+  pub first-fault : (n : ℕ) (f : Fault) → k < n → firstFault (sectionChecks b k) ≡ some f
+      → firstBelow n (sectionFault b) ≡ some (decline f (sectionStart b k))
+  unfolding sectionFault
+  first-fault n f h p =
+      first-at n (sectionFault b) k (decline f (sectionStart b k)) h (known .passed) (ap (faultAt (sectionStart b k)) p)
+
+  -- the answer of a plan whose first fault is in section k
+  pub fault-answer : (n at : ℕ) (f : Fault) → n ≡ sectionCount b → k < n → at ≡ sectionStart b k
+      → firstFault (sectionChecks b k) ≡ some f → Declined (decline f at) ≡ answerOf b (sectionsFault b)
+  unfolding answerOf sectionsFault
+  fault-answer n at f c h e p = rw (first-fault (sectionCount b) f (omega arith) p, e)
+
+  -- the answer of a plan whose sections all pass
+  pub end-answer : k ≡ sectionCount b → answerOf b (trailingFault b) ≡ answerOf b (sectionsFault b)
+  unfolding sectionsFault
+  end-answer e = rw (← e, known .passed)
+
+-- a section's answer
+pub verdict-passes : (o : Option Fault) (v : Verdict) → v ≡ verdictOf o → v ≡ Passes → o ≡ none
+verdict-passes none v p q = refl
+verdict-passes (some f) v p q = let z : _≡_ {A = ℕ} 0 1 = cc in absurd (omega arith)
+
+pub verdict-fails : (o : Option Fault) (v : Verdict) (f : Fault) → v ≡ verdictOf o → v ≡ Fails f → o ≡ some f
+verdict-fails none v f p q = let z : _≡_ {A = ℕ} 0 1 = cc in absurd (omega arith)
+verdict-fails (some g) v f p q = let e : g ≡ f = cc in ap {B = Option Fault} some e

@@ -1,0 +1,54 @@
+-- `parser::scan::check_end` gives 8 for bytes behind the last section, and else the plan's figures. Assumes nothing.
+use borrow.Author.Tests.{lt-ltb, le-ltb}
+use mathlib.Core.Path.{ap}
+use lib.ListN.{length}
+use Rattle.plan.proofs.Answer.{figures-built}
+use Rattle.parser.specs.Scan.{answerOf, trailingFault}
+use Rattle.plan.specs.declared.Checked.the-variants.{Accepted}
+use borrow.Author.Needs.{needs}
+use Rattle.parser.proofs.scan.check_end.Statement.{statement}
+use Rattle.parser.proofs.scan.check_end.Tie as tie
+
+declined-requires : tie.Need-declined-requires
+declined-requires c κs = search needs
+
+returns : tie.Need-returns
+unfolding answerOf trailingFault
+returns c =
+    let s = c .before .before .before in
+    rw (← s .pre .1, lt-ltb (s .args .at) (length (s .args .b .now)) (c .before .if1 .taken)) (c .declined .ensures)
+
+worker-count-requires : tie.Need-worker-count-requires
+worker-count-requires c κs = search needs
+
+variable-count-requires : tie.Need-variable-count-requires
+variable-count-requires c κs = search needs
+
+constraint-count-requires : tie.Need-constraint-count-requires
+constraint-count-requires c κs = search needs
+
+count-labels-requires : tie.Need-count-labels-requires
+count-labels-requires c κs = search needs
+
+returns-2 : tie.Need-returns-2
+unfolding answerOf trailingFault
+returns-2 c =
+    let e = c .before .before .before .before in
+    let s = e .before .before in
+    let b = s .args .b .now in
+    rw (← s .pre .1, le-ltb (s .args .at) (length b) (e .if1 .left))
+    (ap Accepted
+    (figures-built b _ (c .before .before .before .worker-count .ensures .0)
+    (c .before .before .variable-count .ensures .0) (c .before .constraint-count .ensures .0) (c .count-labels .ensures)))
+
+pub check-end-spec : {M : Type 1} → statement M
+check-end-spec =
+    tie.close
+    (tie.spec
+    declined-requires
+    returns
+    worker-count-requires
+    variable-count-requires
+    constraint-count-requires
+    count-labels-requires
+    returns-2)

@@ -1,0 +1,68 @@
+-- `parser::scan::check_section` gives the first fault of a section, by its kind. Assumes nothing.
+use borrow.Author.Tests.{le-leb, lt-leb, eq-eqb, ne-eqb}
+use native.Mathlib.Omega.{arith}
+use Rattle.parser.proofs.Scanned.{variables-known}
+use Rattle.plan.specs.Check.{sectionChecks}
+use borrow.Author.Needs.{needs}
+use Rattle.parser.proofs.scan.check_section.Statement.{statement}
+use Rattle.parser.proofs.scan.check_section.Tie as tie
+
+check-head-requires : tie.Need-check-head-requires
+check-head-requires c κs = search needs
+
+returns : tie.Need-returns
+unfolding sectionChecks
+returns c =
+    let s = c .before .before .before in
+    rw (eq-eqb (s .args .k) 0 (c .before .if1 .taken), ← s .pre .1) (c .check-head .ensures)
+
+variable-count-requires : tie.Need-variable-count-requires
+variable-count-requires c κs = search needs
+
+check-variable-requires : tie.Need-check-variable-requires
+check-variable-requires c κs = search needs
+
+returns-2 : tie.Need-returns-2
+unfolding sectionChecks
+returns-2 c =
+    let t = c .before in
+    let s = t .before .before .before .before in
+    rw (
+      ne-eqb (s .args .k) 0 (t .before .before .if1 .left),
+      ← t .before .variable-count .ensures .0,
+      le-leb (s .args .k) _ (t .if2 .taken),
+      ← s .pre .1,
+    )
+    (c .check-variable .ensures)
+
+check-constraint-requires : tie.Need-check-constraint-requires
+check-constraint-requires c κs =
+    let s = c .before .before .before .before in (
+      variables-known (s .args .b .now) (s .args .starts .now) (s .args .k) (s .pre .0) (s .pre .3) (omega (arith, c .before .variable-count .ensures .0)),
+      s .pre .2,
+    )
+
+returns-3 : tie.Need-returns-3
+unfolding sectionChecks
+returns-3 c =
+    let t = c .before in
+    let s = t .before .before .before .before in
+    rw (
+      ne-eqb (s .args .k) 0 (t .before .before .if1 .left),
+      ← t .before .variable-count .ensures .0,
+      lt-leb (s .args .k) _ (t .if2 .left),
+      ← s .pre .1,
+    )
+    (c .check-constraint .ensures)
+
+pub check-section-spec : {M : Type 1} → statement M
+check-section-spec =
+    tie.close
+    (tie.spec
+    check-head-requires
+    returns
+    variable-count-requires
+    check-variable-requires
+    returns-2
+    check-constraint-requires
+    returns-3)

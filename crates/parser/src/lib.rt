@@ -1,0 +1,24 @@
+// The plan check: from a plan's bytes to its figures, or to its first fault and the fault's place.
+use format::reader::byte_at;
+use plan::Checked;
+use plan::Fault;
+ghost use mathlib.Core.Path.{_≡_};
+ghost use Rattle.plan.specs.Answer.{planCheck};
+
+mod constraint;
+mod scan;
+mod section;
+mod variable;
+
+// Checks the plan that the bytes hold: its figures, or its first fault and the fault's place.
+pub fn check_plan(plan: &[u8]) -> Checked
+    ensures { λ r. ⌜ r ≡ planCheck (now (plan .entry)) ⌝ }
+{
+    if plan.len() == 0 {
+        return scan::declined(Fault::Truncated, 0);
+    }
+    if byte_at(plan, 0) != 1 {
+        return scan::declined(Fault::BadVersion, 0);
+    }
+    scan::check_sections(plan)
+}

@@ -1,0 +1,110 @@
+// The sections of a plan in turn.
+use crate::constraint;
+use crate::section;
+use crate::variable;
+use format::read;
+use plan::Checked;
+use plan::Decline;
+use plan::Fault;
+use plan::Figures;
+use plan::Verdict;
+ghost use mathlib.Core.Path.{_≡_};
+ghost use Prim.Native.Nat.{_≤_};
+ghost use lib.ListN.{length, set};
+ghost use Rattle.format.specs.Format.{sectionStart};
+ghost use Rattle.network.specs.Network.{labelCount};
+ghost use Rattle.plan.specs.Check.{sectionChecks, firstFault, verdictOf};
+ghost use Rattle.plan.specs.Decode.{planOf, planEnd, sectionCount};
+ghost use Rattle.plan.specs.Fault.{decline};
+ghost use Rattle.parser.specs.Known.{PassedBefore, VariablesKnown};
+ghost use Rattle.plan.specs.Network.{networkOf};
+ghost use Rattle.parser.specs.Scan.{answerOf, trailingFault, sectionsFault};
+
+pub fn declined(fault: Fault, place: usize) -> Checked
+    ensures { λ r. ⌜ r ≡ Checked.Declined (decline fault place) ⌝ }
+{
+    Checked::Declined(Decline { fault, place })
+}
+
+// Room for the places of the head and the variables.
+fn no_starts() -> [usize; 33]
+    ensures { λ r. ⌜ length r ≡ 33 ⌝ }
+{
+    [0; 33]
+}
+
+// The place of section k, kept for the head and the variables.
+fn keep_start(starts: &mut [usize; 33], k: usize, at: usize)
+    requires { ⌜ length (now starts) ≡ 33 ⌝ }
+    ensures { λ _. ⌜ now (starts .exit) ≡ set (now (starts .entry)) k at ⌝ }
+{
+    if k < 33 {
+        starts[k] = at;
+    }
+}
+
+// The checks of section k: of the head, a variable or a constraint.
+fn check_section(b: &[u8], k: usize, at: usize, starts: &[usize; 33]) -> Verdict
+    requires { ⌜ PassedBefore (now b) (now starts) k × (at ≡ sectionStart (now b) k) × (at ≤ length (now b)) × (1 ≤ length (now b)) ⌝ }
+    ensures { λ r. ⌜ r ≡ verdictOf (firstFault (sectionChecks (now (b .entry)) k)) ⌝ }
+{
+    if k == 0 {
+        return section::check_head(b, at);
+    }
+    if k <= read::variable_count(b) {
+        return variable::check_variable(b, at);
+    }
+    constraint::check_constraint(b, at, starts)
+}
+
+// L: how many values the variables have together.
+fn count_labels(b: &[u8], starts: &[usize; 33]) -> usize
+    requires { ⌜ VariablesKnown (now b) (now starts) ⌝ }
+    ensures { λ r. ⌜ r ≡ labelCount (networkOf (planOf (now (b .entry)))) ⌝ }
+{
+    let count = read::variable_count(b);
+    let mut labels = 0;
+    let mut x = 0;
+    while x < count {
+        labels += constraint::size_at(b, starts, x + 1);
+        x += 1;
+    }
+    labels
+}
+
+// What is left to check behind the last section, which ends at `at`.
+fn check_end(b: &[u8], at: usize, starts: &[usize; 33]) -> Checked
+    requires { ⌜ VariablesKnown (now b) (now starts) × (at ≡ planEnd (now b)) ⌝ }
+    ensures { λ r. ⌜ r ≡ answerOf (now (b .entry)) (trailingFault (now (b .entry))) ⌝ }
+{
+    if at < b.len() {
+        return declined(Fault::TrailingBytes, at);
+    }
+    Checked::Accepted(Figures {
+        workers: read::worker_count(b),
+        variables: read::variable_count(b),
+        constraints: read::constraint_count(b),
+        labels: count_labels(b, starts),
+    })
+}
+
+// The sections in turn, and what follows them. A head out of range ends the scan at once, so that its counts can be trusted.
+pub fn check_sections(b: &[u8]) -> Checked
+    requires { ⌜ 1 ≤ length (now b) ⌝ }
+    ensures { λ r. ⌜ r ≡ answerOf (now (b .entry)) (sectionsFault (now (b .entry))) ⌝ }
+{
+    let count = 1 + read::variable_count(b) + read::constraint_count(b);
+    let mut starts = no_starts();
+    let mut at = 1;
+    let mut k = 0;
+    while k < count {
+        let verdict = check_section(b, k, at, &starts);
+        if let Verdict::Fails(fault) = verdict {
+            return declined(fault, at);
+        }
+        keep_start(&mut starts, k, at);
+        at = read::behind(b, at);
+        k += 1;
+    }
+    check_end(b, at, &starts)
+}
