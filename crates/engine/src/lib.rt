@@ -1,6 +1,4 @@
-// Runs on lent cells: the plan is loaded, turns or rounds are played, the report is given and the cells are cleared.
+// Runs on lent cells: the plan is loaded, turns are played, the report is given and the cells are cleared.
 pub mod finish;
 pub mod play;
-pub mod rounds;
 pub mod run;
-pub mod turns;

@@ -26,7 +26,7 @@ use Rattle.disac4.specs.declared.Answer.the-variants.{Reported, Declined}
 use Rattle.disac4.specs.declared.Report.{Report}
 use Rattle.disac4.specs.declared.Status.{Status}
 use Rattle.disac4.specs.declared.Status.the-variants.{Open, Closed, Bare}
-use Rattle.engine.proofs.TurnLists.{is-allowed}
+use Rattle.turns.proofs.TurnLists.{is-allowed}
 use Rattle.network.proofs.Largest.{largest-consistent}
 use Rattle.network.proofs.Loaded.{loaded-variable, loaded-value}
 use Rattle.network.specs.Consistency.{Within, Largest}

@@ -19,7 +19,8 @@ use Rattle.disac4.specs.declared.Report.{Report}
 use Rattle.disac4.specs.declared.Tally.{Tally}
 use Rattle.engine.proofs.Finishing.{work-of-turns}
 use Rattle.cells.specs.Memory.{Mem, memOf}
-use Rattle.engine.specs.Play.{Begun, PlaysRounds, badTurn}
+use Rattle.rounds.specs.Rounds.{Begun, PlaysRounds}
+use Rattle.turns.specs.Bad.{badTurn}
 use Rattle.refinement.specs.Run.{startM, playM, countM, At, Going, Plays, Finishes}
 use Rattle.controller.specs.Controller.{machine}
 use Rattle.refinement.specs.declared.Progress.{Progress}

@@ -72,7 +72,7 @@ fn play_rounds(plan: &[u8], work: &mut [u16], lists: &mut [u16], p: usize) -> Re
     ensures { λ r. ⌜ Ran (now (plan .entry)) (roundRunTurns (systemAt (now (plan .entry)))) (now (work .entry)) (now (lists .entry)) (now (work .exit)) (now (lists .exit)) r ⌝ }
 {
     let start = load(plan, work);
-    let g = engine::rounds::play_rounds(plan, work, start, p);
+    let g = rounds::play_rounds(plan, work, start, p);
     engine::finish::finish(plan, work, lists, g)
 }
 
@@ -112,7 +112,7 @@ pub fn run_turns(plan: &[u8], turns: &[u8], work: &mut [u16], lists: &mut [u16])
         Checked::Declined(d) => Answer::Declined(d),
         Checked::Accepted(f) => {
             let p = f.workers;
-            let bad = engine::play::first_bad(turns, p);
+            let bad = turns::first_bad(turns, p);
             if bad < turns.len() / 2 {
                 return declined(Fault::BadTurn, bad);
             }

@@ -9,7 +9,7 @@ use Rattle.base.specs.Choice.{firstOf}
 use Rattle.disac4.proofs.Order.{bad-turn-list}
 use Rattle.disac4.specs.Outcome.{bufferFault, inputFault, workNeed, listNeed}
 use Rattle.disac4.specs.Turn.{turnListFits}
-use Rattle.engine.specs.Play.{badTurn}
+use Rattle.turns.specs.Bad.{badTurn}
 use Rattle.plan.proofs.Branches.{holds, fails}
 use Rattle.plan.specs.Decode.{planFault}
 use Rattle.format.specs.Format.{workerCount}

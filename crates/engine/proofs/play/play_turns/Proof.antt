@@ -7,7 +7,7 @@ use native.Mathlib.Omega.{arith}
 use denote.Ref.{now}
 use Rattle.disac4.specs.Turn.{allowed, turnAt, turnsOf}
 use Rattle.engine.proofs.Playing.{Playing, none-played, goes-on, one-more, all-played}
-use Rattle.engine.proofs.TurnLists.{turn-read, is-allowed}
+use Rattle.turns.proofs.TurnLists.{turn-read, is-allowed}
 use Rattle.engine.proofs.play.play_turns.Statement.{statement}
 use Rattle.engine.proofs.play.play_turns.Tie as tie
 

@@ -1,0 +1,59 @@
+-- `rounds::play_round` plays one round. Assumes nothing.
+use Prim.Native.Nat.{suc}
+use borrow.Author.Needs.{needs}
+use mathlib.Core.List.{[], _∷_, _++_}
+use denote.Ref.{now}
+use Rattle.base.specs.Below.{gatherBelow, listBelow}
+use Rattle.disac4.proofs.Rounds.{may-poll}
+use Rattle.disac4.specs.Round.{workerRound, round}
+use Rattle.disac4.specs.Turn.{turn}
+use Rattle.engine.proofs.Playing.{goes-after}
+use Rattle.refinement.proofs.Underway.{plays-then}
+use Rattle.refinement.specs.Run.{Going}
+use Rattle.rounds.proofs.play_round.Statement.{statement}
+use Rattle.rounds.proofs.play_round.Tie as tie
+
+workers-round-requires : tie.Need-workers-round-requires
+workers-round-requires c κs = search needs
+
+-- the run goes on after the workers' turns
+have-worked : (w : tie.After-workers-round)
+    → Going (now (w .before .before .before .before .args .b)) (w .workers-round .last .1 .0) (w .workers-round .result)
+have-worked w =
+    goes-after _ _ _ _ _ _ (w .before .before .before .before .pre .0) (w .workers-round .kept .1 .0) (w .workers-round .ensures)
+
+hear-all-requires : tie.Need-hear-all-requires
+hear-all-requires c κs =
+    let w = c .before .before .before in
+    (have-worked w, w .before .before .before .before .pre .1)
+
+control-requires : tie.Need-control-requires
+control-requires c κs =
+    let h = c .before .before .before in
+    let w = h .before .before .before .before in
+    let s = w .before .before .before .before in (
+      goes-after _ _ _ _ _ _ (have-worked w) (h .hear-all .kept .1 .0) (h .hear-all .ensures),
+      s .pre .1,
+      may-poll (s .args .p),
+    )
+
+same-length : tie.Need-same-length
+same-length c = search needs
+
+returns : tie.Need-returns
+unfolding round
+returns c =
+    let e = c .before .before in
+    let h = e .before .before .before .before in
+    let w = h .before .before .before .before in
+    let a = w .before .before .before .before .args in
+    let b = now (a .b) in
+    let workers = gatherBelow (a .p) (λ i. workerRound (a .p) (suc i)) in
+    let controller = listBelow (a .p) (λ i. turn 0 (suc i)) in
+    plays-then b (workers ++ controller) (turn 0 12 ∷ []) _ _ _ _ _ _
+    (plays-then b workers controller _ _ _ _ _ _ (w .workers-round .ensures) (h .hear-all .ensures)) (e .control .ensures)
+
+pub play-round-spec : {M : Type 1} → statement M
+play-round-spec =
+    tie.close
+    (tie.spec workers-round-requires hear-all-requires control-requires same-length returns)

@@ -1,0 +1,109 @@
+// The round, and rounds until the plan is closed.
+use disac4::Tally;
+use engine::run;
+use refinement::Progress;
+ghost use mathlib.Core.Bool.{cond};
+ghost use mathlib.Core.List.{[], _∷_, map};
+ghost use mathlib.Core.Path.{_≡_};
+ghost use Prim.Native.Nat.{suc, _<_, _≤_};
+ghost use lib.Dec.{eqb};
+ghost use Rattle.base.specs.Below.{gatherBelow, listBelow};
+ghost use Rattle.disac4.specs.Round.{others, workerRound, round};
+ghost use Rattle.disac4.specs.Turn.{turn};
+ghost use Rattle.rounds.specs.Rounds.{Begun, PlaysRounds};
+ghost use Rattle.engine.specs.Play.{Running, Works};
+ghost use Rattle.refinement.specs.Run.{Going, Plays};
+ghost use Rattle.format.specs.Format.{workerCount};
+
+// Worker k reads from actor j, unless that is itself: 1 where that changed something.
+fn read_other(b: &[u8], cells: &mut [u16], t: Tally, p: usize, k: usize, j: usize) -> usize
+    requires { ⌜ Running (now b) (now cells) t × (p ≡ workerCount (now b)) × (0 < k) × (k ≤ p) × (j ≤ p) ⌝ }
+    ensures { λ r. ⌜ Works (now (b .entry)) (map (turn k) (cond (eqb j k) [] (j ∷ []))) (now (cells .entry)) t (now (cells .exit)) r 0 × (r ≤ 1) ⌝ }
+{
+    if j == k {
+        return 0;
+    }
+    run::read_turn(b, cells, t, p, k, j)
+}
+
+// Worker k reads from the controller, and then from every other worker: how many of these turns changed something.
+fn reads(b: &[u8], cells: &mut [u16], t: Tally, p: usize, k: usize) -> usize
+    requires { ⌜ Running (now b) (now cells) t × (p ≡ workerCount (now b)) × (0 < k) × (k ≤ p) ⌝ }
+    ensures { λ r. ⌜ Works (now (b .entry)) (map (turn k) (others p k)) (now (cells .entry)) t (now (cells .exit)) r 0 × (r ≤ 9) ⌝ }
+{
+    let mut changes = 0;
+    let mut j = 0;
+    while j <= p {
+        changes += read_other(b, cells, t, p, k, j);
+        j += 1;
+    }
+    changes
+}
+
+// Worker k reads, treats, sends and answers.
+fn worker_round(b: &[u8], cells: &mut [u16], g: Progress, p: usize, k: usize) -> Progress
+    requires { ⌜ Going (now b) (now cells) g × (p ≡ workerCount (now b)) × (0 < k) × (k ≤ p) ⌝ }
+    ensures { λ r. ⌜ Plays (now (b .entry)) (workerRound p k) (now (cells .entry)) g (now (cells .exit)) r ⌝ }
+{
+    let t = g.tally;
+    let read = reads(b, cells, t, p, k);
+    let treated = run::work_turn(b, cells, t, p, k, 9);
+    let sent = run::work_turn(b, cells, t, p, k, 10);
+    let answered = run::work_turn(b, cells, t, p, k, 11);
+    Progress {
+        tally: t,
+        changes: g.changes + read + treated + sent + answered,
+        sends: g.sends + sent,
+        polls: g.polls,
+    }
+}
+
+// The workers in turn.
+fn workers_round(b: &[u8], cells: &mut [u16], g: Progress, p: usize) -> Progress
+    requires { ⌜ Going (now b) (now cells) g × (p ≡ workerCount (now b)) ⌝ }
+    ensures { λ r. ⌜ Plays (now (b .entry)) (gatherBelow p (λ i. workerRound p (suc i))) (now (cells .entry)) g (now (cells .exit)) r ⌝ }
+{
+    let mut at = g;
+    let mut i = 0;
+    while i < p {
+        at = worker_round(b, cells, at, p, i + 1);
+        i += 1;
+    }
+    at
+}
+
+// The controller reads from every worker.
+fn hear_all(b: &[u8], cells: &mut [u16], g: Progress, p: usize) -> Progress
+    requires { ⌜ Going (now b) (now cells) g × (p ≡ workerCount (now b)) ⌝ }
+    ensures { λ r. ⌜ Plays (now (b .entry)) (listBelow p (λ i. turn 0 (suc i))) (now (cells .entry)) g (now (cells .exit)) r ⌝ }
+{
+    let mut at = g;
+    let mut i = 0;
+    while i < p {
+        at = run::control(b, cells, at, p, i + 1);
+        i += 1;
+    }
+    at
+}
+
+// One round: the workers, and then the controller, which reads and polls.
+fn play_round(b: &[u8], cells: &mut [u16], g: Progress, p: usize) -> Progress
+    requires { ⌜ Going (now b) (now cells) g × (p ≡ workerCount (now b)) ⌝ }
+    ensures { λ r. ⌜ Plays (now (b .entry)) (round p) (now (cells .entry)) g (now (cells .exit)) r ⌝ }
+{
+    let worked = workers_round(b, cells, g, p);
+    let heard = hear_all(b, cells, worked, p);
+    run::control(b, cells, heard, p, 12)
+}
+
+// Rounds until the plan is closed.
+pub fn play_rounds(b: &[u8], cells: &mut [u16], g: Progress, p: usize) -> Progress
+    requires { ⌜ Begun (now b) (now cells) g × (p ≡ workerCount (now b)) ⌝ }
+    ensures { λ r. ⌜ PlaysRounds (now (b .entry)) (now (cells .entry)) g (now (cells .exit)) r ⌝ }
+{
+    let mut at = g;
+    while !at.tally.closed {
+        at = play_round(b, cells, at, p);
+    }
+    at
+}

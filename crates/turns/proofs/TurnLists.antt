@@ -1,0 +1,58 @@
+-- The turns of a list of bytes, and the first of them that is not allowed.
+use Prim.Native.Nat.{ℕ, _+_, _*_, _/_, _<_}
+use mathlib.Core.Bool.{Bool, true, false, cond}
+use mathlib.Core.List.{List}
+use mathlib.Core.Option.{Option, none, some}
+use mathlib.Core.Path.{_≡_, refl, sym, _∙_, ap₂}
+use borrow.Author.Tests.{lt-ltb, le-ltb}
+use native.Mathlib.Omega.{arith}
+use lib.ListN.{length}
+use Rattle.base.proofs.Below.{first-at, first-more, none-first}
+use Rattle.base.proofs.Choice.{none≢some, cond-true, cond-false}
+use Rattle.base.specs.Below.{firstBelow}
+use Rattle.base.specs.Bytes.{byteAt}
+use Rattle.disac4.specs.Turn.{turn, allowed, turnAt, turnFault}
+use Rattle.turns.specs.Bad.{badTurn}
+use Rattle.plan.specs.Fault.{decline}
+use Rattle.plan.specs.declared.Decline.{Decline}
+use Rattle.plan.specs.declared.Fault.the-variants.{BadTurn}
+
+-- the fault of turn `i` alone
+abbrev pub faultOf : ℕ → List ℕ → ℕ → Option Decline
+faultOf p list i = cond (allowed p (turnAt list i)) none (some (decline BadTurn i))
+
+-- a turn as its two bytes are read
+pub turn-read : (list : List ℕ) (k actor action : ℕ) → actor ≡ byteAt list (2 * k) → action ≡ byteAt list (2 * k + 1)
+    → turn actor action ≡ turnAt list k
+unfolding turnAt
+turn-read list k actor action e f = ap₂ turn e f
+
+module _ (p : ℕ) (list : List ℕ) where
+  -- one more turn that is allowed
+  pub next-allowed : (k : ℕ) → firstBelow k (faultOf p list) ≡ none → allowed p (turnAt list k) ≡ true
+      → firstBelow (k + 1) (faultOf p list) ≡ none
+  next-allowed k e a = first-more k (faultOf p list) e (cond-true none (some (decline BadTurn k)) a)
+
+  -- the first that is not
+  pub first-fault : (k : ℕ) → k < length list / 2 → firstBelow k (faultOf p list) ≡ none
+      → allowed p (turnAt list k) ≡ false → turnFault p list ≡ badTurn (length list / 2) k
+  unfolding turnFault badTurn
+  first-fault k h e a =
+      first-at (length list / 2) (faultOf p list) k (decline BadTurn k) h e (cond-false none (some (decline BadTurn k)) a)
+      ∙ sym (cond-true (some (decline BadTurn k)) none (lt-ltb k (length list / 2) h))
+
+  -- no turn has a fault
+  pub no-fault : firstBelow (length list / 2) (faultOf p list) ≡ none
+      → turnFault p list ≡ badTurn (length list / 2) (length list / 2)
+  unfolding turnFault badTurn
+  no-fault e =
+      e ∙ sym (cond-false (some (decline BadTurn (length list / 2))) none (le-ltb (length list / 2) (length list / 2) (omega arith)))
+
+  -- in a list without fault every turn is allowed
+  pub is-allowed : turnFault p list ≡ none → (k : ℕ) → k < length list / 2 → allowed p (turnAt list k) ≡ true
+  unfolding turnFault
+  is-allowed e k h = go (allowed p (turnAt list k)) (none-first (length list / 2) (faultOf p list) e k h)
+    where
+      go : (a : Bool) → cond a none (some (decline BadTurn k)) ≡ none → a ≡ true
+      go true q = refl
+      go false q = none≢some (sym q)

@@ -1,0 +1,16 @@
+-- `turns::controller_may` is the test of the controller's actions. Assumes nothing.
+use borrow.Author.Needs.{needs}
+use Rattle.turns.proofs.controller_may.Statement.{statement}
+use Rattle.turns.proofs.controller_may.Tie as tie
+
+between-requires : tie.Need-between-requires
+between-requires c κs = search needs
+
+returns : tie.Need-returns
+returns c = rw (← c .before .between .ensures, c .if1 .taken)
+
+returns-2 : tie.Need-returns-2
+returns-2 c = rw (← c .before .between .ensures, c .if1 .left)
+
+pub controller-may-spec : {M : Type 1} → statement M
+controller-may-spec = tie.close (tie.spec between-requires returns returns-2)

@@ -1,0 +1,66 @@
+// Which turns are allowed, and the first turn of a list that is not.
+use base::between;
+use base::byte_at;
+ghost use mathlib.Core.Bool.{_&&_, _||_, not};
+ghost use mathlib.Core.Path.{_≡_};
+ghost use lib.Dec.{leb, eqb};
+ghost use Rattle.base.specs.Choice.{between as betweenOf};
+ghost use Rattle.disac4.specs.Turn.{allowed as allowedOf, turn, turnFault};
+ghost use Prim.Native.Nat.{_/_, _≤_};
+ghost use lib.ListN.{length};
+ghost use Rattle.turns.specs.Bad.{badTurn};
+
+// A worker reads from another actor.
+fn reads_other(p: usize, actor: usize, action: usize) -> bool
+    ensures { λ r. ⌜ r ≡ (leb action p && not (eqb action actor)) ⌝ }
+{
+    action <= p && action != actor
+}
+
+// A worker reads, treats, sends or answers.
+fn worker_may(p: usize, actor: usize, action: usize) -> bool
+    ensures { λ r. ⌜ r ≡ ((leb action p && not (eqb action actor)) || betweenOf 9 11 action) ⌝ }
+{
+    if reads_other(p, actor, action) {
+        return true;
+    }
+    between(9, 11, action)
+}
+
+// The controller reads from a worker, or polls.
+fn controller_may(p: usize, action: usize) -> bool
+    ensures { λ r. ⌜ r ≡ (betweenOf 1 p action || eqb action 12) ⌝ }
+{
+    if between(1, p, action) {
+        return true;
+    }
+    action == 12
+}
+
+// Whether the actor may take this action, with p workers.
+pub fn allowed(p: usize, actor: usize, action: usize) -> bool
+    ensures { λ r. ⌜ r ≡ allowedOf p (turn actor action) ⌝ }
+{
+    if actor == 0 {
+        return controller_may(p, action);
+    }
+    if p < actor {
+        return false;
+    }
+    worker_may(p, actor, action)
+}
+
+// The number of the first turn that p workers do not allow; where all are allowed, how many there are.
+pub fn first_bad(list: &[u8], p: usize) -> usize
+    ensures { λ r. ⌜ (r ≤ length (now (list .entry)) / 2) × (turnFault p (now (list .entry)) ≡ badTurn (length (now (list .entry)) / 2) r) ⌝ }
+{
+    let count = list.len() / 2;
+    let mut k = 0;
+    while k < count {
+        if !allowed(p, byte_at(list, 2 * k), byte_at(list, 2 * k + 1)) {
+            return k;
+        }
+        k += 1;
+    }
+    count
+}
