@@ -9,12 +9,20 @@ use native.Mathlib.Omega.{arith}
 use borrow.Author.Tests.{lt-ltb, le-ltb, eq-eqb, ne-eqb}
 use lib.Dec.{eqb}
 use Rattle.base.proofs.Choice.{cond-true, cond-false}
-use Rattle.disac4.specs.System.{System}
+use Rattle.base.proofs.Row.{row-bit}
+use Rattle.base.specs.Row.{bit, rowOf}
+use Rattle.disac4.specs.System.{System, systemOf}
+use Rattle.network.specs.Network.{supports}
+use Rattle.plan.proofs.Pairs.{allowed-symmetric}
+use Rattle.plan.specs.Decode.{planOf}
+use Rattle.plan.specs.Network.{pairAllowed, shareConstraint, networkOf}
+use Rattle.plan.specs.WellFormed.{sizeOf}
+use Rattle.index.proofs.Permitted.{supports-allowed}
 use Rattle.index.specs.Allowed.{Listed}
 use Rattle.cells.specs.Layout.{WORKERS, WORK, DOMAIN, COUNTERS, HEAD, TAIL}
 use Rattle.cells.specs.Lists.{deleteM}
 use Rattle.cells.specs.Memory.{Mem, store}
-use Rattle.counters.specs.Treat.{loseM, touchM, touchValuesM, touchVariableM, touchVariablesM, treatM}
+use Rattle.counters.specs.Treat.{Supported, loseM, touchM, touchValuesM, touchVariableM, touchVariablesM, treatM}
 use Rattle.cells.specs.View.{LISTED, counterRow}
 
 -- ---- a loop makes one step more
@@ -64,6 +72,19 @@ module _ (sys : System) (i y w x v : ℕ) (m : Mem) where
   not-listed d = sym (cond-false _ _ (ne-eqb (m DOMAIN x v) LISTED d))
 
 -- ---- a variable
+
+-- the row of the treated label's supports holds the values that had it as a support: a pair reads the same from either side
+pub supported : (b : List ℕ) (m : Mem) (y w x n s r : ℕ) → shareConstraint (planOf b) y x ≡ true → n ≡ sizeOf (planOf b) x
+    → s ≡ rowOf (sizeOf (planOf b) x) (supports (networkOf (planOf b)) y w x) → r ≡ counterRow m x y
+    → Supported (systemOf (planOf b)) m y w x n s r
+unfolding systemOf networkOf
+supported b m y w x n s r l k e c = record {
+  holds = λ v h.
+      ap (λ (t : ℕ). bit t v) (e ∙ supports-allowed b (sizeOf (planOf b) x) y w x l)
+      ∙ row-bit (sizeOf (planOf b) x) (pairAllowed (planOf b) y w x) v (omega arith)
+      ∙ allowed-symmetric (planOf b) y w x v;
+  counted = c;
+}
 
 module _ (sys : System) (i y w x : ℕ) (m : Mem) where
   pub variable-touched : (n : Mem) (k : ℕ) → sys .owner x ≡ suc i → sys .net .linked x y ≡ true → k ≡ sys .net .size x
