@@ -1,5 +1,5 @@
 -- The index stays as it is: neither treating nor loading labels stores into its regions.
-use Prim.Native.Nat.{ℕ, zero, suc, _+_, _*_, _-_, _<_}
+use Prim.Native.Nat.{ℕ, zero, suc, _+_, _*_, _-_, _<_, _≤_}
 use mathlib.Core.Bool.{Bool, true, false, cond}
 use mathlib.Core.List.{List}
 use mathlib.Core.Path.{_≡_, refl, _∙_, ap}
@@ -12,18 +12,16 @@ use Rattle.disac4.specs.System.{System}
 use Rattle.network.specs.Network.{supportCount}
 use Rattle.index.proofs.Chains.{store-apart, indexed-kept}
 use Rattle.index.specs.Index.{Ready}
-use Rattle.cells.specs.Layout.{WORKERS, LOG, WORK, DOMAIN, COUNTERS, HEADS, PLACES, NEXT, TAIL, LOGEND}
+use Rattle.cells.specs.Layout.{WORKERS, LOG, WORK, DOMAIN, COUNTERS, HEADS, TAIL, LOGEND}
 use Rattle.cells.specs.Lists.{pushM, deleteM}
 use Rattle.counters.specs.Load.{countM, loadLabelM, loadValuesM, loadVariablesM}
 use Rattle.cells.specs.Memory.{Mem, memOf, store}
 use Rattle.counters.specs.Treat.{loseM, touchM, touchValuesM, touchVariableM, touchVariablesM}
 use Rattle.cells.specs.View.{LISTED, codeOf, counterRow}
 
--- the regions of the index are in `n` what they are in `m`
+-- the regions of the index, from HEADS on, are in `n` what they are in `m`
 pub record Kept (m n : Mem) : Type 0 where
-  pub heads : (i j : ℕ) → n HEADS i j ≡ m HEADS i j
-  pub places : (i j : ℕ) → n PLACES i j ≡ m PLACES i j
-  pub nexts : (i j : ℕ) → n NEXT i j ≡ m NEXT i j
+  pub region : (r i j : ℕ) → HEADS ≤ r → n r i j ≡ m r i j
 
 -- cells of the same length whose memory keeps the index are ready too
 pub ready-kept : (b old new : List ℕ) {n : Mem} → Ready b old → length new ≡ length old → memOf new ≡ n
@@ -33,23 +31,19 @@ ready-kept b old new r l e k =
     record {
       long = omega (arith, r .long);
       sound = r .sound;
-      index = indexed-kept b (memOf old) (memOf new) (p .heads) (p .places) (p .nexts) (r .index);
+      index = indexed-kept b (memOf old) (memOf new) (p .region) (r .index);
     }
 
 -- the row of two variables' counters stays too
 pub row-kept : (m n : Mem) (x y : ℕ) → Kept m n → counterRow n x y ≡ counterRow m x y
 unfolding counterRow
-row-kept m n x y e = ap (λ (h : ℕ). 2 * h - 1 + one (ltb y x)) (e .heads x y)
+row-kept m n x y e = ap (λ (h : ℕ). 2 * h - 1 + one (ltb y x)) (e .region HEADS x y (omega arith))
 
 pub same : {m : Mem} → Kept m m
-same = record { heads = λ i j. refl; places = λ i j. refl; nexts = λ i j. refl }
+same = record { region = λ r i j h. refl }
 
 then : {m n o : Mem} → Kept m n → Kept n o → Kept m o
-then p q = record {
-  heads = λ i j. q .heads i j ∙ p .heads i j;
-  places = λ i j. q .places i j ∙ p .places i j;
-  nexts = λ i j. q .nexts i j ∙ p .nexts i j;
-}
+then p q = record { region = λ r i j h. q .region r i j h ∙ p .region r i j h }
 
 either : (t : Bool) {m n o : Mem} → Kept m n → Kept m o → Kept m (cond t n o)
 either true p q = p
@@ -58,9 +52,7 @@ either false p q = q
 -- a store before the index keeps it
 pub stored : (r i j v : ℕ) {m n : Mem} → r < HEADS → Kept m n → Kept m (store n r i j v)
 stored r i j v {n = n} h p = record {
-  heads = λ k l. store-apart n r i j v HEADS k l (λ e. omega arith) ∙ p .heads k l;
-  places = λ k l. store-apart n r i j v PLACES k l (λ e. omega arith) ∙ p .places k l;
-  nexts = λ k l. store-apart n r i j v NEXT k l (λ e. omega arith) ∙ p .nexts k l;
+  region = λ s k l g. store-apart n r i j v s k l (λ e. omega arith) ∙ p .region s k l g;
 }
 
 push-kept : (r col i c : ℕ) {m n : Mem} → r < HEADS → Kept m n → Kept m (pushM r col i c n)

@@ -1,9 +1,9 @@
 // Treating a label: which labels lose it as a support, and which of them are deleted.
 use cells::layout;
 use cells::lists;
-use format::read;
 use index::pairs;
 use index::parts;
+ghost use mathlib.Core.Bool.{true};
 ghost use mathlib.Core.Path.{_≡_};
 ghost use Prim.Native.Nat.{ℕ, _<_, _≤_, _/_, _%_};
 ghost use lib.ListN.{length};
@@ -12,7 +12,7 @@ ghost use Rattle.disac4.specs.System.{System, systemOf};
 ghost use Rattle.plan.specs.Decode.{planOf};
 ghost use Rattle.format.specs.Format.{variableCount};
 ghost use Rattle.index.specs.Allowed.{Listed};
-ghost use Rattle.index.specs.Index.{Ready};
+ghost use Rattle.index.specs.Index.{owns, Ready};
 ghost use Rattle.cells.specs.Layout.{WORKERS, WORK, HEAD, TAIL};
 ghost use Rattle.cells.specs.Memory.{memOf, Acts};
 ghost use Rattle.counters.specs.Treat.{Supported, loseM, touchM, touchValuesM, touchVariableM, touchVariablesM, treatM};
@@ -56,31 +56,30 @@ fn touch_values(cells: &mut [u16], i: usize, x: usize, n: usize, supported: usiz
     }
 }
 
-// Variable x, if row i owns it and it shares a constraint with y.
+// Variable x of row i, if it shares a constraint with y.
 fn touch_variable(b: &[u8], cells: &mut [u16], i: usize, y: usize, w: usize, x: usize)
-    requires { ⌜ Ready (now b) (now cells) × (i < 8) × Listed (now b) y w × (x < variableCount (now b)) ⌝ }
+    requires { ⌜ Ready (now b) (now cells) × (i < 8) × Listed (now b) y w × (x < variableCount (now b)) × (owns (now b) i x ≡ true) ⌝ }
     ensures { λ _. ⌜ memOf (now (cells .exit)) ≡ touchVariableM (systemOf (planOf (now (b .entry)))) i y w x (memOf (now (cells .entry))) ⌝ }
 {
     if pairs::linked(cells, y, x) {
-        if parts::owner(b, cells, x) == i + 1 {
-            let n = pairs::size(b, cells, x);
-            let supported = pairs::support_row(b, cells, y, w, x);
-            let row = parts::counter_row(cells, x, y);
-            touch_values(cells, i, x, n, supported, row);
-        }
+        let n = pairs::size(b, cells, x);
+        let supported = pairs::support_row(b, cells, y, w, x);
+        let row = parts::counter_row(cells, x, y);
+        touch_values(cells, i, x, n, supported, row);
     }
 }
 
-// Every variable.
+// Every variable: those of other rows are not touched, so going through the row's own is enough.
 fn touch_variables(b: &[u8], cells: &mut [u16], i: usize, y: usize, w: usize)
     requires { ⌜ Ready (now b) (now cells) × (i < 8) × Listed (now b) y w ⌝ }
     ensures { λ _. ⌜ memOf (now (cells .exit)) ≡ touchVariablesM (systemOf (planOf (now (b .entry)))) i y w (systemOf (planOf (now (b .entry))) .net .variables) (memOf (now (cells .entry))) ⌝ }
 {
-    let n = read::variable_count(b);
-    let mut x = 0;
-    while x < n {
+    let n = layout::get(cells, layout::OWNED, 0, i);
+    let mut j = 0;
+    while j < n {
+        let x = layout::get(cells, layout::OWN, i, j);
         touch_variable(b, cells, i, y, w, x);
-        x += 1;
+        j += 1;
     }
 }
 

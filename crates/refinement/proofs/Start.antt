@@ -19,7 +19,7 @@ use Rattle.index.proofs.Pairing.{paired}
 use Rattle.refinement.proofs.Loading.{Blank, load-refines}
 use Rattle.index.specs.Index.{Indexed, indexM}
 use Rattle.refinement.specs.Inv.{Small, Inv}
-use Rattle.cells.specs.Layout.{BEHIND, HEADS, PLACES, NEXT}
+use Rattle.cells.specs.Layout.{BEHIND, HEADS}
 use Rattle.counters.specs.Load.{clearedM, loadM}
 use Rattle.cells.specs.Memory.{Mem}
 use Rattle.refinement.specs.Run.{viewOf, startM}
@@ -63,11 +63,7 @@ module _ (b : List ℕ) (sound : planFault b ≡ none) where
     pub start-indexed : Indexed b (startM b m .mem)
     unfolding startM
     start-indexed =
-        indexed-kept b ground (loadM (systemAt b) ground)
-        (λ i j. load-index (systemAt b) ground HEADS i j (omega arith))
-        (λ i j. load-index (systemAt b) ground PLACES i j (omega arith))
-        (λ i j. load-index (systemAt b) ground NEXT i j (omega arith))
-        ground-indexed
+        indexed-kept b ground (loadM (systemAt b) ground) (load-index (systemAt b) ground) ground-indexed
 
     -- and the cells behind as they were
     pub start-behind : (i j : ℕ) → startM b m .mem BEHIND i j ≡ m BEHIND i j

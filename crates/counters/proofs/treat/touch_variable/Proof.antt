@@ -12,9 +12,10 @@ use Rattle.plan.specs.Decode.{planOf}
 use Rattle.plan.specs.Network.{shareConstraint, networkOf}
 use Rattle.index.proofs.Labels.{size-is, numbered}
 use Rattle.index.proofs.Places.{few-sections}
+use Rattle.index.specs.Index.{owns}
 use Rattle.cells.specs.Memory.{memOf}
 use Rattle.cells.specs.View.{Numbered}
-use Rattle.counters.proofs.TreatLaws.{supported, variable-touched, not-linked, not-owned}
+use Rattle.counters.proofs.TreatLaws.{supported, variable-touched, not-linked}
 use Rattle.counters.proofs.treat.touch_variable.Statement.{statement}
 use Rattle.counters.proofs.treat.touch_variable.Tie as tie
 
@@ -40,24 +41,18 @@ module _ (l : tie.After-linked) where
   counters : l .linked .result ≡ true → Numbered (memOf (now (s .args .cells))) (s .args .x) (s .args .y)
   counters e = numbered b (s .pre .0 .sound) _ (s .pre .0 .index) (s .args .x) (s .args .y) (linked-too true e) .2
 
-owner-requires : tie.Need-owner-requires
-owner-requires c κs = search needs
-
-add-if2 : tie.Need-add-if2
-add-if2 c = search needs
-
 size-requires : tie.Need-size-requires
 size-requires c κs = search needs
 
 support-row-requires : tie.Need-support-row-requires
 support-row-requires c κs =
-    let t = c .before .before .before .before .before .before in
+    let t = c .before .before .before in
     let l = t .before in
     (s l .pre .0, s l .pre .2, sym (asked l) ∙ t .if1 .taken)
 
 counter-row-requires : tie.Need-counter-row-requires
 counter-row-requires c κs =
-    let t = c .before .before .before .before .before .before .before .before in
+    let t = c .before .before .before .before .before in
     let l = t .before in
     let few = few-sections (b l) (s l .pre .0 .sound) in
     (s l .pre .0 .long, omega arith, omega (arith, s l .pre .2 .variable), counters l (t .if1 .taken))
@@ -66,7 +61,7 @@ touch-values-requires : tie.Need-touch-values-requires
 touch-values-requires c κs =
     let k = c .before in
     let z = k .before .before .before .before in
-    let t = z .before .before .before .before .before in
+    let t = z .before .before in
     let few = few-sections (b (t .before)) (s (t .before) .pre .0 .sound) in
     omega (arith, z .size .ensures, k .counter-row .ensures)
 
@@ -74,18 +69,17 @@ same-length : tie.Need-same-length
 same-length c = search needs
 
 returns : tie.Need-returns
-unfolding systemOf networkOf
+unfolding systemOf networkOf owns
 returns c =
     let k = c .before .before .before .before in
     let r = k .before .before in
     let z = r .before .before in
-    let o = z .before .before in
-    let t = o .before .before .before in
+    let t = z .before .before in
     let l = t .before in
     let a = s l .args in
     let sys = systemOf (planOf (b l)) in
     variable-touched sys (a .i) (a .y) (a .w) (a .x) _ _ (z .size .result)
-    (omega (arith, o .before .owner .ensures .0, o .if2 .taken)) (linked-too l true (t .if1 .taken))
+    (s l .pre .4) (linked-too l true (t .if1 .taken))
     (z .size .ensures .0 ∙ size-is (b l) (a .x))
     (c .before .before .touch-values .ensures sys (a .y) (a .w)
     (supported (b l) _ (a .y) (a .w) (a .x) _ _ _ (sym (asked l) ∙ t .if1 .taken) (z .size .ensures .0)
@@ -95,18 +89,8 @@ same-length-2 : tie.Need-same-length-2
 same-length-2 c = search needs
 
 returns-2 : tie.Need-returns-2
-returns-2 c =
-    let o = c .before in
-    let l = o .before .before .before in
-    let a = s l .args in
-    not-owned (systemOf (planOf (b l))) (a .i) (a .y) (a .w) (a .x) _ (λ e. c .if2 .left (omega (arith, o .owner .ensures .0)))
-
-same-length-3 : tie.Need-same-length-3
-same-length-3 c = search needs
-
-returns-3 : tie.Need-returns-3
 unfolding systemOf networkOf
-returns-3 c =
+returns-2 c =
     let l = c .before in
     let a = s l .args in
     not-linked (systemOf (planOf (b l))) (a .i) (a .y) (a .w) (a .x) _ (linked-too l _ (c .if1 .left))
@@ -116,8 +100,6 @@ touch-variable-spec =
     tie.close
     (tie.spec
     linked-requires
-    owner-requires
-    add-if2
     size-requires
     support-row-requires
     counter-row-requires
@@ -125,6 +107,4 @@ touch-variable-spec =
     same-length
     returns
     same-length-2
-    returns-2
-    same-length-3
-    returns-3)
+    returns-2)
