@@ -1,10 +1,11 @@
 -- Laws of the tests and lists below a bound.
 use Prim.Native.Nat.{ℕ, zero, suc, _+_, _<_}
-use mathlib.Core.Bool.{Bool, true, false, false≢true}
-use mathlib.Core.List.{[], _∷_}
+use mathlib.Core.Bool.{Bool, true, false, _&&_, false≢true}
+use mathlib.Core.List.{List, [], _∷_, _++_}
 use mathlib.Core.Logic.{_⊎_, inl, inr, ⊎-elim}
 use mathlib.Core.Option.{Option, none, some}
-use mathlib.Core.Path.{_≡_, refl, sym, _∙_, ap, subst}
+use mathlib.Core.Path.{_≡_, refl, sym, _∙_, ap, ap₂, subst}
+use native.Mathlib.Decide.{ℕ-discrete}
 use native.Mathlib.Nat.{not-suc-le-zero, eq-or-lt-of-le, le-of-suc-le-suc, le-step, le-refl}
 use native.Mathlib.Numerals.{add-one}
 use native.Mathlib.Omega.{arith}
@@ -12,12 +13,16 @@ use lib.ListN.{length, getD, length-append, List·getD-append}
 use lib.Seq.{getD-at}
 use Rattle.base.proofs.Bools.{clash, refuted, and-left, and-right, and-intro, or-cases, or-left, or-right, or-false}
 use Rattle.base.proofs.Choice.{none≢some}
-use Rattle.base.specs.Below.{anyBelow, allBelow, listBelow, firstBelow}
+use Rattle.base.specs.Below.{anyBelow, allBelow, gatherBelow, listBelow, firstBelow}
 use Rattle.base.specs.Choice.{firstOf}
 
 -- below n + 1: below n, or n itself
 pub below-cases : {n i : ℕ} → i < suc n → (i ≡ n) ⊎ (i < n)
 below-cases h = eq-or-lt-of-le (le-of-suc-le-suc h)
+
+-- what holds at a number and before it holds up to it
+pub up-to : (P : ℕ → Type 0) (x : ℕ) → P x → ((n : ℕ) → n < x → P n) → (n : ℕ) → n < x + 1 → P n
+up-to P x last before n h = elim (ℕ-discrete n x) [ yes e ↦ subst P (sym e) last | no d ↦ before n (omega arith) ]
 
 -- an index that passes makes some pass
 pub any-below : (n : ℕ) (t : ℕ → Bool) (i : ℕ) → i < n → t i ≡ true → anyBelow n t ≡ true
@@ -59,6 +64,11 @@ pub every-below : (n : ℕ) (t : ℕ → Bool) → ((i : ℕ) → i < n → t i 
 every-below zero t f = refl
 every-below (suc n) t f = and-intro (every-below n t (λ i h. f i (le-step h))) (f n (le-refl (suc n)))
 
+-- tests that agree below the bound all hold alike
+pub all-ext : (n : ℕ) (t u : ℕ → Bool) → ((i : ℕ) → i < n → t i ≡ u i) → allBelow n t ≡ allBelow n u
+all-ext zero t u h = refl
+all-ext (suc n) t u h = ap₂ _&&_ (all-ext n t u (λ i l. h i (le-step l))) (h n (le-refl (suc n)))
+
 -- some index fails
 pub fails-below : (n : ℕ) (t : ℕ → Bool) → allBelow n t ≡ false → (i : ℕ) × (i < n) × (t i ≡ false)
 fails-below zero t e = absurd (false≢true (sym e))
@@ -71,6 +81,25 @@ fails-below (suc n) t e = go (allBelow n t) refl (t n) refl (fails-below n t)
     go true p true q ih = absurd (false≢true (sym e ∙ and-intro p q))
 
 module _ {ℓ} {A : Type ℓ} where
+  -- parts that agree below the bound are gathered alike
+  pub gather-ext : (n : ℕ) (f g : ℕ → List A) → ((i : ℕ) → i < n → f i ≡ g i) → gatherBelow n f ≡ gatherBelow n g
+  gather-ext zero f g h = refl
+  gather-ext (suc n) f g h = ap₂ _++_ (gather-ext n f g (λ i p. h i (le-step p))) (h n (le-refl (suc n)))
+
+  -- empty parts gather nothing
+  pub gather-none : (n : ℕ) (f : ℕ → List A) → ((i : ℕ) → i < n → f i ≡ []) → gatherBelow n f ≡ []
+  gather-none zero f h = refl
+  gather-none (suc n) f h = ap₂ _++_ (gather-none n f (λ i p. h i (le-step p))) (h n (le-refl (suc n)))
+
+  -- results that agree below the bound are listed alike
+  pub list-ext : (n : ℕ) (f g : ℕ → A) → ((i : ℕ) → i < n → f i ≡ g i) → listBelow n f ≡ listBelow n g
+  list-ext n f g h = gather-ext n (λ i. f i ∷ []) (λ i. g i ∷ []) (λ i p. ap (λ (a : A). a ∷ []) (h i p))
+
+  -- the first result apart
+  pub list-first : (n : ℕ) (f : ℕ → A) → listBelow (suc n) f ≡ f 0 ∷ listBelow n (λ i. f (suc i))
+  list-first zero f = refl
+  list-first (suc n) f = ap (λ (l : List A). l ++ (f (suc n) ∷ [])) (list-first n f)
+
   -- a list of n results has length n
   pub length-list-below : (n : ℕ) (f : ℕ → A) → length (listBelow n f) ≡ n
   length-list-below zero f = refl

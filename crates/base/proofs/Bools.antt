@@ -28,6 +28,11 @@ and-right false b e = absurd (false≢true e)
 pub and-intro : {a b : Bool} → a ≡ true → b ≡ true → a && b ≡ true
 and-intro {a} {b} p q = ap (λ (x : Bool). x && b) p ∙ q
 
+-- a test beside one that holds decides alone
+pub and-true : (a : Bool) {b : Bool} → b ≡ true → a && b ≡ a
+and-true true e = e
+and-true false e = refl
+
 -- two tests fail where the first does
 pub and-false-left : {a : Bool} (b : Bool) → a ≡ false → a && b ≡ false
 and-false-left b p = ap (λ (x : Bool). x && b) p
@@ -36,6 +41,10 @@ and-false-left b p = ap (λ (x : Bool). x && b) p
 pub and-false-right : (a : Bool) {b : Bool} → b ≡ false → a && b ≡ false
 and-false-right true q = q
 and-false-right false q = refl
+
+-- and so for a test that always fails
+pub and-never : (b : Bool) → b && false ≡ false
+and-never b = and-false-right b refl
 
 -- where two tests fail, one of them does
 pub and-false : (a b : Bool) → a && b ≡ false → (a ≡ false) ⊎ (b ≡ false)

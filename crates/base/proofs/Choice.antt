@@ -1,14 +1,18 @@
--- Laws of a choice by a test, of pointwise change, and of numbers between bounds.
+-- Laws of a choice by a test, of results, of pointwise change, and of numbers between bounds.
 use Prim.Native.Nat.{ℕ, _≤_}
 use mathlib.Core.Bool.{Bool, true, false, cond}
-use mathlib.Core.Option.{none, some}
-use mathlib.Core.Path.{_≡_, refl, ap}
+use mathlib.Core.Option.{Option, none, some}
+use mathlib.Core.Path.{_≡_, refl, sym, ap, subst}
 use native.Mathlib.Decide.{ℕ-discrete}
 use native.Mathlib.Omega.{arith}
-use borrow.Author.Tests.{leb-true, eq-eqb, ne-eqb}
+use borrow.Author.Tests.{leb-true, le-leb, eq-eqb, ne-eqb}
 use lib.Dec.{leb, eqb}
 use Rattle.base.proofs.Bools.{and-left, and-right, and-intro, and-false-left, and-false-right}
 use Rattle.base.specs.Choice.{update, update₂, between}
+
+-- what holds at one number and at every other, holds at each
+pub everywhere : (P : ℕ → Type 0) (i : ℕ) → P i → ((k : ℕ) → (k ≡ i → ⊥) → P k) → (k : ℕ) → P k
+everywhere P i here there k = elim (ℕ-discrete k i) [ yes e ↦ subst P (sym e) here | no n ↦ there k n ]
 
 module _ {ℓ} {A : Type ℓ} where
   -- what is chosen where the test holds
@@ -18,6 +22,22 @@ module _ {ℓ} {A : Type ℓ} where
   -- and where it fails
   pub cond-false : {b : Bool} (x y : A) → b ≡ false → cond b x y ≡ y
   cond-false x y p = ap (λ (b : Bool). cond b x y) p
+
+  -- choices whose parts agree where they are taken
+  pub cond-ext : (b : Bool) (x x′ y y′ : A) → (b ≡ true → x ≡ x′) → (b ≡ false → y ≡ y′) → cond b x y ≡ cond b x′ y′
+  cond-ext true x x′ y y′ f g = f refl
+  cond-ext false x x′ y y′ f g = g refl
+
+  -- a choice between equals
+  pub cond-same : (b : Bool) (x y a : A) → x ≡ a → y ≡ a → cond b x y ≡ a
+  cond-same true x y a p q = p
+  cond-same false x y a p q = q
+
+  -- a choice taken apart
+  pub by-test {κ} : {P : Type κ} (b : Bool) {x y a : A} → cond b x y ≡ a → (b ≡ true → x ≡ a → P) → (b ≡ false → y ≡ a → P)
+      → P
+  by-test true e f g = f refl e
+  by-test false e f g = g refl e
 
   -- the value at the place that was changed
   pub update-same : (f : ℕ → A) (i : ℕ) (v : A) → update f i v i ≡ v
@@ -42,11 +62,8 @@ module _ {ℓ} {A : Type ℓ} where
   -- what holds at the place that was changed and at every other, holds everywhere
   pub update-each : (P : ℕ → A → Type 0) (f : ℕ → A) (i : ℕ) (v : A) → P i v
       → ((j : ℕ) → (j ≡ i → ⊥) → P j (f j)) → (j : ℕ) → P j (update f i v j)
-  update-each P f i v here there j =
-      elim (ℕ-discrete j i) [
-        | yes e ↦ rw (e, update-same f i v) here
-        | no n ↦ rw (update-other f i v j n) (there j n)
-      ]
+  update-each P f i v here there =
+      everywhere (λ j. P j (update f i v j)) i (rw (update-same f i v) here) (λ j n. rw (update-other f i v j n) (there j n))
 
   -- the same for a function of two numbers
   pub update₂-each : (P : ℕ → ℕ → A → Type 0) (f : ℕ → ℕ → A) (i k : ℕ) (v : A) → P i k v
@@ -64,10 +81,29 @@ module _ {ℓ} {A : Type ℓ} where
 pub none≢some {ℓ κ} : {A : Type ℓ} {B : Type κ} {a : A} → none ≡ some a → B
 none≢some e = absurd (let z : _≡_ {A = ℕ} 0 1 = cc in omega arith)
 
--- a number between two bounds is at least the lower one
+module _ {ℓ} {A : Type ℓ} where
+  -- a result that there is only where a test holds
+  pub if-some : (b : Bool) {o : Option A} {a : A} → cond b o none ≡ some a → (b ≡ true) × (o ≡ some a)
+  if-some true e = (refl, e)
+  if-some false e = none≢some e
+
+  -- or only where it fails
+  pub unless-some : (b : Bool) {o : Option A} {a : A} → cond b none o ≡ some a → (b ≡ false) × (o ≡ some a)
+  unless-some true e = none≢some e
+  unless-some false e = (refl, e)
+
+  -- what holds of a result holds of the result that it equals
+  pub some-same : (P : A → Type 0) {a b : A} → some a ≡ some b → P a → P b
+  some-same P {a} {b} e p = let same : a ≡ b = cc in subst P same p
+
+-- a number between two bounds
+pub between-intro : (low high x : ℕ) → low ≤ x → x ≤ high → between low high x ≡ true
+between-intro low high x p q = and-intro (le-leb low x p) (le-leb x high q)
+
+-- it is at least the lower one
 pub between-low : (low high x : ℕ) → between low high x ≡ true → low ≤ x
 between-low low high x e = leb-true low x (and-left (leb low x) (leb x high) e)
 
--- and it is at most the upper one
+-- and at most the upper one
 pub between-high : (low high x : ℕ) → between low high x ≡ true → x ≤ high
 between-high low high x e = leb-true x high (and-right (leb low x) (leb x high) e)

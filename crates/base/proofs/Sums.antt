@@ -3,11 +3,13 @@ use Prim.Native.Nat.{ℕ, zero, suc, _+_, _*_, _<_, _≤_}
 use mathlib.Core.Bool.{Bool, true, false, _&&_, not}
 use mathlib.Core.Logic.{⊎-elim}
 use mathlib.Core.Path.{_≡_, refl, sym, ap, ap₂}
-use native.Mathlib.Nat.{not-suc-le-zero, le-step, le-refl}
+use native.Mathlib.Nat.{not-suc-le-zero, eq-or-lt-of-le, le-of-suc-le-suc, le-step, le-refl}
 use native.Mathlib.Numerals.{add-one}
 use native.Mathlib.Omega.{arith}
 use Rattle.base.proofs.Below.{below-cases}
+use Rattle.base.proofs.Choice.{update-same, update-other, update-each}
 use Rattle.base.specs.Below.{sumBelow, one, countBelow}
+use Rattle.base.specs.Choice.{update}
 
 -- equal summands have equal sums
 pub sum-ext : (n : ℕ) (f g : ℕ → ℕ) → ((i : ℕ) → i < n → f i ≡ g i) → sumBelow n f ≡ sumBelow n g
@@ -78,6 +80,18 @@ sum-change (suc n) f g i h e =
     (arith, sum-change n f g i p (λ j q. e j (le-step q)), e n (le-refl (suc n)) (λ r. omega arith)))
     (below-cases h)
 
+-- one summand of the larger sum, and the others of the smaller one
+pub sum-beside : (n : ℕ) (f g : ℕ → ℕ) (i : ℕ) → i < n → f i ≡ 0 → ((j : ℕ) → j < n → f j ≤ g j)
+    → g i + sumBelow n f ≤ sumBelow n g
+sum-beside n f g i h e le =
+    omega (
+      arith,
+      sum-change n f (update f i (g i)) i h (λ j p q. sym (update-other f i (g i) j q)),
+      update-same f i (g i),
+      sum-le n (update f i (g i)) g
+          (λ j. update-each (λ j a. j < n → a ≤ g j) f i (g i) (λ p. le-refl (g i)) (λ j q p. le j p) j),
+    )
+
 -- a sum with one summand that is not 0
 pub sum-single : (n : ℕ) (f : ℕ → ℕ) (i : ℕ) → i < n → ((j : ℕ) → j < n → (j ≡ i → ⊥) → f j ≡ 0)
     → sumBelow n f ≡ f i
@@ -115,6 +129,13 @@ one-le false = le-step (le-refl 0)
 -- a count is at most its bound
 pub count-le : (n : ℕ) (t : ℕ → Bool) → countBelow n t ≤ n
 count-le n t = omega (arith, sum-le n (λ i. one (t i)) (λ i. 1) (λ i p. one-le (t i)), sum-const n 1)
+
+-- a longer count is no smaller
+pub count-more : (n n′ : ℕ) (t : ℕ → Bool) → n ≤ n′ → countBelow n t ≤ countBelow n′ t
+count-more n zero t h = let e : n ≡ 0 = omega arith in omega (arith, ap (λ (k : ℕ). countBelow k t) e)
+count-more n (suc n′) t h =
+    ⊎-elim (λ e. omega (arith, ap (λ (k : ℕ). countBelow k t) e)) (λ l. omega (arith, count-more n n′ t (le-of-suc-le-suc l)))
+    (eq-or-lt-of-le h)
 
 -- tests that agree below the bound count alike
 pub count-ext : (n : ℕ) (t u : ℕ → Bool) → ((i : ℕ) → i < n → t i ≡ u i) → countBelow n t ≡ countBelow n u

@@ -2,8 +2,9 @@
 use Prim.Native.Nat.{ℕ, _+_, _<_, _≤_}
 use mathlib.Core.Path.{_≡_, sym, _∙_, ap}
 use native.Mathlib.Numerals.{add-one}
-use borrow.Author.Tests.{lt-ltb, le-ltb}
-use Rattle.base.proofs.Choice.{cond-true, cond-false}
+use borrow.Author.Tests.{le-ltb}
+use Rattle.base.proofs.Choice.{cond-false}
+use Rattle.cells.proofs.Stores.{push-stores}
 use Rattle.cells.specs.Layout.{WORKERS, LOG, WORK, DOMAIN, TAIL, LOGEND}
 use Rattle.cells.specs.Lists.{pushM, deleteM, copyM}
 use Rattle.cells.specs.Memory.{Mem, store}
@@ -13,11 +14,10 @@ use Rattle.cells.specs.View.{codeOf}
 
 module _ (r col i c e : ℕ) (m : Mem) (q : e ≡ m WORKERS i col) where
   pub pushed : (m₁ m₂ : Mem) → e < 512 → m₁ ≡ store m r i e c → m₂ ≡ store m₁ WORKERS i col (e + 1) → m₂ ≡ pushM r col i c m
-  unfolding pushM
   pushed m₁ m₂ h p₁ p₂ =
       p₂ ∙ ap (λ (n : Mem). store n WORKERS i col (e + 1)) p₁
       ∙ ap (λ (k : ℕ). store (store m r i k c) WORKERS i col (k + 1)) q
-      ∙ sym (cond-true _ m (lt-ltb (m WORKERS i col) 512 (rw q at h)))
+      ∙ sym (push-stores r col i c m (rw q at h))
 
   pub unpushed : 512 ≤ e → m ≡ pushM r col i c m
   unfolding pushM

@@ -35,8 +35,8 @@ pub fn asked(t: Tally) -> Tally
     Tally {
         lists: lists,
         timestamp: Timestamp(at.0 + 1),
-        polling: true,
         marks: 0,
+        polling: true,
         closed: t.closed,
     }
 }
@@ -63,8 +63,8 @@ fn counted(t: Tally) -> Tally
     Tally {
         lists: ListCounter(lists.0 + 1),
         timestamp: at,
-        polling: false,
         marks: t.marks,
+        polling: false,
         closed: t.closed,
     }
 }
@@ -88,12 +88,12 @@ fn marked(t: Tally, p: usize, i: usize) -> Tally
 {
     let lists = t.lists;
     let at = t.timestamp;
-    let marks = with_mark(t.marks, i);
+    let marks = with_mark(t.marks as usize, i);
     Tally {
         lists: lists,
         timestamp: at,
+        marks: marks as u16,
         polling: t.polling,
-        marks: marks,
         closed: marks + 1 == 1 << p,
     }
 }

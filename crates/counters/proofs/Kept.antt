@@ -1,5 +1,5 @@
--- The index stays as it is: neither treating nor loading labels stores into its regions.
-use Prim.Native.Nat.{ℕ, zero, suc, _+_, _*_, _-_, _<_, _≤_}
+-- Neither treating nor loading labels writes the plan's index or the cells behind the needed ones: all regions from HEADS on.
+use Prim.Native.Nat.{ℕ, zero, suc, _+_, _-_, _*_, _<_, _≤_}
 use mathlib.Core.Bool.{Bool, true, false, cond}
 use mathlib.Core.List.{List}
 use mathlib.Core.Path.{_≡_, refl, _∙_, ap}
@@ -10,8 +10,9 @@ use Rattle.base.specs.Below.{one}
 use Rattle.disac4.specs.Loading.{unsupported}
 use Rattle.disac4.specs.System.{System}
 use Rattle.network.specs.Network.{supportCount}
-use Rattle.index.proofs.Chains.{store-apart, indexed-kept}
+use Rattle.index.proofs.Chains.{indexed-kept}
 use Rattle.index.specs.Index.{Ready}
+use Rattle.cells.proofs.Stores.{store-apart}
 use Rattle.cells.specs.Layout.{WORKERS, LOG, WORK, DOMAIN, COUNTERS, HEADS, TAIL, LOGEND}
 use Rattle.cells.specs.Lists.{pushM, deleteM}
 use Rattle.counters.specs.Load.{countM, loadLabelM, loadValuesM, loadVariablesM}
@@ -19,9 +20,9 @@ use Rattle.cells.specs.Memory.{Mem, memOf, store}
 use Rattle.counters.specs.Treat.{loseM, touchM, touchValuesM, touchVariableM, touchVariablesM}
 use Rattle.cells.specs.View.{LISTED, codeOf, counterRow}
 
--- the regions of the index, from HEADS on, are in `n` what they are in `m`
+-- those regions are in `n` what they are in `m`
 pub record Kept (m n : Mem) : Type 0 where
-  pub region : (r i j : ℕ) → HEADS ≤ r → n r i j ≡ m r i j
+  pub static : (r i j : ℕ) → HEADS ≤ r → n r i j ≡ m r i j
 
 -- cells of the same length whose memory keeps the index are ready too
 pub ready-kept : (b old new : List ℕ) {n : Mem} → Ready b old → length new ≡ length old → memOf new ≡ n
@@ -31,19 +32,25 @@ ready-kept b old new r l e k =
     record {
       long = omega (arith, r .long);
       sound = r .sound;
-      index = indexed-kept b (memOf old) (memOf new) (p .region) (r .index);
+      index = indexed-kept b (memOf old) (memOf new) (p .static) (r .index);
     }
 
--- the row of two variables' counters stays too
-pub row-kept : (m n : Mem) (x y : ℕ) → Kept m n → counterRow n x y ≡ counterRow m x y
+-- the same index gives two variables' counters the same row
+pub row-heads : (m n : Mem) (x y : ℕ) → n HEADS x y ≡ m HEADS x y → counterRow n x y ≡ counterRow m x y
 unfolding counterRow
-row-kept m n x y e = ap (λ (h : ℕ). 2 * h - 1 + one (ltb y x)) (e .region HEADS x y (omega arith))
+row-heads m n x y e = ap (λ (h : ℕ). 2 * h - 1 + one (ltb y x)) e
 
 pub same : {m : Mem} → Kept m m
-same = record { region = λ r i j h. refl }
+same = record { static = λ r i j h. refl }
 
 then : {m n o : Mem} → Kept m n → Kept n o → Kept m o
-then p q = record { region = λ r i j h. q .region r i j h ∙ p .region r i j h }
+then p q = record { static = λ r i j h. q .static r i j h ∙ p .static r i j h }
+
+-- what each step keeps, all of them do
+repeated : (F : ℕ → Mem → Mem) → ((m : Mem) → Kept m (F 0 m)) → ((n : ℕ) (m : Mem) → Kept (F n m) (F (suc n) m)) → (n : ℕ)
+    (m : Mem) → Kept m (F n m)
+repeated F start more zero m = start m
+repeated F start more (suc n) m = then (repeated F start more n m) (more n m)
 
 either : (t : Bool) {m n o : Mem} → Kept m n → Kept m o → Kept m (cond t n o)
 either true p q = p
@@ -51,9 +58,8 @@ either false p q = q
 
 -- a store before the index keeps it
 pub stored : (r i j v : ℕ) {m n : Mem} → r < HEADS → Kept m n → Kept m (store n r i j v)
-stored r i j v {n = n} h p = record {
-  region = λ s k l g. store-apart n r i j v s k l (λ e. omega arith) ∙ p .region s k l g;
-}
+stored r i j v {n = n} h p =
+    record { static = λ s k l g. store-apart n r i j v s k l (λ e. omega arith) ∙ p .static s k l g }
 
 push-kept : (r col i c : ℕ) {m n : Mem} → r < HEADS → Kept m n → Kept m (pushM r col i c n)
 unfolding pushM
@@ -82,8 +88,8 @@ module _ (sys : System) (i y w : ℕ) where
 
   pub touch-values-kept : (x n : ℕ) (m : Mem) → Kept m (touchValuesM sys i y w x n m)
   unfolding touchValuesM
-  touch-values-kept x zero m = same
-  touch-values-kept x (suc n) m = then (touch-values-kept x n m) (touch-kept x n (touchValuesM sys i y w x n m))
+  touch-values-kept x =
+      repeated (touchValuesM sys i y w x) (λ m. same) (λ n m. touch-kept x n (touchValuesM sys i y w x n m))
 
   pub touch-variable-kept : (x : ℕ) (m : Mem) → Kept m (touchVariableM sys i y w x m)
   unfolding touchVariableM
@@ -92,8 +98,8 @@ module _ (sys : System) (i y w : ℕ) where
 
   pub touch-variables-kept : (n : ℕ) (m : Mem) → Kept m (touchVariablesM sys i y w n m)
   unfolding touchVariablesM
-  touch-variables-kept zero m = same
-  touch-variables-kept (suc n) m = then (touch-variables-kept n m) (touch-variable-kept n (touchVariablesM sys i y w n m))
+  touch-variables-kept =
+      repeated (touchVariablesM sys i y w) (λ m. same) (λ n m. touch-variable-kept n (touchVariablesM sys i y w n m))
 
 -- ---- loading
 
@@ -115,11 +121,9 @@ module _ (sys : System) (x : ℕ) where
 
   pub load-values-kept : (n : ℕ) (m : Mem) → Kept m (loadValuesM sys x n m)
   unfolding loadValuesM
-  load-values-kept zero m = same
-  load-values-kept (suc n) m = then (load-values-kept n m) (load-label-kept n (loadValuesM sys x n m))
+  load-values-kept = repeated (loadValuesM sys x) (λ m. same) (λ n m. load-label-kept n (loadValuesM sys x n m))
 
 pub load-variables-kept : (sys : System) (n : ℕ) (m : Mem) → Kept m (loadVariablesM sys n m)
 unfolding loadVariablesM
-load-variables-kept sys zero m = same
-load-variables-kept sys (suc n) m =
-    then (load-variables-kept sys n m) (load-values-kept sys n (sys .net .size n) (loadVariablesM sys n m))
+load-variables-kept sys =
+    repeated (loadVariablesM sys) (λ m. same) (λ n m. load-values-kept sys n (sys .net .size n) (loadVariablesM sys n m))

@@ -1,20 +1,20 @@
 -- Laws that the code of loading meets its definitions in memory by.
 use Prim.Native.Nat.{ℕ, _+_, _-_, _<_}
-use mathlib.Core.Bool.{Bool, true, false, cond, _&&_}
+use mathlib.Core.Bool.{true, false, cond, _&&_}
 use mathlib.Core.Path.{_≡_, refl, sym, _∙_, ap}
 use native.Mathlib.Omega.{arith}
 use lib.Dec.{eqb}
 use Rattle.base.proofs.Below.{any-below, some-below}
 use Rattle.base.proofs.Bools.{and-false-left, refuted}
 use Rattle.base.proofs.Choice.{cond-true, cond-false}
-use Rattle.base.proofs.Sums.{sum-none, sum-some}
+use Rattle.base.proofs.Sums.{sum-none, sum-some, one-passes}
 use Rattle.base.specs.Below.{one, countBelow}
 use Rattle.disac4.specs.Loading.{loadedCounter, unsupported}
 use Rattle.disac4.specs.System.{System}
 use Rattle.network.specs.Network.{Network, loaded, supportCount}
-use Rattle.counters.proofs.Kept.{row-kept, count-kept, same}
+use Rattle.counters.proofs.Kept.{row-heads, count-kept, same}
 use Rattle.counters.proofs.TreatLaws.{one-more}
-use Rattle.cells.specs.Layout.{DOMAIN, COUNTERS}
+use Rattle.cells.specs.Layout.{DOMAIN, COUNTERS, HEADS}
 use Rattle.cells.specs.Lists.{deleteM}
 use Rattle.counters.specs.Load.{lacks, countOneM, countM, loadLabelM, loadValuesM, loadVariablesM}
 use Rattle.cells.specs.Memory.{Mem, store}
@@ -42,7 +42,7 @@ counter-more sys x v y m m₁ m₂ =
     (ap
     (λ (k : ℕ).
     cond (sys .net .linked x y) (store (countM sys x v y m) COUNTERS k v (supportCount (sys .net) x v y)) (countM sys x v y m))
-    (sym (row-kept m (countM sys x v y m) x y (count-kept sys x v y same))))
+    (sym (row-heads m (countM sys x v y m) x y (count-kept sys x v y same .static HEADS x y (omega arith)))))
 
 -- ---- a label with a count of 0
 
@@ -56,11 +56,7 @@ module _ (net : Network) (x v : ℕ) (l : loaded net x v ≡ true) where
   unsupported-some h =
       let r = sum-some (net .variables) (λ y. one (lacks net x v y)) h in
       any-below (net .variables) (λ y. net .linked x y && eqb (loadedCounter net x v y) 0) (r .0) (r .1)
-      (lacks-loaded (r .0) ∙ holds (lacks net x v (r .0)) (r .2))
-    where
-      holds : (t : Bool) → 0 < one t → t ≡ true
-      holds true p = refl
-      holds false p = absurd (omega arith)
+      (lacks-loaded (r .0) ∙ one-passes (lacks net x v (r .0)) (r .2))
 
   pub unsupported-none : countBelow (net .variables) (lacks net x v) ≡ 0 → unsupported net x v ≡ false
   unfolding unsupported

@@ -27,13 +27,13 @@ pub struct Timestamp(pub u16);
 // A count of lists.
 pub struct ListCounter(pub u16);
 
-// The controller's tally (the desk's): its count of lists, the poll number, whether that poll is open (polling), the marks as a row
-// of bits, lowest bit for worker 1, and whether the plan is closed.
+// The controller's tally (the desk's): its count of lists, the poll number, the marks as a row of bits, lowest bit for worker 1,
+// whether the poll is open (polling), and whether the plan is closed. Eight bytes without a gap, so that it is copied at once.
 pub struct Tally {
     pub lists: ListCounter,
     pub timestamp: Timestamp,
+    pub marks: u16,
     pub polling: bool,
-    pub marks: usize,
     pub closed: bool,
 }
 

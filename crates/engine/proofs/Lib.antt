@@ -5,3 +5,4 @@ pub mod Rounding
 pub mod RoundsLeft
 pub mod RunLaws
 pub mod TurnLists
+pub mod Working

@@ -24,7 +24,7 @@ use Rattle.cells.specs.Layout.{HEADS}
 use Rattle.counters.specs.Load.{clearedM, loadM}
 use Rattle.cells.specs.Memory.{Mem, memOf, left, changed, Acts}
 use Rattle.messages.specs.Messages.{sendM, answerM, readPollM, readListM}
-use Rattle.refinement.specs.Run.{freshTally, startM, workerOn, turnOn}
+use Rattle.refinement.specs.Run.{freshTally, startM, readOn, workerOn, turnOn}
 use Rattle.controller.specs.Controller.{Machine, machine, Hears, hearM, pollM}
 use Rattle.refinement.specs.Step.{withMem, readM, workerM, stepM}
 use Rattle.counters.specs.Treat.{treatM}
@@ -77,20 +77,19 @@ module _ (sys : System) (t : Tally) (i d : ℕ) (m : Mem) where
   unfolding workerM
   worker-answers n o e = cond-false _ _ (ne-eqb d 9 n) ∙ (cond-false _ _ (ne-eqb d 10 o) ∙ cond-true _ _ (eq-eqb d 11 e))
 
-  worker-reads : (d ≡ 9 → ⊥) → (d ≡ 10 → ⊥) → (d ≡ 11 → ⊥)
-      → workerOn sys t i d m ≡ readM d i (record { mem = m; tally = t })
+  pub worker-reads : (d ≡ 9 → ⊥) → (d ≡ 10 → ⊥) → (d ≡ 11 → ⊥) → workerOn sys t i d m ≡ readOn t i d m
   unfolding workerM
   worker-reads n o p =
       cond-false _ _ (ne-eqb d 9 n) ∙ (cond-false _ _ (ne-eqb d 10 o) ∙ cond-false _ _ (ne-eqb d 11 p))
 
-  pub worker-polls : (d ≡ 9 → ⊥) → (d ≡ 10 → ⊥) → (d ≡ 11 → ⊥) → d ≡ 0
-      → workerOn sys t i d m ≡ readPollM i (t .timestamp .0) m
+module _ (t : Tally) (i d : ℕ) (m : Mem) where
+  pub read-polls : d ≡ 0 → readOn t i d m ≡ readPollM i (t .timestamp .0) m
   unfolding readM
-  worker-polls n o p e = worker-reads n o p ∙ cond-true _ _ (eq-eqb d 0 e)
+  read-polls e = cond-true _ _ (eq-eqb d 0 e)
 
-  pub worker-lists : (d ≡ 9 → ⊥) → (d ≡ 10 → ⊥) → (d ≡ 11 → ⊥) → (d ≡ 0 → ⊥) → workerOn sys t i d m ≡ readListM (d - 1) i m
+  pub read-lists : (d ≡ 0 → ⊥) → readOn t i d m ≡ readListM (d - 1) i m
   unfolding readM
-  worker-lists n o p e = worker-reads n o p ∙ cond-false _ _ (ne-eqb d 0 e)
+  read-lists e = cond-false _ _ (ne-eqb d 0 e)
 
 -- ---- a turn, by its actor and action
 

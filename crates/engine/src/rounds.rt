@@ -1,5 +1,6 @@
 // The round, and rounds until the plan is closed.
 use crate::run;
+use disac4::Tally;
 use refinement::Progress;
 ghost use mathlib.Core.Bool.{cond};
 ghost use mathlib.Core.List.{[], _∷_, map};
@@ -9,33 +10,33 @@ ghost use lib.Dec.{eqb};
 ghost use Rattle.base.specs.Below.{gatherBelow, listBelow};
 ghost use Rattle.disac4.specs.Round.{others, workerRound, round};
 ghost use Rattle.disac4.specs.Turn.{turn};
-ghost use Rattle.engine.specs.Play.{Begun, PlaysRounds};
+ghost use Rattle.engine.specs.Play.{Begun, PlaysRounds, Running, Works};
 ghost use Rattle.refinement.specs.Run.{Going, Plays};
 ghost use Rattle.format.specs.Format.{workerCount};
 
-// Worker k reads from actor j, unless that is itself.
-fn read_other(b: &[u8], cells: &mut [u16], g: Progress, p: usize, k: usize, j: usize) -> Progress
-    requires { ⌜ Going (now b) (now cells) g × (p ≡ workerCount (now b)) × (0 < k) × (k ≤ p) × (j ≤ p) ⌝ }
-    ensures { λ r. ⌜ Plays (now (b .entry)) (map (turn k) (cond (eqb j k) [] (j ∷ []))) (now (cells .entry)) g (now (cells .exit)) r ⌝ }
+// Worker k reads from actor j, unless that is itself: 1 where that changed something.
+fn read_other(b: &[u8], cells: &mut [u16], t: Tally, p: usize, k: usize, j: usize) -> usize
+    requires { ⌜ Running (now b) (now cells) t × (p ≡ workerCount (now b)) × (0 < k) × (k ≤ p) × (j ≤ p) ⌝ }
+    ensures { λ r. ⌜ Works (now (b .entry)) (map (turn k) (cond (eqb j k) [] (j ∷ []))) (now (cells .entry)) t (now (cells .exit)) r 0 × (r ≤ 1) ⌝ }
 {
     if j == k {
-        return g;
+        return 0;
     }
-    run::advance(b, cells, g, p, k, j)
+    run::read_turn(b, cells, t, p, k, j)
 }
 
-// Worker k reads from the controller, and then from every other worker.
-fn reads(b: &[u8], cells: &mut [u16], g: Progress, p: usize, k: usize) -> Progress
-    requires { ⌜ Going (now b) (now cells) g × (p ≡ workerCount (now b)) × (0 < k) × (k ≤ p) ⌝ }
-    ensures { λ r. ⌜ Plays (now (b .entry)) (map (turn k) (others p k)) (now (cells .entry)) g (now (cells .exit)) r ⌝ }
+// Worker k reads from the controller, and then from every other worker: how many of these turns changed something.
+fn reads(b: &[u8], cells: &mut [u16], t: Tally, p: usize, k: usize) -> usize
+    requires { ⌜ Running (now b) (now cells) t × (p ≡ workerCount (now b)) × (0 < k) × (k ≤ p) ⌝ }
+    ensures { λ r. ⌜ Works (now (b .entry)) (map (turn k) (others p k)) (now (cells .entry)) t (now (cells .exit)) r 0 × (r ≤ 9) ⌝ }
 {
-    let mut at = g;
+    let mut changes = 0;
     let mut j = 0;
     while j <= p {
-        at = read_other(b, cells, at, p, k, j);
+        changes += read_other(b, cells, t, p, k, j);
         j += 1;
     }
-    at
+    changes
 }
 
 // Worker k reads, treats, sends and answers.
@@ -43,10 +44,17 @@ fn worker_round(b: &[u8], cells: &mut [u16], g: Progress, p: usize, k: usize) ->
     requires { ⌜ Going (now b) (now cells) g × (p ≡ workerCount (now b)) × (0 < k) × (k ≤ p) ⌝ }
     ensures { λ r. ⌜ Plays (now (b .entry)) (workerRound p k) (now (cells .entry)) g (now (cells .exit)) r ⌝ }
 {
-    let read = reads(b, cells, g, p, k);
-    let treated = run::advance(b, cells, read, p, k, 9);
-    let sent = run::advance(b, cells, treated, p, k, 10);
-    run::advance(b, cells, sent, p, k, 11)
+    let t = g.tally;
+    let read = reads(b, cells, t, p, k);
+    let treated = run::work_turn(b, cells, t, p, k, 9);
+    let sent = run::work_turn(b, cells, t, p, k, 10);
+    let answered = run::work_turn(b, cells, t, p, k, 11);
+    Progress {
+        tally: t,
+        changes: g.changes + read + treated + sent + answered,
+        sends: g.sends + sent,
+        polls: g.polls,
+    }
 }
 
 // The workers in turn.
@@ -71,7 +79,7 @@ fn hear_all(b: &[u8], cells: &mut [u16], g: Progress, p: usize) -> Progress
     let mut at = g;
     let mut i = 0;
     while i < p {
-        at = run::advance(b, cells, at, p, 0, i + 1);
+        at = run::control(b, cells, at, p, i + 1);
         i += 1;
     }
     at
@@ -84,7 +92,7 @@ fn play_round(b: &[u8], cells: &mut [u16], g: Progress, p: usize) -> Progress
 {
     let worked = workers_round(b, cells, g, p);
     let heard = hear_all(b, cells, worked, p);
-    run::advance(b, cells, heard, p, 0, 12)
+    run::control(b, cells, heard, p, 12)
 }
 
 // Rounds until the plan is closed.

@@ -13,12 +13,13 @@ ghost use mathlib.Core.List.{[], _∷_};
 ghost use mathlib.Core.Option.{none};
 ghost use mathlib.Core.Path.{_≡_};
 ghost use Prim.Native.Nat.{_<_, _≤_};
+ghost use lib.Dec.{eqb};
 ghost use lib.ListN.{length};
 ghost use Rattle.disac4.specs.Outcome.{systemAt};
-ghost use Rattle.disac4.specs.Report.{isSend, isPoll};
 ghost use Rattle.disac4.specs.Turn.{allowed, turn};
 ghost use Rattle.cells.specs.Memory.{memOf, Acts};
-ghost use Rattle.refinement.specs.Run.{freshTally, startM, Playable, workerOn, turnOn, Going, Plays};
+ghost use Rattle.engine.specs.Play.{Running, Works};
+ghost use Rattle.refinement.specs.Run.{freshTally, startM, Playable, readOn, workerOn, turnOn, Going, Plays};
 ghost use Rattle.controller.specs.Controller.{machine, Hears};
 ghost use Rattle.plan.specs.Decode.{planFault};
 ghost use Rattle.format.specs.Format.{workerCount};
@@ -30,8 +31,8 @@ fn fresh() -> Tally
     Tally {
         lists: ListCounter(0),
         timestamp: Timestamp(0),
-        polling: false,
         marks: 0,
+        polling: false,
         closed: false,
     }
 }
@@ -45,6 +46,19 @@ pub fn start(b: &[u8], cells: &mut [u16]) -> Tally
     build::index_plan(b, cells);
     load::load_plan(b, cells);
     fresh()
+}
+
+// Row `i` reads from actor `d`: the next poll, or the next list message.
+fn read(cells: &mut [u16], t: Tally, i: usize, d: usize) -> usize
+    requires { ⌜ (24576 ≤ length (now cells)) × (i < 8) × (d < 9) ⌝ }
+    ensures { λ r. ⌜ Acts (readOn t i d) (now (cells .entry)) (now (cells .exit)) r ⌝ }
+{
+    if d == 0 {
+        let at = t.timestamp;
+        let n = at.0 as usize;
+        return messages::read_poll(cells, i, n);
+    }
+    messages::read_list(cells, d - 1, i)
 }
 
 // The action `d` of row `i`.
@@ -61,18 +75,35 @@ fn work(b: &[u8], cells: &mut [u16], t: Tally, i: usize, d: usize) -> usize
     if d == 11 {
         return messages::answer(cells, i);
     }
-    if d == 0 {
-        let at = t.timestamp;
-        let n = at.0 as usize;
-        return messages::read_poll(cells, i, n);
-    }
-    messages::read_list(cells, d - 1, i)
+    read(cells, t, i, d)
 }
 
-// One turn, which is an allowed one of p workers.
-fn step(b: &[u8], cells: &mut [u16], t: Tally, p: usize, actor: usize, action: usize) -> Heard
-    requires { ⌜ Playable (now b) (now cells) t × (p ≡ workerCount (now b)) × (allowed p (turn actor action) ≡ true) ⌝ }
-    ensures { λ r. ⌜ Hears (turnOn (systemAt (now (b .entry))) actor action) (now (cells .entry)) t (now (cells .exit)) r ⌝ }
+// One turn of worker k, which is an allowed one of p workers: 1 where it changed something.
+pub fn work_turn(b: &[u8], cells: &mut [u16], t: Tally, p: usize, k: usize, d: usize) -> usize
+    requires { ⌜ Running (now b) (now cells) t × (p ≡ workerCount (now b)) × (0 < k) × (allowed p (turn k d) ≡ true) ⌝ }
+    ensures { λ r. ⌜ Works (now (b .entry)) (turn k d ∷ []) (now (cells .entry)) t (now (cells .exit)) r (cond (eqb d 10) r 0) × (r ≤ 1) ⌝ }
+{
+    if t.closed {
+        return 0;
+    }
+    work(b, cells, t, k - 1, d)
+}
+
+// The same for a read, whose code is short.
+pub fn read_turn(b: &[u8], cells: &mut [u16], t: Tally, p: usize, k: usize, j: usize) -> usize
+    requires { ⌜ Running (now b) (now cells) t × (p ≡ workerCount (now b)) × (0 < k) × (j < 9) × (allowed p (turn k j) ≡ true) ⌝ }
+    ensures { λ r. ⌜ Works (now (b .entry)) (turn k j ∷ []) (now (cells .entry)) t (now (cells .exit)) r 0 × (r ≤ 1) ⌝ }
+{
+    if t.closed {
+        return 0;
+    }
+    read(cells, t, k - 1, j)
+}
+
+// One turn of the controller, which is an allowed one of p workers.
+fn hear_turn(b: &[u8], cells: &mut [u16], t: Tally, p: usize, d: usize) -> Heard
+    requires { ⌜ Playable (now b) (now cells) t × (p ≡ workerCount (now b)) × (allowed p (turn 0 d) ≡ true) ⌝ }
+    ensures { λ r. ⌜ Hears (turnOn (systemAt (now (b .entry))) 0 d) (now (cells .entry)) t (now (cells .exit)) r ⌝ }
 {
     if t.closed {
         return Heard {
@@ -80,37 +111,34 @@ fn step(b: &[u8], cells: &mut [u16], t: Tally, p: usize, actor: usize, action: u
             tally: t,
         };
     }
-    if actor == 0 {
-        if action == 12 {
-            return controller::poll(cells, t);
-        }
-        return controller::tally::heard(cells, t, p, action - 1);
+    if d == 12 {
+        return controller::poll(cells, t);
     }
-    let changed = work(b, cells, t, actor - 1, action);
-    Heard {
-        changed: changed,
-        tally: t,
+    controller::tally::heard(cells, t, p, d - 1)
+}
+
+// One turn more of the controller.
+pub fn control(b: &[u8], cells: &mut [u16], g: Progress, p: usize, d: usize) -> Progress
+    requires { ⌜ Going (now b) (now cells) g × (p ≡ workerCount (now b)) × (allowed p (turn 0 d) ≡ true) ⌝ }
+    ensures { λ r. ⌜ Plays (now (b .entry)) (turn 0 d ∷ []) (now (cells .entry)) g (now (cells .exit)) r ⌝ }
+{
+    let t = g.tally;
+    let h = hear_turn(b, cells, t, p, d);
+    let changed = h.changed;
+    let after = h.tally;
+    Progress {
+        tally: after,
+        changes: g.changes + changed,
+        sends: g.sends,
+        polls: g.polls + if_action(12, d, changed),
     }
 }
 
-// What a turn adds to the sends.
-fn if_send(actor: usize, action: usize, changed: usize) -> usize
-    ensures { λ r. ⌜ r ≡ cond (isSend (turn actor action)) changed 0 ⌝ }
+// What a turn adds to the count of turns with action `a`.
+fn if_action(a: usize, d: usize, changed: usize) -> usize
+    ensures { λ r. ⌜ r ≡ cond (eqb d a) changed 0 ⌝ }
 {
-    if actor == 0 {
-        return 0;
-    }
-    if action == 10 { changed } else { 0 }
-}
-
-// What a turn adds to the polls.
-fn if_poll(actor: usize, action: usize, changed: usize) -> usize
-    ensures { λ r. ⌜ r ≡ cond (isPoll (turn actor action)) changed 0 ⌝ }
-{
-    if actor != 0 {
-        return 0;
-    }
-    if action == 12 { changed } else { 0 }
+    if d == a { changed } else { 0 }
 }
 
 // One turn more, which is an allowed one of p workers.
@@ -125,14 +153,15 @@ pub fn advance(
     requires { ⌜ Going (now b) (now cells) g × (p ≡ workerCount (now b)) × (allowed p (turn actor action) ≡ true) ⌝ }
     ensures { λ r. ⌜ Plays (now (b .entry)) (turn actor action ∷ []) (now (cells .entry)) g (now (cells .exit)) r ⌝ }
 {
+    if actor == 0 {
+        return control(b, cells, g, p, action);
+    }
     let t = g.tally;
-    let h = step(b, cells, t, p, actor, action);
-    let changed = h.changed;
-    let after = h.tally;
+    let changed = work_turn(b, cells, t, p, actor, action);
     Progress {
-        tally: after,
+        tally: t,
         changes: g.changes + changed,
-        sends: g.sends + if_send(actor, action, changed),
-        polls: g.polls + if_poll(actor, action, changed),
+        sends: g.sends + if_action(10, action, changed),
+        polls: g.polls,
     }
 }

@@ -12,10 +12,12 @@ use native.Mathlib.Omega.{arith}
 use lib.Dec.{eqb}
 use Rattle.base.proofs.Below.{below-cases}
 use Rattle.base.proofs.Bools.{decided, and-left, and-right, and-intro, and-false-left, and-comm, or-cases, or-comm, or-right, bool-ext}
+pub use Rattle.base.proofs.Bools.{and-true}
 use Rattle.base.proofs.Choice.{cond-true, cond-false}
 use Rattle.base.specs.Below.{allBelow, anyBelow}
-use Rattle.index.proofs.Own.{rows-own, rows-count}
-use Rattle.index.specs.Index.{over, chainBelow, ownCount, Indexed, placesM, linkM, constraintStart, chainsM, ownRowM, ownListM, ownM, indexM}
+use Rattle.index.proofs.Own.{rows-own, rows-count, own-keeps}
+use Rattle.index.specs.Index.{over, chainBelow, ownCount, Indexed, placesM, linkM, constraintStart, chainsM, ownM, indexM}
+use Rattle.cells.proofs.Stores.{store-apart}
 use Rattle.cells.specs.Layout.{HEADS, PLACES, NEXT, OWN, OWNED}
 use Rattle.cells.specs.Memory.{Mem, store}
 use Rattle.plan.proofs.InOrder.{InOrder}
@@ -38,10 +40,6 @@ unfolding chainBelow
 chain-turned b x y zero = refl
 chain-turned b x y (suc k) =
     ap₂ (λ (t : Bool) (n : ℕ). cond t (suc k) n) (over-turned b x y k) (chain-turned b x y k)
-
-pub and-true : (a : Bool) {b : Bool} → b ≡ true → a && b ≡ a
-and-true true e = e
-and-true false e = refl
 
 module _ (b : List ℕ) (x y : ℕ) where
   chain-here : (c : ℕ) → over b x y c ≡ true → chainBelow b x y (suc c) ≡ suc c
@@ -97,12 +95,6 @@ module _ (b : List ℕ) (x y : ℕ) where
       ap (λ (t : Bool). anyBelow k (over b x y) || t) p ∙ or-comm (anyBelow k (over b x y)) false ∙ chain-any k
       ∙ ap (λ (n : ℕ). not (eqb n 0)) (sym (chain-past k p)))
       (decided (over b x y k))
-
--- ---- a store in another region
-
-pub store-apart : (m : Mem) (r i j v s k l : ℕ) → (s ≡ r → ⊥) → store m r i j v s k l ≡ m s k l
-store-apart m r i j v s k l h =
-    cond-false v (m s k l) (and-false-left (eqb k i) (and-false-left (eqb l j) (ne-eqb s r h)))
 
 -- ---- the variables of a constraint
 
@@ -233,18 +225,6 @@ module _ (b : List ℕ) (none-found : planFault b ≡ none) (m : Mem) (empty : (
           (λ (r : (x ≡ s) × (y ≡ f)). rw (r .0, r .1) (chain-turned b f s c))
           (over-ends b k f s (ends b none-found k h) x y q)
 
--- the rows of own variables leave the other regions alone
-pub own-keeps : (b : List ℕ) (n : ℕ) (m : Mem) (r i j : ℕ) → (r ≡ OWN → ⊥) → (r ≡ OWNED → ⊥) → ownM b n m r i j ≡ m r i j
-unfolding ownM ownListM ownRowM
-own-keeps b zero m r i j h l = refl
-own-keeps b (suc k) m r i j h l =
-    store-apart (ownRowM b k (variableCount b) (ownM b k m)) OWNED 0 k (ownCount b k (variableCount b)) r i j l
-    ∙ row (variableCount b) ∙ own-keeps b k m r i j h l
-  where
-    row : (x : ℕ) → ownRowM b k x (ownM b k m) r i j ≡ ownM b k m r i j
-    row zero = refl
-    row (suc x) = store-apart (ownRowM b k x (ownM b k m)) OWN k (ownCount b k x) x r i j h ∙ row x
-
 -- from a memory without chains, indexing leaves the plan's index
 pub indexed : (b : List ℕ) → planFault b ≡ none → (m : Mem) → ((x y : ℕ) → m HEADS x y ≡ 0) → Indexed b (indexM b m)
 unfolding indexM
@@ -254,7 +234,7 @@ indexed b none-found m empty =
     let l = chainsM b c (placesM b n m) in
     let empty′ : (x y : ℕ) → placesM b n m HEADS x y ≡ 0 = λ x y. places-heads b n m x y ∙ empty x y in
     let kept : (r i j : ℕ) → r < OWN → ownM b 8 l r i j ≡ l r i j =
-    λ r i j h. own-keeps b 8 l r i j (λ e. omega arith) (λ e. omega arith) in
+    λ r i j h. own-keeps b l 8 r i j (λ e. omega arith) (λ e. omega arith) in
     record {
       places = λ k h. kept PLACES 0 k (omega arith) ∙ chains-keep b c (placesM b n m) 0 k ∙ places-at b n m k h;
       heads = λ x y. kept HEADS x y (omega arith) ∙ chains-heads b none-found (placesM b n m) empty′ c (le-refl c) x y;
@@ -268,7 +248,7 @@ indexed b none-found m empty =
 pub index-keeps : (b : List ℕ) (m : Mem) (r : ℕ) → (r < HEADS) ⊎ (OWNED < r) → (i j : ℕ) → indexM b m r i j ≡ m r i j
 unfolding indexM placesM linkM chainsM
 index-keeps b m r apart i j =
-    own-keeps b 8 (chainsM b (constraintCount b) (placesM b (sectionCount b) m)) r i j (other OWN (omega arith) (omega arith))
+    own-keeps b (chainsM b (constraintCount b) (placesM b (sectionCount b) m)) 8 r i j (other OWN (omega arith) (omega arith))
     (other OWNED (omega arith) (omega arith))
     ∙ chains (constraintCount b) (placesM b (sectionCount b) m) ∙ places (sectionCount b)
   where

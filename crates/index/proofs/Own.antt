@@ -9,17 +9,16 @@ use native.Mathlib.Decide.{decLt}
 use native.Mathlib.Nat.{le-refl, le-step, eq-or-lt-of-le, not-suc-le-zero}
 use native.Mathlib.Numerals.{add-one}
 use native.Mathlib.Omega.{arith}
-use lib.Dec.{eqb}
 use lib.ListN.{length}
 use Rattle.base.proofs.Below.{below-cases}
-use Rattle.base.proofs.Bools.{decided, and-intro, and-false-left, and-false-right}
-use Rattle.base.proofs.Choice.{cond-true, cond-false}
+use Rattle.base.proofs.Bools.{decided}
 use Rattle.base.proofs.Sums.{sum-more, count-le}
 use Rattle.base.specs.Below.{one}
 use Rattle.disac4.specs.System.{systemOf}
 use Rattle.format.specs.Format.{variableCount}
 use Rattle.plan.specs.Decode.{planOf}
 use Rattle.index.specs.Index.{owns, ownCount, Indexed, Located, ownRowM, ownListM, ownM}
+use Rattle.cells.proofs.Stores.{store-same, store-other, store-apart}
 use Rattle.cells.specs.Layout.{PLACES, OWN, OWNED}
 use Rattle.cells.specs.Memory.{Mem, memOf, store}
 
@@ -103,25 +102,20 @@ module _ (b : List ℕ) (i : ℕ) (m : Mem) where
   row-own (suc n) x h p =
       ⊎-elim
       (λ e.
-      cond-true n (ownRowM b i n m OWN i (ownCount b i x))
-      (and-intro (eq-eqb (ownCount b i x) (ownCount b i n) (ap (ownCount b i) e)) (eq-eqb i i refl))
-      ∙ sym e)
+      subst (λ (k : ℕ). store (ownRowM b i n m) OWN i (ownCount b i n) n OWN i (ownCount b i k) ≡ k) (sym e)
+      (store-same (ownRowM b i n m) OWN i (ownCount b i n) n))
       (λ l.
-      cond-false n (ownRowM b i n m OWN i (ownCount b i x))
-      (and-false-left (eqb i i) (ne-eqb (ownCount b i x) (ownCount b i n) (λ e. omega (arith, count-above b i x n l p))))
+      store-other (ownRowM b i n m) OWN i (ownCount b i n) n OWN i (ownCount b i x)
+      (λ r k c. omega (arith, count-above b i x n l p))
       ∙ row-own n x l p)
       (below-cases h)
 
-  row-other : (n k j : ℕ) → (k ≡ i → ⊥) → ownRowM b i n m OWN k j ≡ m OWN k j
+  -- what stands in another row or region stays
+  pub row-other : (n r k j : ℕ) → (r ≡ OWN → k ≡ i → ⊥) → ownRowM b i n m r k j ≡ m r k j
   unfolding ownRowM
-  row-other zero k j h = refl
-  row-other (suc n) k j h =
-      cond-false n (ownRowM b i n m OWN k j) (and-false-right (eqb j (ownCount b i n)) (ne-eqb k i h)) ∙ row-other n k j h
-
-  row-counts : (n k : ℕ) → ownRowM b i n m OWNED 0 k ≡ m OWNED 0 k
-  unfolding ownRowM
-  row-counts zero k = refl
-  row-counts (suc n) k = row-counts n k
+  row-other zero r k j h = refl
+  row-other (suc n) r k j h =
+      store-other (ownRowM b i n m) OWN i (ownCount b i n) n r k j (λ e f c. h e f) ∙ row-other n r k j h
 
 module _ (b : List ℕ) (m : Mem) where
   pub rows-own : (n i : ℕ) → i < n → (x : ℕ) → x < variableCount b → owns b i x ≡ true → ownM b n m OWN i (ownCount b i x) ≡ x
@@ -132,23 +126,31 @@ module _ (b : List ℕ) (m : Mem) where
       (λ e.
       subst (λ (k : ℕ). ownRowM b k (variableCount b) (ownM b k m) OWN i (ownCount b i x) ≡ x) e
       (row-own b i (ownM b i m) (variableCount b) x l p))
-      (λ k. row-other b n (ownM b n m) (variableCount b) i (ownCount b i x) (λ e. omega arith) ∙ rows-own n i k x l p)
+      (λ k.
+      row-other b n (ownM b n m) (variableCount b) OWN i (ownCount b i x) (λ r e. omega arith) ∙ rows-own n i k x l p)
       (below-cases h)
 
   pub rows-count : (n i : ℕ) → i < n → ownM b n m OWNED 0 i ≡ ownCount b i (variableCount b)
   unfolding ownM ownListM
   rows-count zero i h = absurd (not-suc-le-zero h)
   rows-count (suc n) i h =
+      let row = ownRowM b n (variableCount b) (ownM b n m) in
       ⊎-elim
       (λ e.
-      cond-true (ownCount b n (variableCount b)) (ownRowM b n (variableCount b) (ownM b n m) OWNED 0 i)
-      (and-intro (eq-eqb i n e) refl)
-      ∙ ap (λ (k : ℕ). ownCount b k (variableCount b)) (sym e))
+      subst (λ (k : ℕ). store row OWNED 0 n (ownCount b n (variableCount b)) OWNED 0 k ≡ ownCount b k (variableCount b)) (sym e)
+      (store-same row OWNED 0 n (ownCount b n (variableCount b))))
       (λ l.
-      cond-false (ownCount b n (variableCount b)) (ownRowM b n (variableCount b) (ownM b n m) OWNED 0 i)
-      (and-false-left true (ne-eqb i n (λ e. omega arith)))
-      ∙ row-counts b n (ownM b n m) (variableCount b) i ∙ rows-count n i l)
+      store-other row OWNED 0 n (ownCount b n (variableCount b)) OWNED 0 i (λ r k c. omega arith)
+      ∙ row-other b n (ownM b n m) (variableCount b) OWNED 0 i (λ e k. omega arith) ∙ rows-count n i l)
       (below-cases h)
+
+  -- the other regions are as they were
+  pub own-keeps : (n r k j : ℕ) → (r ≡ OWN → ⊥) → (r ≡ OWNED → ⊥) → ownM b n m r k j ≡ m r k j
+  unfolding ownM ownListM
+  own-keeps zero r k j h l = refl
+  own-keeps (suc n) r k j h l =
+      store-apart (ownRowM b n (variableCount b) (ownM b n m)) OWNED 0 n (ownCount b n (variableCount b)) r k j l
+      ∙ row-other b n (ownM b n m) (variableCount b) r k j (λ e f. h e) ∙ own-keeps n r k j h l
 
 -- ---- the loops that write the rows
 
@@ -160,11 +162,6 @@ located-kept b old new n l e p same = record {
   places = λ k h. ap (λ (m : Mem). m PLACES 0 k) p ∙ same k ∙ l .places k h;
   long = omega (arith, l .long);
 }
-
-pub row-places : (b : List ℕ) (i n : ℕ) (m : Mem) (k : ℕ) → ownRowM b i n m PLACES 0 k ≡ m PLACES 0 k
-unfolding ownRowM
-row-places b i zero m k = refl
-row-places b i (suc n) m k = row-places b i n m k
 
 -- whether a row owns a variable, as a number
 module _ (b : List ℕ) (i x o : ℕ) (e : o ≡ systemOf (planOf b) .owner x) where

@@ -1,13 +1,12 @@
 -- From rows to actors: what a function of rows says of a worker, and what changes at one worker.
 use Prim.Native.Nat.{ℕ, suc, _+_, _-_, _<_, _≤_}
-use mathlib.Core.Bool.{Bool, true, false, cond}
+use mathlib.Core.Bool.{true, cond}
 use mathlib.Core.Path.{_≡_, refl, sym, _∙_, ap}
 use native.Mathlib.Decide.{ℕ-discrete}
 use native.Mathlib.Omega.{arith}
-use borrow.Author.Tests.{le-leb, ne-eqb}
+use borrow.Author.Tests.{ne-eqb}
 use lib.Dec.{eqb}
-use Rattle.base.proofs.Bools.{and-intro}
-use Rattle.base.proofs.Choice.{cond-true, cond-false, update-same, update-other, between-low, between-high}
+use Rattle.base.proofs.Choice.{cond-true, cond-false, cond-ext, update-same, update-other, between-intro, between-low, between-high}
 use Rattle.base.specs.Choice.{update}
 use Rattle.disac4.specs.System.{System}
 use Rattle.cells.specs.View.{isWorker}
@@ -18,7 +17,14 @@ atActor sys f none k = cond (isWorker sys k) (f (k - 1)) none
 
 -- worker `i + 1` is a worker
 pub worker-row : (sys : System) (i : ℕ) → i < sys .workers → isWorker sys (suc i) ≡ true
-worker-row sys i h = and-intro (le-leb 1 (suc i) (omega arith)) (le-leb (suc i) (sys .workers) (omega arith))
+worker-row sys i h = between-intro 1 (sys .workers) (suc i) (omega arith) h
+
+-- and a worker has a row
+pub row-of : (sys : System) (k : ℕ) → isWorker sys k ≡ true → (k - 1 < sys .workers) × (k ≡ suc (k - 1))
+row-of sys k e =
+    let low : 1 ≤ k = between-low 1 (sys .workers) k e in
+    let high : k ≤ sys .workers = between-high 1 (sys .workers) k e in
+    (omega arith, omega arith)
 
 module _ {ℓ} {A : Type ℓ} (sys : System) where
   -- a worker's part is its row's
@@ -30,14 +36,7 @@ module _ {ℓ} {A : Type ℓ} (sys : System) where
   -- rows that agree
   pub actors-same : (f g : ℕ → A) (none : A) → ((i : ℕ) → i < sys .workers → g i ≡ f i) → (k : ℕ)
       → atActor sys g none k ≡ atActor sys f none k
-  actors-same f g none h k = go (isWorker sys k) refl
-    where
-      go : (b : Bool) → isWorker sys k ≡ b → cond b (g (k - 1)) none ≡ cond b (f (k - 1)) none
-      go true p =
-          let low : 1 ≤ k = between-low 1 (sys .workers) k p in
-          let high : k ≤ sys .workers = between-high 1 (sys .workers) k p in
-          h (k - 1) (omega arith)
-      go false p = refl
+  actors-same f g none h k = cond-ext (isWorker sys k) _ _ _ _ (λ p. h (k - 1) (row-of sys k p .0)) (λ p. refl)
 
   -- one row changes
   pub actors-update : (f g : ℕ → A) (none : A) (i : ℕ) (a : A) → i < sys .workers → g i ≡ a
@@ -49,15 +48,10 @@ module _ {ℓ} {A : Type ℓ} (sys : System) where
             ∙ at-worker g none i h
             ∙ e
             ∙ sym (ap (update (atActor sys f none) (suc i) a) p ∙ update-same (atActor sys f none) (suc i) a)
-        | no n ↦ go (isWorker sys k) refl n ∙ sym (update-other (atActor sys f none) (suc i) a k n)
+        | no n ↦ cond-ext (isWorker sys k) _ _ _ _
+            (λ p. r (k - 1) (row-of sys k p .0) (λ q. n (row-of sys k p .1 ∙ ap suc q))) (λ p. refl)
+            ∙ sym (update-other (atActor sys f none) (suc i) a k n)
       ]
-    where
-      go : (b : Bool) → isWorker sys k ≡ b → (k ≡ suc i → ⊥) → cond b (g (k - 1)) none ≡ cond b (f (k - 1)) none
-      go true p n =
-          let low : 1 ≤ k = between-low 1 (sys .workers) k p in
-          let high : k ≤ sys .workers = between-high 1 (sys .workers) k p in
-          r (k - 1) (omega arith) (λ q. n (omega arith))
-      go false p n = refl
 
 -- row `i`'s counter, beside the controller's
 pub counter-worker : (sys : System) (f : ℕ → ℕ) (c i : ℕ) → i < sys .workers

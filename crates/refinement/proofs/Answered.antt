@@ -12,19 +12,20 @@ use Rattle.disac4.specs.Action.{isEmpty, pollOf, afterAnswer, ready, answerTo, 
 use Rattle.disac4.specs.State.{Poll, Message, reply}
 use Rattle.disac4.specs.System.{System}
 use Rattle.disac4.specs.declared.Tally.{Tally}
+use Rattle.cells.proofs.Queue.{labels-empty, queue, queue-put}
+use Rattle.cells.proofs.Stores.{store-other}
 use Rattle.cells.specs.Layout.{WORKERS, BOUNDS, WORK, OUT, WANTED, HEAD, TAIL, LOGEND, SENDS, LISTS, HELD, OUTEND}
 use Rattle.cells.specs.Memory.{Mem}
 use Rattle.messages.specs.Messages.{answeredM, answerM}
 use Rattle.controller.specs.Controller.{Machine}
-use Rattle.cells.specs.View.{labelOf, labelsBetween, messageOf, pollAt, view, viewWork, viewLists, viewOut}
+use Rattle.cells.specs.View.{messageOf, pollAt, viewWork, viewLists, viewOut, view}
 use Rattle.refinement.proofs.Actors.{at-worker, counter-worker}
 use Rattle.refinement.proofs.Capacity.{sends-few, outend-few, held-few, timestamp-few}
 use Rattle.refinement.proofs.ChannelRows.{at-out, Stays, Beside, channels-update}
-use Rattle.refinement.proofs.Grown.{Grown, behind, outQueue, out-kept, channels-kept}
-use Rattle.refinement.proofs.HeldPoll.{heldAt, held-worker, held-update}
+use Rattle.refinement.proofs.Grown.{Grown, outQueue, out-kept, channels-kept}
+use Rattle.refinement.proofs.HeldPoll.{heldAt, held-worker, held-update, held-row}
 use Rattle.refinement.specs.Inv.{Small, Inv}
-use Rattle.refinement.proofs.Queue.{queue, queue-put, queue-empty}
-use Rattle.refinement.proofs.Seen.{mapO, mapO-cond, viewOf, view-parts, rowsOf, reply-code, same-state}
+use Rattle.refinement.proofs.Seen.{mapO, mapO-cond, viewOf, view-parts, rowsOf, reply-code, same-state, workOf}
 use Rattle.refinement.proofs.Sent.{nothing-to-send}
 
 -- three tests one in another are one test
@@ -54,8 +55,8 @@ module _ (sys : System) (small : Small sys) (s : Machine) (inv : Inv sys s) (i :
   answer-grown = record {
     logs = λ j hj d l. refl;
     bounds = λ j hj n l. refl;
-    outs = λ j hj n l. behind (m OUT) i (m WORKERS i OUTEND) (m WORKERS i HELD) j n
-        (λ e f. omega (arith, ap (λ (k : ℕ). m WORKERS k OUTEND) e));
+    outs = λ j hj n l. store-other m OUT i (m WORKERS i OUTEND) (m WORKERS i HELD) OUT j n
+        (λ r e f. omega (arith, ap (λ (k : ℕ). m WORKERS k OUTEND) e));
     wanted = λ n l. refl;
   }
 
@@ -94,10 +95,7 @@ module _ (sys : System) (small : Small sys) (s : Machine) (inv : Inv sys s) (i :
         ∙ replied
         ∙ ap (λ (l : List Message). l ++ (reply (held .number) ∷ [])) (sym (at-out sys (rowsOf m t) i h)))
         other-channels;
-    timestamp = refl;
-    pollOpen = refl;
-    marked = λ k. refl;
-    closed = refl;
+    controller = refl;
   })
     where
       here : heldAt m′ i ≡ none
@@ -105,8 +103,7 @@ module _ (sys : System) (small : Small sys) (s : Machine) (inv : Inv sys s) (i :
           ap (λ (n : ℕ). cond (eqb n 0) none (some (pollAt m n))) (update-same (λ j. m WORKERS j HELD) i 0)
 
       there : (j : ℕ) → j < sys .workers → (j ≡ i → ⊥) → heldAt m′ j ≡ heldAt m j
-      there j hj n =
-          ap (λ (n : ℕ). cond (eqb n 0) none (some (pollAt m n))) (update-other (λ j. m WORKERS j HELD) i 0 j n)
+      there j hj n = held-row m m′ j (update-other (λ j. m WORKERS j HELD) i 0 j n) refl
 
   -- both lists are empty, and the list counter equals the wanted count
   abbrev isReady : Bool
@@ -124,10 +121,9 @@ module _ (sys : System) (small : Small sys) (s : Machine) (inv : Inv sys s) (i :
     where
       no-work : isEmpty (viewWork sys m (suc i)) ≡ eqb (m WORKERS i HEAD) (m WORKERS i TAIL)
       no-work =
-          unfold viewWork labelsBetween in
-          ap isEmpty
-          (at-worker sys (λ j. labelsBetween m WORK j (m WORKERS j HEAD) (m WORKERS j TAIL)) [] i h)
-          ∙ queue-empty (queue (m WORKERS i HEAD) (m WORKERS i TAIL) (λ d. labelOf (m WORK i d))) (inv .rows i h .queue)
+          unfold viewWork in
+          ap isEmpty (at-worker sys (workOf m) [] i h)
+          ∙ labels-empty m WORK i (m WORKERS i HEAD) (m WORKERS i TAIL) (inv .rows i h .queue)
 
       count : viewLists sys m t (suc i) ≡ m WORKERS i LISTS
       count = unfold viewLists in counter-worker sys (λ j. m WORKERS j LISTS) (t .lists .0) i h
@@ -161,5 +157,6 @@ module _ (sys : System) (small : Small sys) (s : Machine) (inv : Inv sys s) (i :
           ≡ answerTo (suc i) (viewOf sys s) (cond b none (some held))
       go true = refl
       go false =
-          mapO-cond (λ m′. view sys m′ t) isReady m′ (afterAnswer (suc i) held (viewOf sys s)) answer-view
+          mapO-cond (λ m′. view sys m′ t) isReady (some m′) none (some (afterAnswer (suc i) held (viewOf sys s))) none
+          (λ p. ap some answer-view) (λ p. refl)
           ∙ ap (λ (b : Bool). cond b (some (afterAnswer (suc i) held (viewOf sys s))) none) (sym ready-row)

@@ -8,26 +8,25 @@ use native.Mathlib.Decide.{ℕ-discrete}
 use native.Mathlib.Omega.{arith}
 use borrow.Author.Tests.{ltb-true, eqb-true, eqb-false, lt-leb, ne-eqb}
 use lib.Dec.{ltb, eqb}
-use Rattle.base.proofs.Bools.{decided}
+use Rattle.base.proofs.Bools.{decided, and-never}
+use Rattle.base.proofs.Choice.{if-some, unless-some, some-same}
 use Rattle.base.specs.Below.{one}
 use Rattle.disac4.specs.System.{System}
 use Rattle.disac4.specs.declared.Tally.{Tally}
+use Rattle.cells.proofs.Stores.{store-same, store-other}
 use Rattle.cells.specs.Layout.{WORKERS, BOUNDS, OUT, WANTED, HEAD, TAIL, LOGEND, SENDS, LISTS, HELD, OUTEND}
 use Rattle.cells.specs.Memory.{Mem}
 use Rattle.messages.specs.Messages.{answerM, answeredM}
 use Rattle.cells.specs.View.{LISTMARK}
 use Rattle.refinement.proofs.Capacity.{risen}
-use Rattle.refinement.proofs.Frame.{OnlyRow, Answered, row-action, follows-itself}
+use Rattle.refinement.proofs.Frame.{OnlyRow, Answered, worker-action}
 use Rattle.refinement.specs.Inv.{Row, Polled, Replied, Totals, Inv}
 use Rattle.refinement.proofs.Outgoing.{Put, put-lists, put-counted, put-heard}
-use Rattle.refinement.proofs.Stores.{and-never, store-same, store-other, if-some, unless-some, some-same}
 
 -- wanted counts rise from poll to poll
 wanted-later : (m : Mem) (t : Tally) → Polled m t → (n n′ : ℕ) → 0 < n → n ≤ n′ → n′ ≤ t .timestamp .0
     → m WANTED 0 n + (n′ - n) ≤ m WANTED 0 n′
-wanted-later m t p n n′ h l b =
-    let e : n + (n′ - n) ≡ n′ = omega arith in
-    omega (arith, ap (m WANTED 0) e, risen (m WANTED 0) n (n′ - n) (λ k x y. p .rises k (omega arith) (omega arith)))
+wanted-later m t p n n′ h l b = risen (m WANTED 0) n n′ l (λ k x y. p .rises k (omega arith) (omega arith))
 
 -- ---- what the stores changed
 
@@ -58,11 +57,11 @@ module _ (i : ℕ) (m : Mem) where
       bounds = λ c. refl;
       log = λ c. refl;
       work = λ c. refl;
-      out = λ c. put .old k c (λ p. n);
+      out = λ c. put .old k c (λ p q. n p);
     };
     wanted = λ n. refl;
     heads = λ x y. refl;
-    domain = λ x v. refl;
+    listed = λ x v e. e;
   }
 
 -- what an answer asks: a poll is held, both lists are empty, and the list counter equals the wanted count
@@ -158,8 +157,7 @@ module _ (sys : System) (m : Mem) (t : Tally) (i : ℕ) (inv : Inv sys (record {
 
   answered-keeps : Inv sys (record { mem = answeredM i m; tally = t })
   answered-keeps =
-      row-action sys (record { mem = m; tally = t }) (record { mem = answeredM i m; tally = t }) i inv (only-row i m)
-      (follows-itself m t (inv .polled)) row totals answered (inv .marks)
+      worker-action sys (record { mem = m; tally = t }) (answeredM i m) i inv (only-row i m) row totals answered
 
 -- answering keeps the invariant
 pub answer-keeps : (sys : System) (m m′ : Mem) (t : Tally) (i : ℕ) → Inv sys (record { mem = m; tally = t })

@@ -1,5 +1,5 @@
 -- Poll in memory is poll.
-use Prim.Native.Nat.{ℕ, zero, suc, _+_, _-_, _≤_, _<_}
+use Prim.Native.Nat.{ℕ, zero, suc, _+_, _-_, _<_, _≤_}
 use mathlib.Core.Bool.{Bool, true, false, cond, _&&_, not}
 use mathlib.Core.List.{List, [], _∷_, _++_}
 use mathlib.Core.Option.{none, some}
@@ -7,7 +7,6 @@ use mathlib.Core.Path.{_≡_, refl, sym, _∙_, ap, ap₂}
 use native.Mathlib.Numerals.{add-one}
 use native.Mathlib.Omega.{arith}
 use borrow.Author.Tests.{lt-ltb}
-use lib.Dec.{eqb}
 use Rattle.base.proofs.Bools.{and-false-right}
 use Rattle.base.proofs.Choice.{update₂-same}
 use Rattle.base.proofs.Row.{bit-past}
@@ -15,18 +14,19 @@ use Rattle.disac4.specs.Action.{pollOf, afterAsk, ask}
 use Rattle.disac4.specs.State.{Poll, Message, poll}
 use Rattle.disac4.specs.System.{System}
 use Rattle.disac4.specs.declared.Tally.{Tally}
+use Rattle.cells.proofs.Queue.{queue-put}
+use Rattle.cells.proofs.Stores.{store-other}
 use Rattle.cells.specs.Layout.{WORKERS, WANTED, HELD}
 use Rattle.cells.specs.Memory.{Mem}
 use Rattle.controller.specs.Controller.{askM, askedT, asksT}
 use Rattle.controller.specs.Controller.{Machine, pollM}
-use Rattle.cells.specs.View.{isWorker, pollAt, view, viewLists, viewPolls}
+use Rattle.cells.specs.View.{isWorker, pollAt, viewLists, viewPolls, view}
 use Rattle.refinement.proofs.Capacity.{held-few, timestamp-few}
 use Rattle.refinement.proofs.ChannelRows.{atChannel, at-polls, Stays, channels-broadcast}
-use Rattle.refinement.proofs.Grown.{Grown, behind, poll-kept, pollsQueue, polls-kept, channels-kept}
-use Rattle.refinement.proofs.HeldPoll.{heldAt, held-same}
+use Rattle.refinement.proofs.Grown.{Grown, pollsQueue, polls-kept, channels-kept}
+use Rattle.refinement.proofs.HeldPoll.{heldAt, held-same, held-row}
 use Rattle.refinement.specs.Inv.{Small, Inv}
-use Rattle.refinement.proofs.Queue.{queue-put}
-use Rattle.refinement.proofs.Seen.{mapO, mapO-unless, viewOf, view-parts, rowsOf, same-state}
+use Rattle.refinement.proofs.Seen.{mapO, viewOf, view-parts, rowsOf, same-state, mapO-cond}
 
 module _ (sys : System) (small : Small sys) (s : Machine) (inv : Inv sys s) where
   abbrev m : Mem
@@ -50,7 +50,7 @@ module _ (sys : System) (small : Small sys) (s : Machine) (inv : Inv sys s) wher
     logs = λ j hj d l. refl;
     bounds = λ j hj n l. refl;
     outs = λ j hj n l. refl;
-    wanted = λ n l. behind (m WANTED) 0 (t .timestamp .0 + 1) (t .lists .0) 0 n (λ e f. omega arith);
+    wanted = λ n l. store-other m WANTED 0 (t .timestamp .0 + 1) (t .lists .0) WANTED 0 n (λ r e f. omega arith);
   }
 
   -- the new poll
@@ -69,16 +69,16 @@ module _ (sys : System) (small : Small sys) (s : Machine) (inv : Inv sys s) wher
     held = held-same sys m m′ kept;
     listCounter = λ k. refl;
     channel = channels-broadcast sys (rowsOf m t) (rowsOf m′ t′) 0 _ (omega arith) to stays;
-    timestamp = add-one (t .timestamp .0);
-    pollOpen = refl;
-    marked = λ k. and-false-right (isWorker sys k) (bit-past 0 0 (k - 1) (omega arith) (omega arith));
-    closed = refl;
+    controller = λ ι. record {
+      timestamp = add-one (t .timestamp .0) ι;
+      pollOpen = true;
+      marked = λ k. and-false-right (isWorker sys k) (bit-past 0 0 (k - 1) (omega arith) (omega arith)) ι;
+      closed = t .closed;
+    };
   })
     where
       kept : (i : ℕ) → i < sys .workers → heldAt m′ i ≡ heldAt m i
-      kept i h =
-          ap (λ (q : Poll). cond (eqb (m WORKERS i HELD) 0) none (some q))
-          (poll-kept m m′ (m WORKERS i HELD) (asked-grown .wanted (m WORKERS i HELD) (held-few sys small s inv i h)))
+      kept i h = held-row m m′ i refl (asked-grown .wanted (m WORKERS i HELD) (held-few sys small s inv i h))
 
       to : (k : ℕ) → k ≤ sys .workers → (k ≡ 0 → ⊥)
           → atChannel sys (rowsOf m′ t′) 0 k
@@ -117,4 +117,5 @@ module _ (sys : System) (small : Small sys) (s : Machine) (inv : Inv sys s) wher
   unfolding view ask
   ask-refines =
       ap (mapO (viewOf sys)) ask-room
-      ∙ mapO-unless (viewOf sys) (t .polling) after (afterAsk sys (viewOf sys s)) asked-view
+      ∙ mapO-cond (viewOf sys) (t .polling) none (some after) none (some (afterAsk sys (viewOf sys s))) (λ p. refl)
+      (λ p. ap some asked-view)

@@ -1,23 +1,21 @@
 -- The cells behind the needed ones, and the memory of cleared cells.
-use Prim.Native.Nat.{ℕ, zero, suc, _+_, _-_, _*_, _^_, _<_, _≤_}
+use Prim.Native.Nat.{ℕ, _+_, _^_, _<_, _≤_}
 use mathlib.Core.Bool.{Bool, true, false, cond, _&&_}
 use mathlib.Core.List.{List, _++_}
-use mathlib.Core.Logic.{⊎-elim}
-use mathlib.Core.Path.{_≡_, refl, sym, _∙_, ap, subst, fun-ext}
-use native.Mathlib.Decide.{decLt}
+use mathlib.Core.Path.{_≡_, refl, sym, _∙_, ap, fun-ext}
 use native.Mathlib.Omega.{arith}
-use borrow.Author.Tests.{lt-ltb, le-ltb, ltb-true, ltb-false}
+use borrow.Author.Tests.{lt-ltb, ltb-true, ltb-false}
 use lib.Dec.{ltb}
-use lib.ListN.{length, getD, drop, replicate, length-append, length-drop, length-replicate, getD-replicate, List·getD-append}
+use lib.ListN.{length, getD, drop, replicate, length-drop, length-replicate, getD-replicate}
 use lib.Seq.{ext-getD, getD-drop}
-use Rattle.base.proofs.Bools.{decided, and-left, and-right, and-intro}
-use Rattle.base.proofs.Choice.{cond-true, cond-false}
+use Rattle.base.proofs.Bools.{and-left, and-right}
+use Rattle.base.proofs.Choice.{cond-true}
 use Rattle.disac4.proofs.Outcome.{overwrite-front, overwrite-back}
 use Rattle.disac4.specs.Outcome.{overwrite, workNeed}
 use Rattle.cells.proofs.Regions.{past-table, place-low}
 use Rattle.cells.specs.Layout.{BEHIND, regionAt, address}
 use Rattle.counters.specs.Load.{clearedM}
-use Rattle.cells.specs.Memory.{Mem, memOf}
+use Rattle.cells.specs.Memory.{memOf}
 
 need : workNeed ≡ 24576
 unfolding workNeed

@@ -1,6 +1,5 @@
 -- Nothing overflows: every queue fits its row, because each label is deleted once and each list message holds one.
 use Prim.Native.Nat.{ℕ, zero, suc, _+_, _-_, _<_, _≤_}
-use mathlib.Core.Bool.{Bool}
 use mathlib.Core.Logic.{⊎-elim}
 use mathlib.Core.Path.{_≡_, sym, _∙_, ap}
 use native.Mathlib.Decide.{ℕ-discrete}
@@ -9,8 +8,8 @@ use native.Mathlib.Omega.{arith}
 use lib.Dec.{leb, eqb}
 use Rattle.base.proofs.Bools.{decided}
 use Rattle.base.proofs.Choice.{update-same, update-other}
-use Rattle.base.proofs.Sums.{sum-change, sum-le, sum-part}
-use Rattle.base.specs.Below.{sumBelow, countBelow}
+use Rattle.base.proofs.Sums.{sum-change, sum-le, sum-part, sum-beside, count-more}
+use Rattle.base.specs.Below.{sumBelow}
 use Rattle.base.specs.Choice.{update}
 use Rattle.network.proofs.DomainSize.{domainSize}
 use Rattle.base.proofs.Choice.{update-each}
@@ -21,38 +20,17 @@ use Rattle.controller.specs.Controller.{Machine}
 use Rattle.cells.specs.View.{LISTED, LISTMARK}
 use Rattle.refinement.specs.Inv.{Small, Inv, listsOut}
 
--- what the others have, and one's own in full, is at most all of it
-beside-own : (n : ℕ) (f g : ℕ → ℕ) (i : ℕ) → i < n → f i ≡ 0 → ((j : ℕ) → j < n → (j ≡ i → ⊥) → f j ≤ g j)
-    → g i + sumBelow n f ≤ sumBelow n g
-beside-own n f g i h e le =
-    omega (
-      arith,
-      sum-change n f (update f i (g i)) i h (λ j p q. sym (update-other f i (g i) j q)),
-      update-same f i (g i),
-      sum-le n (update f i (g i)) g at-most,
-    )
-  where
-    at-most : (j : ℕ) → j < n → update f i (g i) j ≤ g j
-    at-most j p =
-        elim (ℕ-discrete j i) [
-          | yes q ↦ omega (arith, ap (update f i (g i)) q, update-same f i (g i), ap g q)
-          | no q ↦ omega (arith, update-other f i (g i) j q, le j p q)
-        ]
-
--- a longer count is no smaller
-count-more : (n d : ℕ) (t : ℕ → Bool) → countBelow n t ≤ countBelow (n + d) t
-count-more n zero t =
-    let e : n + 0 ≡ n = omega arith in omega (arith, ap (λ (k : ℕ). countBelow k t) e)
-count-more n (suc d) t =
-    let e : n + suc d ≡ suc (n + d) = omega arith in
-    omega (arith, ap (λ (k : ℕ). countBelow k t) e, count-more n d t)
+climbs : (f : ℕ → ℕ) (from d : ℕ) → ((n : ℕ) → from ≤ n → n < from + d → f n < f (n + 1)) → f from + d ≤ f (from + d)
+climbs f from zero h = let e : from + 0 ≡ from = omega arith in omega (arith, ap f e)
+climbs f from (suc d) h =
+    let e : from + suc d ≡ from + d + 1 = omega arith in
+    omega (arith, ap f e, h (from + d) (omega arith) (omega arith), climbs f from d (λ n p q. h n p (omega arith)))
 
 -- numbers that rise from place to place are at least as far apart as their places
-pub risen : (f : ℕ → ℕ) (from d : ℕ) → ((n : ℕ) → from ≤ n → n < from + d → f n < f (n + 1)) → f from + d ≤ f (from + d)
-risen f from zero h = let e : from + 0 ≡ from = omega arith in omega (arith, ap f e)
-risen f from (suc d) h =
-    let e : from + suc d ≡ from + d + 1 = omega arith in
-    omega (arith, ap f e, h (from + d) (omega arith) (omega arith), risen f from d (λ n p q. h n p (omega arith)))
+pub risen : (f : ℕ → ℕ) (n n′ : ℕ) → n ≤ n′ → ((k : ℕ) → n ≤ k → k < n′ → f k < f (k + 1)) → f n + (n′ - n) ≤ f n′
+risen f n n′ l h =
+    let e : n + (n′ - n) ≡ n′ = omega arith in
+    omega (arith, ap f e, climbs f n (n′ - n) (λ k p q. h k p (omega arith)))
 
 -- the labels not deleted
 abbrev pub remaining : System → Mem → ℕ
@@ -67,13 +45,7 @@ module _ (sys : System) (small : Small sys) (s : Machine) (inv : Inv sys s) wher
   -- the log's parts are in order
   pub bounds-apart : (i : ℕ) → i < sys .workers → (n n′ : ℕ) → n ≤ n′ → n′ ≤ m WORKERS i SENDS
       → m BOUNDS i n + (n′ - n) ≤ m BOUNDS i n′
-  bounds-apart i h n n′ l b =
-      let e : n + (n′ - n) ≡ n′ = omega arith in
-      omega (
-        arith,
-        ap (m BOUNDS i) e,
-        risen (m BOUNDS i) n (n′ - n) (λ k p q. inv .rows i h .bounds-rise k (omega arith)),
-      )
+  bounds-apart i h n n′ l b = risen (m BOUNDS i) n n′ l (λ k p q. inv .rows i h .bounds-rise k (omega arith))
 
   -- each sent part ends within the log
   pub bound-logged : (i : ℕ) → i < sys .workers → (n : ℕ) → n ≤ m WORKERS i SENDS → m BOUNDS i n ≤ m WORKERS i LOGEND
@@ -130,7 +102,7 @@ module _ (sys : System) (small : Small sys) (s : Machine) (inv : Inv sys s) wher
         arith,
         logs-room,
         inv .totals .pushed i h,
-        beside-own (sys .workers) (read i) (λ k. m WORKERS k LOGEND) i h (read-own i h) (λ k l n. read-logged i k h l),
+        sum-beside (sys .workers) (read i) (λ k. m WORKERS k LOGEND) i h (read-own i h) (λ k l. read-logged i k h l),
       )
 
   -- the work list fits its row
@@ -149,9 +121,8 @@ module _ (sys : System) (small : Small sys) (s : Machine) (inv : Inv sys s) wher
         sum-change (sys .workers) (read i) next j hj (λ k p q. sym (update-other (read i) j end k q)),
         update-same (read i) j end,
         bounds-apart j hj (m CURSORS j i) (m CURSORS j i + 1) (omega arith) (omega arith),
-        beside-own (sys .workers) next (λ k. m WORKERS k LOGEND) i hi
-            (update-other (read i) j end i (λ e. n (sym e)) ∙ read-own i hi)
-            (λ k p q. within k p),
+        sum-beside (sys .workers) next (λ k. m WORKERS k LOGEND) i hi
+            (update-other (read i) j end i (λ e. n (sym e)) ∙ read-own i hi) within,
       )
     where
       end : ℕ
@@ -175,8 +146,8 @@ module _ (sys : System) (small : Small sys) (s : Machine) (inv : Inv sys s) wher
         arith,
         sends-small,
         inv .totals .counted i h,
-        beside-own (sys .workers) (λ j. m CURSORS j i) (λ j. m WORKERS j SENDS) i h (inv .totals .own-cursor i h)
-            (λ j p q. inv .totals .cursor j i p h),
+        sum-beside (sys .workers) (λ j. m CURSORS j i) (λ j. m WORKERS j SENDS) i h (inv .totals .own-cursor i h)
+            (λ j p. inv .totals .cursor j i p h),
       )
 
   -- the controller's
@@ -191,12 +162,9 @@ module _ (sys : System) (small : Small sys) (s : Machine) (inv : Inv sys s) wher
     where
       part : (i : ℕ) → i < sys .workers → listsOut m i (m WORKERS i OUTREAD) ≤ m WORKERS i SENDS
       part i h =
-          let l : m WORKERS i OUTREAD ≤ m WORKERS i OUTEND = inv .rows i h .out-read in
-          let e : m WORKERS i OUTREAD + (m WORKERS i OUTEND - m WORKERS i OUTREAD) ≡ m WORKERS i OUTEND = omega arith in
           omega (
             arith,
-            ap (listsOut m i) e,
-            count-more (m WORKERS i OUTREAD) (m WORKERS i OUTEND - m WORKERS i OUTREAD) (λ e. leb LISTMARK (m OUT i e)),
+            count-more (m WORKERS i OUTREAD) (m WORKERS i OUTEND) (λ e. leb LISTMARK (m OUT i e)) (inv .rows i h .out-read),
             inv .totals .all-out i h,
           )
 
@@ -220,12 +188,7 @@ module _ (sys : System) (small : Small sys) (s : Machine) (inv : Inv sys s) wher
     where
       wanted-high : 0 < s .tally .timestamp .0 → s .tally .timestamp .0 ≤ m WANTED 0 (s .tally .timestamp .0) + 1
       wanted-high h =
-          let e : 1 + (s .tally .timestamp .0 - 1) ≡ s .tally .timestamp .0 = omega arith in
-          omega (
-            arith,
-            ap (m WANTED 0) e,
-            risen (m WANTED 0) 1 (s .tally .timestamp .0 - 1) (λ n p q. inv .polled .rises n (omega arith) (omega arith)),
-          )
+          omega (arith, risen (m WANTED 0) 1 (s .tally .timestamp .0) h (λ n p q. inv .polled .rises n (omega arith) q))
 
   -- the held poll is one that was sent
   pub held-few : (i : ℕ) → i < sys .workers → m WORKERS i HELD ≤ s .tally .timestamp .0

@@ -8,6 +8,8 @@ use native.Mathlib.Numerals.{add-one}
 use native.Mathlib.Omega.{arith}
 use borrow.Author.Tests.{lt-ltb, ltb-true, ltb-false}
 use lib.Dec.{leb, ltb, eqb}
+use Rattle.base.proofs.Below.{all-ext}
+use Rattle.base.proofs.Bools.{and-true}
 use Rattle.base.proofs.Choice.{cond-true, cond-false, update-same, update-other}
 use Rattle.base.specs.Choice.{update, update₂}
 use Rattle.base.specs.Row.{bit}
@@ -15,18 +17,18 @@ use Rattle.disac4.specs.Action.{afterCount, afterMark, afterDrop, allMarked, cu
 use Rattle.disac4.specs.State.{State, Controller, list, reply}
 use Rattle.disac4.specs.System.{System}
 use Rattle.disac4.specs.declared.Tally.{Tally}
+use Rattle.cells.proofs.Queue.{queue-taken, queue-none}
 use Rattle.cells.specs.Layout.{WORKERS, OUT, LISTS, OUTEND, OUTREAD}
 use Rattle.cells.specs.Memory.{Mem}
 use Rattle.controller.specs.Controller.{countedT, markedT, toldT, withMark, hasOut, outReadM}
 use Rattle.controller.specs.Controller.{Machine, hearM}
-use Rattle.cells.specs.View.{LISTMARK, isWorker, listAt, messageOf, view, viewLists, viewOut}
+use Rattle.cells.specs.View.{LISTMARK, isWorker, listAt, messageOf, viewLists, viewOut, view}
 use Rattle.refinement.proofs.Actors.{atActor, at-worker, actors-update}
 use Rattle.refinement.proofs.Capacity.{heard-few, outend-few}
 use Rattle.refinement.proofs.ChannelRows.{at-out, Stays, Beside, channels-update}
 use Rattle.refinement.proofs.Grown.{Grown, outQueue, out-kept, channels-kept}
 use Rattle.refinement.specs.Inv.{Small, Inv}
-use Rattle.refinement.proofs.Marks.{all-ext, mark-small, mark-bit, marks-full}
-use Rattle.refinement.proofs.Queue.{queue-taken, queue-none}
+use Rattle.refinement.proofs.Marks.{mark-small, mark-bit, marks-full}
 use Rattle.refinement.proofs.Seen.{mapO, viewOf, view-parts, rowsOf, channel-rows, same-state}
 
 module _ (sys : System) (small : Small sys) (s : Machine) (inv : Inv sys s) (i : ℕ) (h : i < sys .workers) where
@@ -64,10 +66,7 @@ module _ (sys : System) (small : Small sys) (s : Machine) (inv : Inv sys s) (i :
   record Told (t′ : Tally) (lists : ℕ → ℕ) (c : Controller) : Type 0 where
     pub listCounter : (k : ℕ) → viewLists sys m t′ k ≡ lists k
     pub timestamp : t′ .timestamp .0 ≡ t .timestamp .0
-    pub unchanged : c .timestamp ≡ t .timestamp .0
-    pub pollOpen : t′ .polling ≡ c .pollOpen
-    pub marked : (k : ℕ) → isWorker sys k && bit (t′ .marks) (k - 1) ≡ c .marked k
-    pub closed : t′ .closed ≡ c .closed
+    pub controller : view sys m t′ .controller ≡ c
 
   abbrev after : (ℕ → ℕ) → Controller → State
   after lists c = record {
@@ -92,10 +91,7 @@ module _ (sys : System) (small : Small sys) (s : Machine) (inv : Inv sys s) (i :
     listCounter = told .listCounter;
     channel = channels-update sys (rowsOf m t) (rowsOf m′ t′) (suc i) 0 (viewOut m′ i)
         (at-out sys (rowsOf m′ t′) i h) (other-channels t′ (told .timestamp));
-    timestamp = told .timestamp ∙ sym (told .unchanged);
-    pollOpen = told .pollOpen;
-    marked = told .marked;
-    closed = told .closed;
+    controller = told .controller;
   })
 
   -- a list message
@@ -105,10 +101,7 @@ module _ (sys : System) (small : Small sys) (s : Machine) (inv : Inv sys s) (i :
       heard-view (countedT t) _ _ (record {
         listCounter = λ k. one-more (eqb k 0) (atActor sys (λ j. m WORKERS j LISTS) 0 k);
         timestamp = refl;
-        unchanged = refl;
-        pollOpen = refl;
-        marked = λ k. refl;
-        closed = refl;
+        controller = refl;
       })
     where
       one-more : (b : Bool) (n : ℕ)
@@ -123,10 +116,7 @@ module _ (sys : System) (small : Small sys) (s : Machine) (inv : Inv sys s) (i :
       heard-view t _ _ (record {
         listCounter = λ k. refl;
         timestamp = refl;
-        unchanged = refl;
-        pollOpen = refl;
-        marked = λ k. refl;
-        closed = refl;
+        controller = refl;
       })
 
   -- the workers marked by a row of bits
@@ -166,10 +156,12 @@ module _ (sys : System) (small : Small sys) (s : Machine) (inv : Inv sys s) (i :
       heard-view (markedT (sys .workers) i t) _ _ (record {
         listCounter = λ k. refl;
         timestamp = refl;
-        unchanged = refl;
-        pollOpen = refl;
-        marked = marked-more;
-        closed = closed-full;
+        controller = λ ι. record {
+          timestamp = t .timestamp .0;
+          pollOpen = t .polling;
+          marked = λ k. marked-more k ι;
+          closed = closed-full ι;
+        };
       })
 
   -- the oldest message to the controller
@@ -201,11 +193,10 @@ module _ (sys : System) (small : Small sys) (s : Machine) (inv : Inv sys s) (i :
             (omega (arith, inv .rows i h .out-read, outend-few sys small s inv i h)),
         lt-ltb (t .lists .0) 65535 (omega (arith, heard-few sys small s inv)),
       )
-      (go (ltb (m WORKERS i OUTREAD) (m WORKERS i OUTEND)))
+      (and-true (some-out && true) refl ∙ and-true some-out refl)
     where
-      go : (b : Bool) → b && true && true ≡ b
-      go true = refl
-      go false = refl
+      some-out : Bool
+      some-out = ltb (m WORKERS i OUTREAD) (m WORKERS i OUTEND)
 
   abbrev heard : Machine
   heard = record { mem = m′; tally = toldT (sys .workers) i oldest t }

@@ -2,10 +2,11 @@
 use Prim.Native.Nat.{ℕ, _+_, _^_, _<_, _≤_}
 use mathlib.Core.Bool.{true}
 use mathlib.Core.Logic.{_⊎_, inl, inr, ⊎-elim}
-use mathlib.Core.Path.{_≡_, refl, sym, _∙_, ap, ap₂, fun-ext, subst}
+use mathlib.Core.Path.{_≡_, refl, sym, _∙_, ap, ap₂, fun-ext}
 use native.Mathlib.Numerals.{add-one}
 use native.Mathlib.Omega.{arith}
 use lib.Dec.{leb, eqb}
+use Rattle.base.proofs.Choice.{everywhere}
 use Rattle.base.proofs.Sums.{sum-ext, count-ext}
 use Rattle.base.specs.Below.{sumBelow, one}
 use Rattle.network.proofs.DomainSize.{domainSize}
@@ -17,7 +18,6 @@ use Rattle.controller.specs.Controller.{Machine}
 use Rattle.cells.specs.View.{LISTED, LISTMARK}
 use Rattle.refinement.specs.Inv.{Code, Row, Polled, Replied, Inv, Totals, listsOut}
 use Rattle.index.specs.Index.{Paired}
-use Rattle.refinement.proofs.Stores.{each-row}
 
 -- a worker's cells, those of its row of cursors apart
 pub record SameRow (m m′ : Mem) (i : ℕ) : Type 0 where
@@ -26,6 +26,16 @@ pub record SameRow (m m′ : Mem) (i : ℕ) : Type 0 where
   pub log : (d : ℕ) → m′ LOG i d ≡ m LOG i d
   pub work : (d : ℕ) → m′ WORK i d ≡ m WORK i d
   pub out : (e : ℕ) → m′ OUT i e ≡ m OUT i e
+
+-- a worker's cells where its lists have grown: its head, the ends of its lists and its list counter may have changed
+pub record GrownRow (sys : System) (m m′ : Mem) (i : ℕ) : Type 0 where
+  pub column : (c : ℕ) → (c ≡ HEAD → ⊥) × (c ≡ TAIL → ⊥) × (c ≡ LOGEND → ⊥) × (c ≡ LISTS → ⊥) → m′ WORKERS i c ≡ m WORKERS i c
+  pub bounds : (n : ℕ) → m′ BOUNDS i n ≡ m BOUNDS i n
+  pub out : (e : ℕ) → m′ OUT i e ≡ m OUT i e
+  pub queue : m′ WORKERS i HEAD ≤ m′ WORKERS i TAIL
+  pub log-end : m WORKERS i LOGEND ≤ m′ WORKERS i LOGEND
+  pub log-codes : (d : ℕ) → d < m′ WORKERS i LOGEND → Code sys (m′ LOG i d)
+  pub work-codes : (d : ℕ) → d < m′ WORKERS i TAIL → Code sys (m′ WORK i d)
 
 -- the wanted counts
 abbrev pub SameWanted : Mem → Mem → Type 0
@@ -36,48 +46,46 @@ abbrev pub SameHeads : Mem → Mem → Type 0
 SameHeads m m′ = (x y : ℕ) → m′ HEADS x y ≡ m HEADS x y
 
 module _ (m m′ : Mem) where
-  -- a worker's row depends on its cells and on how many polls there were; its work list may grow
-  pub row-grown : (sys : System) (t t′ : Tally) (i : ℕ)
-      → ((c : ℕ) → (c ≡ TAIL → ⊥) → (c ≡ LISTS → ⊥) → m′ WORKERS i c ≡ m WORKERS i c)
-      → ((n : ℕ) → m′ BOUNDS i n ≡ m BOUNDS i n) → ((d : ℕ) → m′ LOG i d ≡ m LOG i d)
-      → ((e : ℕ) → m′ OUT i e ≡ m OUT i e) → t .timestamp .0 ≤ t′ .timestamp .0
-      → m WORKERS i TAIL ≤ m′ WORKERS i TAIL → ((d : ℕ) → d < m′ WORKERS i TAIL → Code sys (m′ WORK i d))
+  -- a worker's row depends on its cells and on how many polls there were; its lists may grow
+  pub row-grown : (sys : System) (t t′ : Tally) (i : ℕ) → GrownRow sys m m′ i → t .timestamp .0 ≤ t′ .timestamp .0
       → Row sys m t i → Row sys m′ t′ i
-  row-grown sys t t′ i workers bounds log out l longer codes r = record {
-    queue = omega (arith, column HEAD (omega arith), r .queue);
-    first-bound = bounds 0 ∙ r .first-bound;
-    bounds-rise = λ n h. omega (arith, bounds n, bounds (n + 1), r .bounds-rise n (omega (arith, sends)));
-    last-bound = rw (sends, log-end, bounds (m WORKERS i SENDS)) (r .last-bound);
-    out-read = omega (arith, column OUTREAD (omega arith), out-end, r .out-read);
-    out-list = λ e h g. omega (arith, out e, sends, r .out-list e (omega (arith, out-end)) (omega (arith, out e)));
+  row-grown sys t t′ i g l r = record {
+    queue = g .queue;
+    first-bound = g .bounds 0 ∙ r .first-bound;
+    bounds-rise = λ n h. omega (arith, g .bounds n, g .bounds (n + 1), r .bounds-rise n (omega (arith, sends)));
+    last-bound = rw (sends, g .bounds (m WORKERS i SENDS)) (omega (arith, g .log-end, r .last-bound));
+    out-read = omega (arith, g .column OUTREAD (omega arith), out-end, r .out-read);
+    out-list = λ e h k. omega (arith, g .out e, sends, r .out-list e (omega (arith, out-end)) (omega (arith, g .out e)));
     polls-read = omega (arith, polls, r .polls-read);
-    held-read = omega (arith, column HELD (omega arith), polls, r .held-read);
-    log-codes = λ d h. rw (log d) (r .log-codes d (omega (arith, log-end)));
-    work-codes = codes;
+    held-read = omega (arith, g .column HELD (omega arith), polls, r .held-read);
+    log-codes = g .log-codes;
+    work-codes = g .work-codes;
   }
     where
-      column : (c : ℕ) → (c ≡ TAIL → ⊥) × (c ≡ LISTS → ⊥) → m′ WORKERS i c ≡ m WORKERS i c
-      column c n = workers c (n .0) (n .1)
-
       sends : m′ WORKERS i SENDS ≡ m WORKERS i SENDS
-      sends = column SENDS (omega arith)
-
-      log-end : m′ WORKERS i LOGEND ≡ m WORKERS i LOGEND
-      log-end = column LOGEND (omega arith)
+      sends = g .column SENDS (omega arith)
 
       out-end : m′ WORKERS i OUTEND ≡ m WORKERS i OUTEND
-      out-end = column OUTEND (omega arith)
+      out-end = g .column OUTEND (omega arith)
 
       polls : m′ WORKERS i POLLS ≡ m WORKERS i POLLS
-      polls = column POLLS (omega arith)
+      polls = g .column POLLS (omega arith)
 
-  -- the same where the work list is kept too
+  -- the same where all its cells are kept
   pub row-kept : (sys : System) (t t′ : Tally) (i : ℕ) → SameRow m m′ i → t .timestamp .0 ≤ t′ .timestamp .0
       → Row sys m t i → Row sys m′ t′ i
   row-kept sys t t′ i s l r =
-      row-grown sys t t′ i (λ c p q. s .workers c) (s .bounds) (s .log) (s .out) l (omega (arith, s .workers TAIL))
-      (λ d h.
-      rw (s .work d) (r .work-codes d (omega (arith, s .workers TAIL)))) r
+      row-grown sys t t′ i
+      (record {
+        column = λ c p. s .workers c;
+        bounds = s .bounds;
+        out = s .out;
+        queue = omega (arith, s .workers HEAD, s .workers TAIL, r .queue);
+        log-end = omega (arith, s .workers LOGEND);
+        log-codes = λ d h. rw (s .log d) (r .log-codes d (omega (arith, s .workers LOGEND)));
+        work-codes = λ d h. rw (s .work d) (r .work-codes d (omega (arith, s .workers TAIL)));
+      })
+      l r
 
   -- polls depend on the wanted counts
   pub polled-kept : (t : Tally) → SameWanted m m′ → Polled m t → Polled m′ t
@@ -144,25 +152,30 @@ module _ (m m′ : Mem) where
       sum-ext p (λ i. listsOut m′ i (m′ WORKERS i OUTREAD)) (λ i. listsOut m i (m WORKERS i OUTREAD)) (λ i h.
       lists-out-kept i (m WORKERS i OUTREAD) (m′ WORKERS i OUTREAD) (read i h) (λ e l. out i e h l))
 
--- the cells of which the totals speak
-pub record SameTotals (m m′ : Mem) : Type 0 where
-  pub workers : (i c : ℕ) → (c ≡ HELD → ⊥) → (c ≡ POLLS → ⊥) → m′ WORKERS i c ≡ m WORKERS i c
+-- what the totals speak of: a row's log and work list may grow by as much, and by what leaves the domains
+pub record SameTotals (sys : System) (m m′ : Mem) : Type 0 where
+  pub sends : (i : ℕ) → m′ WORKERS i SENDS ≡ m WORKERS i SENDS
+  pub lists : (i : ℕ) → m′ WORKERS i LISTS ≡ m WORKERS i LISTS
+  pub out-end : (i : ℕ) → m′ WORKERS i OUTEND ≡ m WORKERS i OUTEND
+  pub out-read : (i : ℕ) → m′ WORKERS i OUTREAD ≡ m WORKERS i OUTREAD
   pub cursors : (j i : ℕ) → m′ CURSORS j i ≡ m CURSORS j i
   pub bounds : (i n : ℕ) → m′ BOUNDS i n ≡ m BOUNDS i n
-  pub domain : (x v : ℕ) → m′ DOMAIN x v ≡ m DOMAIN x v
   pub out : (i e : ℕ) → m′ OUT i e ≡ m OUT i e
+  pub ends : (i : ℕ) → m′ WORKERS i TAIL + m WORKERS i LOGEND ≡ m WORKERS i TAIL + m′ WORKERS i LOGEND
+  pub logged :
+      sumBelow (sys .workers) (λ i. m′ WORKERS i LOGEND) + domainSize (sys .net) (λ x v. eqb (m′ DOMAIN x v) LISTED)
+      ≡ sumBelow (sys .workers) (λ i. m WORKERS i LOGEND) + domainSize (sys .net) (λ x v. eqb (m DOMAIN x v) LISTED)
 
--- the totals depend on those cells and on how many lists the controller has counted
-pub totals-kept : (sys : System) (m m′ : Mem) (t t′ : Tally) → SameTotals m m′ → t′ .lists .0 ≡ t .lists .0
+-- the totals depend on that and on how many lists the controller has counted
+pub totals-kept : (sys : System) (m m′ : Mem) (t t′ : Tally) → SameTotals sys m m′ → t′ .lists .0 ≡ t .lists .0
     → Totals sys m t → Totals sys m′ t′
 totals-kept sys m m′ t t′ s e u = record {
   own-cursor = λ i h. s .cursors i i ∙ u .own-cursor i h;
-  cursor = λ j i h l. omega (arith, s .cursors j i, sends j, u .cursor j i h l);
+  cursor = λ j i h l. omega (arith, s .cursors j i, s .sends j, u .cursor j i h l);
   pushed = λ i h.
       omega (
         arith,
-        s .workers i TAIL (omega arith) (omega arith),
-        ends i,
+        s .ends i,
         sum-ext (sys .workers) (λ j. m′ BOUNDS j (m′ CURSORS j i)) (λ j. m BOUNDS j (m CURSORS j i)) (λ j l.
             s .bounds j (m′ CURSORS j i) ∙ ap (m BOUNDS j) (s .cursors j i)),
         u .pushed i h,
@@ -170,37 +183,26 @@ totals-kept sys m m′ t t′ s e u = record {
   counted = λ i h.
       omega (
         arith,
-        s .workers i LISTS (omega arith) (omega arith),
-        sends i,
+        s .lists i,
+        s .sends i,
         sum-ext (sys .workers) (λ j. m′ CURSORS j i) (λ j. m CURSORS j i) (λ j l. s .cursors j i),
         u .counted i h,
       );
-  logged = logged-kept m m′ sys ends (s .domain) ∙ u .logged;
+  logged = s .logged ∙ u .logged;
   all-out = λ i h.
-      lists-out-kept m m′ i (m WORKERS i OUTEND) (m′ WORKERS i OUTEND) (s .workers i OUTEND (omega arith) (omega arith))
-      (λ n l.
-      s .out i n)
+      lists-out-kept m m′ i (m WORKERS i OUTEND) (m′ WORKERS i OUTEND) (s .out-end i) (λ n l. s .out i n)
       ∙ u .all-out i h
-      ∙ sym (sends i);
+      ∙ sym (s .sends i);
   heard =
-      e
-      ∙ u .heard
-      ∙ sym
-      (heard-kept m m′ (sys .workers) (λ i h. s .workers i OUTREAD (omega arith) (omega arith)) (λ i n h l. s .out i n));
+      e ∙ u .heard ∙ sym (heard-kept m m′ (sys .workers) (λ i h. s .out-read i) (λ i n h l. s .out i n));
 }
-  where
-    sends : (i : ℕ) → m′ WORKERS i SENDS ≡ m WORKERS i SENDS
-    sends i = s .workers i SENDS (omega arith) (omega arith)
 
-    ends : (i : ℕ) → m′ WORKERS i LOGEND ≡ m WORKERS i LOGEND
-    ends i = s .workers i LOGEND (omega arith) (omega arith)
-
--- of what the invariant mentions row by row, only row `i` is changed
+-- of what the invariant mentions row by row, only row `i` is changed, and no label has joined its domain
 pub record OnlyRow (m m′ : Mem) (i : ℕ) : Type 0 where
   pub others : (k : ℕ) → (k ≡ i → ⊥) → SameRow m m′ k
   pub wanted : SameWanted m m′
   pub heads : SameHeads m m′
-  pub domain : (x v : ℕ) → m′ DOMAIN x v ≡ m DOMAIN x v
+  pub listed : (x v : ℕ) → eqb (m′ DOMAIN x v) LISTED ≡ true → eqb (m DOMAIN x v) LISTED ≡ true
 
 -- a row has put as many messages for the controller as its count says, or one more where it has replied
 abbrev pub Answered : Mem → Tally → ℕ → Type 0
@@ -212,7 +214,7 @@ pub record Follows (m : Mem) (t t′ : Tally) : Type 0 where
   pub polled : Polled m t′
   pub replied : (i : ℕ) → Replied m t i → Replied m t′ i
 
--- an action of a worker leaves the tally as it is
+-- as a tally does itself
 pub follows-itself : (m : Mem) (t : Tally) → Polled m t → Follows m t t
 follows-itself m t p = record { later = omega arith; polled = p; replied = λ i r. r }
 
@@ -222,12 +224,12 @@ pub row-action : (sys : System) (s s′ : Machine) (i : ℕ) → Inv sys s → O
     → Answered (s′ .mem) (s′ .tally) i → s′ .tally .marks < 2 ^ sys .workers → Inv sys s′
 row-action sys s s′ i inv only next row totals answered marks = record {
   rows =
-      each-row (λ k. k < sys .workers → Row sys (s′ .mem) (s′ .tally) k) i (λ h. row) (λ k n h.
+      everywhere (λ k. k < sys .workers → Row sys (s′ .mem) (s′ .tally) k) i (λ h. row) (λ k n h.
       row-kept (s .mem) (s′ .mem) sys (s .tally) (s′ .tally) k (only .others k n) (next .later) (inv .rows k h));
   totals = totals;
   polled = polled-kept (s .mem) (s′ .mem) (s′ .tally) (only .wanted) (next .polled);
   replied =
-      each-row (λ k. k < sys .workers → Answered (s′ .mem) (s′ .tally) k) i (λ h. answered) (λ k n h.
+      everywhere (λ k. k < sys .workers → Answered (s′ .mem) (s′ .tally) k) i (λ h. answered) (λ k n h.
       ⊎-elim
       (λ l.
       inl (omega (arith, only .others k n .workers OUTEND, only .others k n .workers LISTS)))
@@ -236,7 +238,14 @@ row-action sys s s′ i inv only next row totals answered marks = record {
       (replied-kept (s .mem) (s′ .mem) (s′ .tally) k (λ c p. only .others k n .workers c) (only .others k n .bounds)
       (only .wanted) (next .replied k r)))
       (inv .replied k h));
-  listed = λ x v e. inv .listed x v (subst (λ (c : ℕ). eqb c LISTED ≡ true) (only .domain x v) e);
+  listed = λ x v e. inv .listed x v (only .listed x v e);
   paired = paired-kept (s .mem) (s′ .mem) sys (only .heads) (inv .paired);
   marks = marks;
 }
+
+-- an action of a worker leaves the tally as it is
+pub worker-action : (sys : System) (s : Machine) (m : Mem) (i : ℕ) → Inv sys s → OnlyRow (s .mem) m i → Row sys m (s .tally) i
+    → Totals sys m (s .tally) → Answered m (s .tally) i → Inv sys (record { mem = m; tally = s .tally })
+worker-action sys s m i inv only row totals answered =
+    row-action sys s (record { mem = m; tally = s .tally }) i inv only (follows-itself (s .mem) (s .tally) (inv .polled)) row
+    totals answered (inv .marks)

@@ -1,98 +1,21 @@
 -- A row's log or work list that has grown: its end, the labels before it, and the new ones behind them.
-use Prim.Native.Nat.{ℕ, zero, suc, _+_, _-_, _/_, _%_, _<_, _≤_}
+use Prim.Native.Nat.{ℕ, zero, suc, _+_, _/_, _%_, _<_, _≤_}
+use mathlib.Core.Bool.{Bool, true, false, cond}
 use mathlib.Core.List.{List, [], _∷_, _++_, append-assoc, append-nil}
 use mathlib.Core.Path.{_≡_, refl, sym, _∙_, ap, ap₂, subst}
 use native.Mathlib.Decide.{ℕ-discrete}
-use native.Mathlib.Nat.{le-step, le-refl}
 use native.Mathlib.Omega.{arith}
 use lib.ListN.{length, length-append}
-use Rattle.base.specs.Below.{gatherBelow, listBelow}
 use Rattle.disac4.specs.System.{System}
 use Rattle.network.specs.Network.{Label, label}
+use Rattle.cells.proofs.Queue.{labels-same, labels-none, labels-last, labels-length, label-code}
+use Rattle.cells.proofs.Stores.{store-same, store-other, Beside, push-stores, push-other, copy-other}
 use Rattle.cells.specs.Layout.{WORKERS, LOG, WORK, DOMAIN, TAIL, LOGEND}
-use Rattle.cells.specs.Lists.{pushM, deleteM}
+use Rattle.cells.specs.Lists.{pushM, deleteM, copyM}
 use Rattle.cells.specs.Memory.{Mem, store}
-use Rattle.cells.specs.View.{codeOf, labelOf, listBetween, labelsBetween}
-use Rattle.refinement.proofs.Frames.{store-same, store-other, Beside, push-stores, push-other}
+use Rattle.cells.specs.View.{codeOf, labelOf, labelsBetween}
 use Rattle.refinement.specs.Inv.{Code}
-
--- ---- lists below a bound
-
-module _ {A : Type 0} where
-  -- parts that agree below the bound are gathered alike
-  pub gather-ext : (n : ℕ) (f g : ℕ → List A) → ((i : ℕ) → i < n → f i ≡ g i) → gatherBelow n f ≡ gatherBelow n g
-  gather-ext zero f g h = refl
-  gather-ext (suc n) f g h = ap₂ _++_ (gather-ext n f g (λ i p. h i (le-step p))) (h n (le-refl (suc n)))
-
-  -- members that agree below the bound
-  pub list-ext : (n : ℕ) (f g : ℕ → A) → ((i : ℕ) → i < n → f i ≡ g i) → listBelow n f ≡ listBelow n g
-  list-ext n f g h = gather-ext n (λ i. f i ∷ []) (λ i. g i ∷ []) (λ i p. ap (λ a. a ∷ []) (h i p))
-
-  -- the first member apart
-  pub list-first : (n : ℕ) (f : ℕ → A) → listBelow (suc n) f ≡ f 0 ∷ listBelow n (λ i. f (suc i))
-  list-first zero f = refl
-  list-first (suc n) f = ap (λ l. l ++ (f (suc n) ∷ [])) (list-first n f)
-
-  -- members that agree between two bounds
-  pub between-ext : (from to : ℕ) (f g : ℕ → A) → ((d : ℕ) → from ≤ d → d < to → f d ≡ g d)
-      → listBetween from to f ≡ listBetween from to g
-  between-ext from to f g h =
-      list-ext (to - from) (λ d. f (from + d)) (λ d. g (from + d)) (λ d p. h (from + d) (omega arith) (omega arith))
-
-  -- no members
-  pub between-none : (from to : ℕ) (f : ℕ → A) → to ≤ from → listBetween from to f ≡ []
-  between-none from to f h =
-      ap (λ (n : ℕ). listBelow n (λ d. f (from + d))) (let e : to - from ≡ 0 = omega arith in e)
-
--- labels of a row that agree
-pub labels-ext : (m n : Mem) (r i from to : ℕ) → ((d : ℕ) → from ≤ d → d < to → n r i d ≡ m r i d)
-    → labelsBetween n r i from to ≡ labelsBetween m r i from to
-unfolding labelsBetween
-labels-ext m n r i from to h =
-    between-ext from to (λ d. labelOf (n r i d)) (λ d. labelOf (m r i d)) (λ d p q. ap labelOf (h d p q))
-
--- the oldest label apart
-pub labels-first : (m : Mem) (r i from to : ℕ) → from < to
-    → labelsBetween m r i from to ≡ labelOf (m r i from) ∷ labelsBetween m r i (from + 1) to
-unfolding labelsBetween
-labels-first m r i from to h =
-    ap (λ n. listBelow n (λ d. labelOf (m r i (from + d)))) many
-    ∙ list-first (to - (from + 1)) (λ d. labelOf (m r i (from + d)))
-    ∙ ap₂ (λ a l. labelOf (m r i a) ∷ l) start
-    (list-ext (to - (from + 1)) (λ d. labelOf (m r i (from + suc d))) (λ d. labelOf (m r i (from + 1 + d)))
-    (λ d p. ap (λ a. labelOf (m r i a)) (omega arith)))
-  where
-    many : to - from ≡ suc (to - (from + 1))
-    many = omega arith
-
-    start : from + 0 ≡ from
-    start = omega arith
-
--- no labels
-pub labels-none : (m : Mem) (r i from to : ℕ) → to ≤ from → labelsBetween m r i from to ≡ []
-unfolding labelsBetween
-labels-none m r i from to h = between-none from to (λ d. labelOf (m r i d)) h
-
--- one more label at the end
-pub labels-last : (m : Mem) (r i from to : ℕ) → from ≤ to
-    → labelsBetween m r i from (to + 1) ≡ labelsBetween m r i from to ++ (labelOf (m r i to) ∷ [])
-unfolding labelsBetween
-labels-last m r i from to h =
-    ap (λ n. listBelow n (λ d. labelOf (m r i (from + d)))) many
-    ∙ ap (λ a. labelsBetween m r i from to ++ (labelOf (m r i a) ∷ [])) last
-  where
-    many : to + 1 - from ≡ suc (to - from)
-    many = omega arith
-
-    last : from + (to - from) ≡ to
-    last = omega arith
-
--- a cell holds the label that was put into it
-pub label-code : (x v : ℕ) → v < 16 → labelOf (codeOf x v) ≡ label x v
-label-code x v h =
-    let p : codeOf x v / 16 ≡ x = omega arith in
-    let q : codeOf x v % 16 ≡ v = omega arith in
-    λ i. record { variable = p i; value = q i }
+use Rattle.refinement.proofs.Frames.{deleteIf}
 
 -- the code of a loaded label
 pub loaded-code : (sys : System) (x v : ℕ) → v < 16 → x < sys .net .variables → v < sys .net .size x
@@ -104,7 +27,7 @@ loaded-code sys x v h k l =
 
 -- ---- a row that has grown by the labels `l`; its end is kept in a column of the worker's row
 
-pub record Grown (sys : System) (q col i : ℕ) (m n : Mem) (l : List Label) : Type 0 where
+pub record Longer (sys : System) (q col i : ℕ) (m n : Mem) (l : List Label) : Type 0 where
   pub end : n WORKERS i col ≡ m WORKERS i col + length l
   pub old : (d : ℕ) → d < m WORKERS i col → n q i d ≡ m q i d
   pub new : (from : ℕ) → from ≤ m WORKERS i col
@@ -113,22 +36,21 @@ pub record Grown (sys : System) (q col i : ℕ) (m n : Mem) (l : List Label) : T
 
 module _ (sys : System) (q col i : ℕ) where
   -- a row that stays
-  pub grown-none : (m n : Mem) → n WORKERS i col ≡ m WORKERS i col → ((d : ℕ) → n q i d ≡ m q i d)
-      → Grown sys q col i m n []
-  grown-none m n e h = record {
+  pub longer-none : (m n : Mem) → n WORKERS i col ≡ m WORKERS i col → ((d : ℕ) → n q i d ≡ m q i d)
+      → Longer sys q col i m n []
+  longer-none m n e h = record {
     end = omega arith;
     old = λ d p. h d;
     new = λ from p.
-        ap (labelsBetween n q i from) e
-        ∙ labels-ext m n q i from (m WORKERS i col) (λ d p q. h d)
+        labels-same m n q i from (m WORKERS i col) refl e (λ d p q. h d)
         ∙ sym (append-nil (labelsBetween m q i from (m WORKERS i col)));
     codes = λ c d p. subst (Code sys) (sym (h d)) (c d (omega arith));
   }
 
   -- first by some labels, then by others
-  pub grown-more : (m n o : Mem) (l k : List Label) → Grown sys q col i m n l → Grown sys q col i n o k
-      → Grown sys q col i m o (l ++ k)
-  grown-more m n o l k g h = record {
+  pub longer-more : (m n o : Mem) (l k : List Label) → Longer sys q col i m n l → Longer sys q col i n o k
+      → Longer sys q col i m o (l ++ k)
+  longer-more m n o l k g h = record {
     end = omega (arith, g .end, h .end, length-append l k);
     old = λ d p. h .old d (omega (arith, g .end)) ∙ g .old d p;
     new = λ from p.
@@ -139,9 +61,9 @@ module _ (sys : System) (q col i : ℕ) where
   }
 
   -- a push
-  pub grown-push : (m : Mem) (c : ℕ) → (q ≡ WORKERS → ⊥) → m WORKERS i col < 512 → Code sys c
-      → Grown sys q col i m (pushM q col i c m) (labelOf c ∷ [])
-  grown-push m c apart room code = subst (λ n. Grown sys q col i m n (labelOf c ∷ [])) (sym (push-stores q col i c m room)) stored
+  pub longer-push : (m : Mem) (c : ℕ) → (q ≡ WORKERS → ⊥) → m WORKERS i col < 512 → Code sys c
+      → Longer sys q col i m (pushM q col i c m) (labelOf c ∷ [])
+  longer-push m c apart room code = subst (λ n. Longer sys q col i m n (labelOf c ∷ [])) (sym (push-stores q col i c m room)) stored
     where
       at : ℕ
       at = m WORKERS i col
@@ -164,14 +86,14 @@ module _ (sys : System) (q col i : ℕ) where
           store-other put WORKERS i col (at + 1) q i d (λ e. absurd (apart e))
           ∙ store-other m q i at c q i d (λ e f. h)
 
-      stored : Grown sys q col i m n (labelOf c ∷ [])
+      stored : Longer sys q col i m n (labelOf c ∷ [])
       stored = record {
         end = end-at;
         old = λ d p. old-at d (λ e. omega arith);
         new = λ from p.
             ap (labelsBetween n q i from) end-at
             ∙ labels-last n q i from at p
-            ∙ ap₂ (λ l a. l ++ (labelOf a ∷ [])) (labels-ext m n q i from at (λ d h k. old-at d (λ e. omega arith))) new-at;
+            ∙ ap₂ (λ l a. l ++ (labelOf a ∷ [])) (labels-same m n q i from at refl refl (λ d h k. old-at d (λ e. omega arith))) new-at;
         codes = λ h d p.
             elim (ℕ-discrete d at) [
               | yes e ↦ subst (λ (a : ℕ). Code sys (n q i a)) (sym e) (subst (Code sys) (sym new-at) code)
@@ -179,45 +101,83 @@ module _ (sys : System) (q col i : ℕ) where
             ];
       }
 
+-- a copied list message: labels of row `j`'s log join the end of row `i`'s work list
+pub longer-copy : (sys : System) (j i from n : ℕ) (m : Mem) → m WORKERS i TAIL + n ≤ 512
+    → ((d : ℕ) → d < from + n → Code sys (m LOG j d))
+    → Longer sys WORK TAIL i m (copyM j i from n m) (labelsBetween m LOG j from (from + n))
+unfolding copyM
+longer-copy sys j i from zero m room codes =
+    subst (Longer sys WORK TAIL i m m) (sym (labels-none m LOG j from (from + 0) (omega arith)))
+    (longer-none sys WORK TAIL i m m refl (λ d. refl))
+longer-copy sys j i from (suc n) m room codes = go (longer-copy sys j i from n m (omega arith) (λ d h. codes d (omega arith)))
+  where
+    before : Mem
+    before = copyM j i from n m
+
+    next : ℕ
+    next = before LOG j (from + n)
+
+    same : next ≡ m LOG j (from + n)
+    same = copy-other j i from n m LOG j (from + n) (omega arith)
+
+    copied : List Label
+    copied = labelsBetween m LOG j from (from + n)
+
+    go : Longer sys WORK TAIL i m before copied
+        → Longer sys WORK TAIL i m (pushM WORK TAIL i next before) (labelsBetween m LOG j from (from + suc n))
+    go grown =
+        subst (Longer sys WORK TAIL i m (pushM WORK TAIL i next before))
+        (ap (λ (c : ℕ). copied ++ (labelOf c ∷ [])) same
+        ∙ sym (labels-last m LOG j from (from + n) (omega arith))
+        ∙ ap (labelsBetween m LOG j from) (let e : from + n + 1 ≡ from + suc n = omega arith in e))
+        (longer-more sys WORK TAIL i m before (pushM WORK TAIL i next before) copied (labelOf next ∷ []) grown
+        (longer-push sys WORK TAIL i before next (λ e. omega arith)
+        (omega (arith, grown .end, labels-length m LOG j from (from + n)))
+        (subst (Code sys) (sym same) (codes (from + n) (omega arith)))))
+
 -- ---- a row's log and work list that have grown by the same labels
 
 pub record Both (sys : System) (i : ℕ) (m n : Mem) (l : List Label) : Type 0 where
-  pub log : Grown sys LOG LOGEND i m n l
-  pub work : Grown sys WORK TAIL i m n l
+  pub log : Longer sys LOG LOGEND i m n l
+  pub work : Longer sys WORK TAIL i m n l
+
+-- where there is room, they grow by the labels `l`
+abbrev pub Appends : System → ℕ → Mem → Mem → List Label → Type 0
+Appends sys i m n l = m WORKERS i LOGEND + length l ≤ 512 → m WORKERS i TAIL + length l ≤ 512 → Both sys i m n l
 
 module _ (sys : System) (i : ℕ) where
   -- lists that stay
   pub both-none : (m n : Mem) → n WORKERS i LOGEND ≡ m WORKERS i LOGEND → n WORKERS i TAIL ≡ m WORKERS i TAIL
       → ((d : ℕ) → n LOG i d ≡ m LOG i d) → ((d : ℕ) → n WORK i d ≡ m WORK i d) → Both sys i m n []
   both-none m n e f g h = record {
-    log = grown-none sys LOG LOGEND i m n e g;
-    work = grown-none sys WORK TAIL i m n f h;
+    log = longer-none sys LOG LOGEND i m n e g;
+    work = longer-none sys WORK TAIL i m n f h;
   }
 
   -- first by some labels, then by others
   pub both-more : (m n o : Mem) (l k : List Label) → Both sys i m n l → Both sys i n o k → Both sys i m o (l ++ k)
   both-more m n o l k g h = record {
-    log = grown-more sys LOG LOGEND i m n o l k (g .log) (h .log);
-    work = grown-more sys WORK TAIL i m n o l k (g .work) (h .work);
+    log = longer-more sys LOG LOGEND i m n o l k (g .log) (h .log);
+    work = longer-more sys WORK TAIL i m n o l k (g .work) (h .work);
   }
 
   -- with room, a deleted label joins both
-  pub both-delete : (m : Mem) (x v : ℕ) → x < sys .net .variables → v < sys .net .size x → v < 16
+  both-delete : (m : Mem) (x v : ℕ) → x < sys .net .variables → v < sys .net .size x → v < 16
       → m WORKERS i LOGEND < 512 → m WORKERS i TAIL < 512 → Both sys i m (deleteM i x v m) (label x v ∷ [])
   unfolding deleteM
   both-delete m x v h k l room room′ =
       subst (λ a. Both sys i m (deleteM i x v m) (a ∷ [])) (label-code x v l)
       (record {
-        log = grown-more sys LOG LOGEND i m logged (deleteM i x v m) (labelOf c ∷ []) []
-            (grown-more sys LOG LOGEND i m out logged [] (labelOf c ∷ []) (grown-none sys LOG LOGEND i m out refl (λ d. refl))
-            (grown-push sys LOG LOGEND i out c (λ e. omega arith) room code))
-            (grown-none sys LOG LOGEND i logged (deleteM i x v m)
+        log = longer-more sys LOG LOGEND i m logged (deleteM i x v m) (labelOf c ∷ []) []
+            (longer-more sys LOG LOGEND i m out logged [] (labelOf c ∷ []) (longer-none sys LOG LOGEND i m out refl (λ d. refl))
+            (longer-push sys LOG LOGEND i out c (λ e. omega arith) room code))
+            (longer-none sys LOG LOGEND i logged (deleteM i x v m)
             (worked-other WORKERS LOGEND (omega arith))
             (λ d. worked-other LOG d (omega arith)));
-        work = grown-more sys WORK TAIL i m logged (deleteM i x v m) [] (labelOf c ∷ [])
-            (grown-none sys WORK TAIL i m logged (logged-other WORKERS TAIL (omega arith))
+        work = longer-more sys WORK TAIL i m logged (deleteM i x v m) [] (labelOf c ∷ [])
+            (longer-none sys WORK TAIL i m logged (logged-other WORKERS TAIL (omega arith))
             (λ d. logged-other WORK d (omega arith)))
-            (grown-push sys WORK TAIL i logged c (λ e. omega arith)
+            (longer-push sys WORK TAIL i logged c (λ e. omega arith)
             (omega (arith, logged-other WORKERS TAIL (omega arith))) code);
       })
     where
@@ -238,3 +198,11 @@ module _ (sys : System) (i : ℕ) where
 
       worked-other : (r b : ℕ) → Beside WORK TAIL i r i b → pushM WORK TAIL i c logged r i b ≡ logged r i b
       worked-other r b e = push-other WORK TAIL i c logged r i b e
+
+  -- a label joins both if it is deleted
+  pub appends-if : (z : Bool) (m low : Mem) (x v : ℕ) → x < sys .net .variables → v < sys .net .size x → v < 16
+      → Both sys i m low [] → Appends sys i m (deleteIf z i x v low) (cond z (label x v ∷ []) [])
+  appends-if true m low x v h k l same room room′ =
+      both-more m low (deleteM i x v low) [] (label x v ∷ []) same
+      (both-delete low x v h k l (omega (arith, same .log .end)) (omega (arith, same .work .end)))
+  appends-if false m low x v h k l same room room′ = same

@@ -1,26 +1,24 @@
 -- What only grows: logs, bounds, messages to the controller and wanted counts keep what they hold, so a message once sent
 -- stays the same, and a channel changes only at its ends.
 use Prim.Native.Nat.{ℕ, suc, _+_, _-_, _<_, _≤_}
-use mathlib.Core.Bool.{Bool, true, false, cond, _&&_}
 use mathlib.Core.Path.{_≡_, refl, _∙_, ap}
 use native.Mathlib.Nat.{le-refl}
 use native.Mathlib.Omega.{arith}
-use borrow.Author.Tests.{leb-true, eqb-true}
-use lib.Dec.{leb, eqb}
-use Rattle.base.proofs.Bools.{and-left, and-right, refuted}
-use Rattle.base.proofs.Choice.{cond-false}
-use Rattle.disac4.specs.State.{Message, list, poll, reply}
+use borrow.Author.Tests.{leb-true}
+use lib.Dec.{leb}
+use Rattle.base.proofs.Choice.{cond-ext}
+use Rattle.disac4.specs.State.{Message, list, poll}
 use Rattle.disac4.specs.System.{System}
 use Rattle.disac4.specs.declared.Tally.{Tally}
+use Rattle.cells.proofs.Queue.{labels-same, Queue, Kept, queue, queue-same}
 use Rattle.cells.specs.Layout.{WORKERS, CURSORS, BOUNDS, LOG, OUT, WANTED, LOGEND, SENDS, POLLS, OUTEND, OUTREAD}
 use Rattle.cells.specs.Memory.{Mem}
 use Rattle.controller.specs.Controller.{Machine}
-use Rattle.cells.specs.View.{LISTMARK, labelsBetween, labelOf, listAt, messageOf, pollAt, viewLetters, viewOut, viewPolls}
+use Rattle.cells.specs.View.{LISTMARK, listAt, messageOf, pollAt, viewLetters, viewPolls, viewOut}
 use Rattle.refinement.proofs.Capacity.{bound-logged}
 use Rattle.refinement.proofs.ChannelRows.{Stays}
 use Rattle.refinement.specs.Inv.{Small, Inv}
-use Rattle.refinement.proofs.Queue.{Queue, Kept, queue, queue-same}
-use Rattle.refinement.proofs.Seen.{rowsOf}
+use Rattle.refinement.proofs.Seen.{rowsOf, sendOf}
 
 -- the memory after keeps what stands in the memory before
 pub record Grown (sys : System) (m : Mem) (t : Tally) (m′ : Mem) : Type 0 where
@@ -54,13 +52,6 @@ pub record Ends (sys : System) (m : Mem) (t : Tally) (m′ : Mem) (t′ : Tally)
 
 -- ---- single places
 
--- a store at another place of a region leaves a place as it was
-pub behind : (f : ℕ → ℕ → ℕ) (i c v j n : ℕ) → (j ≡ i → n ≡ c → ⊥) → cond (eqb n c && eqb j i) v (f j n) ≡ f j n
-behind f i c v j n h =
-    cond-false v (f j n)
-    (refuted (eqb n c && eqb j i)
-    (λ e. h (eqb-true j i (and-right (eqb n c) (eqb j i) e)) (eqb-true n c (and-left (eqb n c) (eqb j i) e))))
-
 -- a poll by its number
 pub poll-kept : (m m′ : Mem) (n : ℕ) → m′ WANTED 0 n ≡ m WANTED 0 n → pollAt m′ n ≡ pollAt m n
 unfolding pollAt
@@ -73,39 +64,29 @@ module _ (sys : System) (small : Small sys) (s : Machine) (inv : Inv sys s) (m�
 
   -- a list message stays the same
   pub list-kept : (i : ℕ) → i < sys .workers → (n : ℕ) → n < m WORKERS i SENDS → listAt m′ i n ≡ listAt m i n
-  unfolding listAt labelsBetween
+  unfolding listAt
   list-kept i h n l =
-      queue-same (queue (m BOUNDS i n) (m BOUNDS i (n + 1)) (λ d. labelOf (m LOG i d)))
-      (queue (m′ BOUNDS i n) (m′ BOUNDS i (n + 1)) (λ d. labelOf (m′ LOG i d)))
-      (λ d p q. ap labelOf (grown .logs i h d (omega (arith, bound-logged sys small s inv i h (n + 1) (omega arith)))))
-      (grown .bounds i h n (omega arith)) (grown .bounds i h (n + 1) (omega arith))
+      labels-same m m′ LOG i (m BOUNDS i n) (m BOUNDS i (n + 1)) (grown .bounds i h n (omega arith))
+      (grown .bounds i h (n + 1) (omega arith))
+      (λ d p q. grown .logs i h d (omega (arith, bound-logged sys small s inv i h (n + 1) (omega arith))))
 
   -- so does a message to the controller
   pub message-kept : (i : ℕ) → i < sys .workers → (e : ℕ) → e < m WORKERS i OUTEND
       → messageOf m′ i (m′ OUT i e) ≡ messageOf m i (m OUT i e)
   unfolding messageOf
-  message-kept i h e l = rw (grown .outs i h e l) (go (leb LISTMARK (m OUT i e)) refl)
-    where
-      go : (b : Bool) → leb LISTMARK (m OUT i e) ≡ b
-          → cond b (list (listAt m′ i (m OUT i e - LISTMARK))) (reply (record { 0 = m OUT i e }))
-          ≡ cond b (list (listAt m i (m OUT i e - LISTMARK))) (reply (record { 0 = m OUT i e }))
-      go true p =
-          ap list
-          (list-kept i h (m OUT i e - LISTMARK)
-          (inv .rows i h .out-list e l (leb-true LISTMARK (m OUT i e) p)))
-      go false p = refl
+  message-kept i h e l =
+      rw (grown .outs i h e l)
+      (cond-ext (leb LISTMARK (m OUT i e)) _ _ _ _
+      (λ p.
+      ap list (list-kept i h (m OUT i e - LISTMARK) (inv .rows i h .out-list e l (leb-true LISTMARK (m OUT i e) p))))
+      (λ p. refl))
 
   -- what is to be sent stays where nothing is deleted or sent
   pub send-kept : (i : ℕ) → i < sys .workers → m′ WORKERS i SENDS ≡ m WORKERS i SENDS
-      → m′ WORKERS i LOGEND ≡ m WORKERS i LOGEND
-      → labelsBetween m′ LOG i (m′ BOUNDS i (m′ WORKERS i SENDS)) (m′ WORKERS i LOGEND)
-      ≡ labelsBetween m LOG i (m BOUNDS i (m WORKERS i SENDS)) (m WORKERS i LOGEND)
-  unfolding labelsBetween
+      → m′ WORKERS i LOGEND ≡ m WORKERS i LOGEND → sendOf m′ i ≡ sendOf m i
   send-kept i h e f =
-      queue-same (queue (m BOUNDS i (m WORKERS i SENDS)) (m WORKERS i LOGEND) (λ d. labelOf (m LOG i d)))
-      (queue (m′ BOUNDS i (m′ WORKERS i SENDS)) (m′ WORKERS i LOGEND) (λ d. labelOf (m′ LOG i d)))
-      (λ d p q. ap labelOf (grown .logs i h d q))
-      (ap (m′ BOUNDS i) e ∙ grown .bounds i h (m WORKERS i SENDS) (le-refl _)) f
+      labels-same m m′ LOG i (m BOUNDS i (m WORKERS i SENDS)) (m WORKERS i LOGEND)
+      (ap (m′ BOUNDS i) e ∙ grown .bounds i h (m WORKERS i SENDS) (le-refl _)) f (λ d p q. grown .logs i h d q)
 
   -- list messages stay in their channels
   pub letters-kept : (j i : ℕ) → j < sys .workers → Kept (lettersQueue m j i) (lettersQueue m′ j i)

@@ -1,50 +1,27 @@
 -- The controller's reading keeps the invariant: it counts a list message, and marks a reply to the open poll.
 use Prim.Native.Nat.{ℕ, _+_, _^_, _<_}
-use mathlib.Core.Bool.{Bool, true, false, cond, _&&_, _||_, false≢true}
+use mathlib.Core.Bool.{Bool, true, false, cond, _&&_, false≢true}
 use mathlib.Core.Logic.{inl, inr, ⊎-elim}
 use mathlib.Core.Option.{some}
 use mathlib.Core.Path.{_≡_, refl, sym, ap}
 use native.Mathlib.Omega.{arith}
-use borrow.Author.Tests.{ltb-true, ne-eqb, eq-eqb}
+use borrow.Author.Tests.{ltb-true}
 use lib.Dec.{leb, ltb, eqb}
 use Rattle.base.proofs.Bools.{decided, and-left}
-use Rattle.base.proofs.Choice.{cond-true, cond-false}
-use Rattle.base.proofs.Row.{row-of-bits, row-small}
+use Rattle.base.proofs.Choice.{if-some, some-same}
 use Rattle.base.proofs.Sums.{sum-change}
 use Rattle.base.specs.Below.{one}
-use Rattle.base.specs.Row.{bit, rowOf}
 use Rattle.disac4.specs.System.{System}
 use Rattle.disac4.specs.declared.Tally.{Tally}
+use Rattle.cells.proofs.Stores.{store-same, store-other}
 use Rattle.cells.specs.Layout.{WORKERS, OUT, OUTEND, OUTREAD}
 use Rattle.cells.specs.Memory.{Mem}
-use Rattle.controller.specs.Controller.{countedT, withMark, markedT, toldT, hasOut, outReadM}
+use Rattle.controller.specs.Controller.{countedT, markedT, toldT, hasOut, outReadM}
 use Rattle.controller.specs.Controller.{Machine, hearM}
 use Rattle.cells.specs.View.{LISTMARK}
 use Rattle.refinement.proofs.Frame.{OnlyRow, Answered, Follows, row-action, replied-kept, follows-itself, lists-out-kept, lists-out-more}
+use Rattle.refinement.proofs.Marks.{mark-small}
 use Rattle.refinement.specs.Inv.{Row, Polled, Totals, Inv, listsOut}
-use Rattle.refinement.proofs.Stores.{store-same, store-other, if-some, some-same}
-
--- ---- marks
-
--- a row of marks with one more stays within its width
-pub mark-small : (p marks i : ℕ) → i < p → marks < 2 ^ p → withMark marks i < 2 ^ p
-unfolding withMark rowOf
-mark-small p marks i h l =
-    ⊎-elim
-    (λ e.
-    omega (arith, cond-true marks (marks + 2 ^ i) e))
-    (λ e.
-    omega (
-      arith,
-      cond-false marks (marks + 2 ^ i) e,
-      row-of-bits p marks l,
-      row-small p (λ w. eqb w i || bit marks w),
-      sum-change p (λ w. cond (bit marks w) (2 ^ w) 0) (λ w. cond (eqb w i || bit marks w) (2 ^ w) 0) i h (λ w q n.
-          ap (λ b. cond (b || bit marks w) (2 ^ w) 0) (sym (ne-eqb w i n))),
-      ap (λ b. cond b (2 ^ i) 0) e,
-      ap (λ b. cond (b || bit marks i) (2 ^ i) 0) (eq-eqb i i refl),
-    ))
-    (decided (bit marks i))
 
 -- ---- what a message makes of the tally
 
@@ -99,7 +76,7 @@ module _ (sys : System) (m : Mem) (t t′ : Tally) (i : ℕ) (inv : Inv sys (rec
 
   other-rows : (k c : ℕ) → (k ≡ i → ⊥) → outReadM i m WORKERS k c ≡ m WORKERS k c
   unfolding outReadM
-  other-rows k c n = store-other m WORKERS i OUTREAD (m WORKERS i OUTREAD + 1) WORKERS k c (λ p q. n)
+  other-rows k c n = store-other m WORKERS i OUTREAD (m WORKERS i OUTREAD + 1) WORKERS k c (λ p q x. n q)
 
   only-row : OnlyRow m (outReadM i m) i
   unfolding outReadM
@@ -113,7 +90,7 @@ module _ (sys : System) (m : Mem) (t t′ : Tally) (i : ℕ) (inv : Inv sys (rec
     };
     wanted = λ n. refl;
     heads = λ x y. refl;
-    domain = λ x v. refl;
+    listed = λ x v e. e;
   }
 
   row : Row sys (outReadM i m) t′ i
@@ -166,7 +143,7 @@ module _ (sys : System) (m : Mem) (t t′ : Tally) (i : ℕ) (inv : Inv sys (rec
       inr
       (replied-kept m (outReadM i m) t′ i
       (λ c n.
-      store-other m WORKERS i OUTREAD (m WORKERS i OUTREAD + 1) WORKERS i c (λ p e x. n e))
+      store-other m WORKERS i OUTREAD (m WORKERS i OUTREAD + 1) WORKERS i c (λ p x e. n e))
       (λ n. refl) (λ n. refl) (next .replied i r)))
       (inv .replied i h)
 
@@ -199,7 +176,7 @@ message-keeps sys m t i inv h unread = go (leb LISTMARK c) refl (t .polling) (eq
         (inv .marks)
     go false e true true =
         reply (markedT (sys .workers) i t) e (marked-follows m t (sys .workers) i (inv .polled)) refl
-        (mark-small (sys .workers) (t .marks) i h (inv .marks))
+        (mark-small (sys .workers) (t .marks) (inv .marks) i h)
     go false e true false = reply t e (follows-itself m t (inv .polled)) refl (inv .marks)
     go false e false d = reply t e (follows-itself m t (inv .polled)) refl (inv .marks)
 

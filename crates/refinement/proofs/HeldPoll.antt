@@ -7,7 +7,7 @@ use lib.Dec.{eqb}
 use Rattle.base.specs.Choice.{update}
 use Rattle.disac4.specs.State.{Poll}
 use Rattle.disac4.specs.System.{System}
-use Rattle.cells.specs.Layout.{WORKERS, HELD}
+use Rattle.cells.specs.Layout.{WORKERS, WANTED, HELD}
 use Rattle.cells.specs.Memory.{Mem}
 use Rattle.cells.specs.View.{isWorker, pollAt, viewHeld}
 use Rattle.refinement.proofs.Actors.{atActor, actors-same, actors-update, at-worker}
@@ -15,6 +15,12 @@ use Rattle.refinement.proofs.Actors.{atActor, actors-same, actors-updat
 -- the poll that row `i` holds
 abbrev pub heldAt : Mem → ℕ → Option Poll
 heldAt m i = cond (eqb (m WORKERS i HELD) 0) none (some (pollAt m (m WORKERS i HELD)))
+
+-- it depends on its number and on the wanted count of that poll
+pub held-row : (m m′ : Mem) (i : ℕ) → m′ WORKERS i HELD ≡ m WORKERS i HELD
+    → m′ WANTED 0 (m WORKERS i HELD) ≡ m WANTED 0 (m WORKERS i HELD) → heldAt m′ i ≡ heldAt m i
+unfolding pollAt
+held-row m m′ i e w = rw (e, w)
 
 both-tests : (a b : Bool) (o : Option Poll) → cond (a && not b) o none ≡ cond a (cond b none o) none
 both-tests true true o = refl

@@ -1,64 +1,26 @@
 -- Every turn keeps the invariant, if treating a label does.
-use Prim.Native.Nat.{ℕ, suc, _-_, _<_, _≤_}
-use mathlib.Core.Bool.{true, false, not, _&&_, _||_}
-use mathlib.Core.Logic.{_⊎_, inl, inr, ⊎-elim}
-use mathlib.Core.Option.{Option, none, some, Option·getD}
-use mathlib.Core.Path.{_≡_, refl, sym, _∙_}
+use Prim.Native.Nat.{ℕ, suc, _-_, _<_}
+use mathlib.Core.Bool.{true, _||_, not}
+use mathlib.Core.Option.{Option, none, some}
+use mathlib.Core.Path.{_≡_, refl}
 use native.Mathlib.Omega.{arith}
-use borrow.Author.Tests.{leb-true, eqb-false, not-true, not-false}
-use lib.Dec.{leb, eqb}
-use Rattle.base.proofs.Bools.{and-left, and-right, or-cases, or-false-right, clash}
-use Rattle.base.proofs.Choice.{between-low, between-high, cond-true, cond-false}
-use Rattle.base.specs.Choice.{between}
+use borrow.Author.Tests.{eqb-false, not-false}
+use lib.Dec.{eqb}
+use Rattle.base.proofs.Bools.{or-false-right}
+use Rattle.base.proofs.Choice.{by-test, none≢some, unless-some, some-same}
 use Rattle.disac4.specs.System.{System}
 use Rattle.disac4.specs.Turn.{Turn, treatNumber, sendNumber, answerNumber, pollNumber, allowed}
 use Rattle.cells.specs.Memory.{Mem}
 use Rattle.controller.specs.Controller.{Machine}
-use Rattle.refinement.specs.Step.{withMem, readM, workerM, stepM, afterM}
+use Rattle.refinement.specs.Step.{withMem, readM, workerM, stepM}
 use Rattle.counters.specs.Treat.{treatM}
+use Rattle.refinement.proofs.Allowed.{WorkerMay, worker-may, controller-may, reads-other}
 use Rattle.refinement.proofs.Answering.{answer-keeps}
 use Rattle.refinement.proofs.Hearing.{hear-keeps}
 use Rattle.refinement.specs.Inv.{Small, Inv}
 use Rattle.refinement.proofs.Polling.{poll-keeps, read-poll-keeps}
 use Rattle.refinement.proofs.Reading.{read-list-keeps}
 use Rattle.refinement.proofs.Sending.{send-keeps}
-use Rattle.refinement.proofs.Stores.{idle, unless-some, some-same, by-test}
-
--- ---- which turns are allowed
-
--- what a worker may do: read from another actor, or treat, send or answer
-abbrev WorkerMay : ℕ → ℕ → ℕ → Type 0
-WorkerMay p k d = ((d ≤ p) × (d ≡ k → ⊥)) ⊎ ((treatNumber ≤ d) × (d ≤ answerNumber))
-
-worker-may : (p : ℕ) (t : Turn) → eqb (t .actor) 0 ≡ false → allowed p t ≡ true
-    → (t .actor ≤ p) × WorkerMay p (t .actor) (t .action)
-unfolding allowed
-worker-may p t worker ok =
-    let own = leb (t .action) p && not (eqb (t .action) (t .actor)) in
-    let high = between treatNumber answerNumber (t .action) in
-    let both = sym (cond-false (between 1 p (t .action) || eqb (t .action) pollNumber) (leb (t .actor) p && (own || high)) worker) ∙ ok in (
-      leb-true (t .actor) p (and-left (leb (t .actor) p) (own || high) both),
-      ⊎-elim
-          (λ e.
-          inl (
-            leb-true (t .action) p (and-left (leb (t .action) p) (not (eqb (t .action) (t .actor))) e),
-            eqb-false (t .action) (t .actor)
-                (not-true (eqb (t .action) (t .actor)) (and-right (leb (t .action) p) (not (eqb (t .action) (t .actor))) e)),
-          ))
-          (λ e.
-          inr (between-low treatNumber answerNumber (t .action) e, between-high treatNumber answerNumber (t .action) e))
-          (or-cases own high (and-right (leb (t .actor) p) (own || high) both)),
-    )
-
-controller-may : (p : ℕ) (t : Turn) → eqb (t .actor) 0 ≡ true → allowed p t ≡ true → eqb (t .action) pollNumber ≡ false
-    → (0 < t .action) × (t .action ≤ p)
-unfolding allowed
-controller-may p t controller ok n =
-    ⊎-elim (λ e. (between-low 1 p (t .action) e, between-high 1 p (t .action) e)) (λ e. clash e n)
-    (or-cases (between 1 p (t .action)) (eqb (t .action) pollNumber)
-    (sym (cond-true (between 1 p (t .action) || eqb (t .action) pollNumber) _ controller) ∙ ok))
-
--- ---- each turn
 
 module _ (sys : System) (small : Small sys) (s : Machine) (inv : Inv sys s)
     (treat-keeps : (i : ℕ) (m′ : Mem) → i < sys .workers → treatM sys i (s .mem) ≡ some m′
@@ -71,20 +33,14 @@ module _ (sys : System) (small : Small sys) (s : Machine) (inv : Inv sys s)
       by-test (eqb d sendNumber) e₁ (λ p. send-keeps sys (s .mem) m′ (s .tally) i inv h) (λ n₂ e₂.
       by-test (eqb d answerNumber) e₂ (λ p. answer-keeps sys (s .mem) m′ (s .tally) i inv h) (λ n₃ e₃.
       by-test (eqb d 0) e₃ (λ p. read-poll-keeps sys (s .mem) m′ (s .tally) i inv h) (λ n₄ e₄.
-      let other : (d ≤ sys .workers) × (d ≡ suc i → ⊥) =
-      ⊎-elim (λ a. a)
-      (λ a.
-      absurd
-      (omega
-      (arith, eqb-false d treatNumber n₁, eqb-false d sendNumber n₂, eqb-false d answerNumber n₃)))
-      may in
+      let other = reads-other (sys .workers) (suc i) d may n₁ n₂ n₃ in
       let some-row : 0 < d = omega (arith, eqb-false d 0 n₄) in
       read-list-keeps sys small (s .mem) m′ (s .tally) (d - 1) i inv (omega arith) h (λ q. other .1 (omega arith)) e₄))))
 
   -- beside the same tally
   beside : (o : Option Mem) (s′ : Machine) → withMem (s .tally) o ≡ some s′
       → ((m′ : Mem) → o ≡ some m′ → Inv sys (record { mem = m′; tally = s .tally })) → Inv sys s′
-  beside none s′ e f = absurd (idle e)
+  beside none s′ e f = none≢some e
   beside (some m′) s′ e f = some-same (Inv sys) e (f m′ refl)
 
   -- every turn keeps the invariant
@@ -105,12 +61,3 @@ module _ (sys : System) (small : Small sys) (s : Machine) (inv : Inv sys s)
       let some-row : suc (t .actor - 1) ≡ t .actor = omega (arith, eqb-false (t .actor) 0 c) in
       beside (workerM sys (t .actor - 1) (t .action) s) s′ e₂ (λ m′.
       worker-keeps (t .actor - 1) (t .action) m′ (omega (arith, may .0)) (rw some-row (may .1))))
-
-  -- so does a turn that may be idle
-  pub after-keeps : (t : Turn) → Inv sys (afterM sys s t)
-  unfolding afterM
-  after-keeps t = go (stepM sys s t) (step-keeps t)
-    where
-      go : (o : Option Machine) → ((s′ : Machine) → o ≡ some s′ → Inv sys s′) → Inv sys (Option·getD o s)
-      go none f = inv
-      go (some s′) f = f s′ refl

@@ -1,6 +1,6 @@
 -- Loading in memory goes over the labels one by one: each gets its domain cell and its counters, and is deleted by its owner
 -- where a count is 0.
-use Prim.Native.Nat.{ℕ, zero, suc, _+_, _-_, _<_, _≤_}
+use Prim.Native.Nat.{ℕ, zero, suc, _-_, _<_}
 use mathlib.Core.Bool.{Bool, true, false, cond, _&&_}
 use mathlib.Core.List.{List, [], _∷_}
 use mathlib.Core.Logic.{_⊎_, inl, inr, ⊎-elim}
@@ -10,41 +10,35 @@ use native.Mathlib.Nat.{not-suc-le-zero}
 use native.Mathlib.Omega.{arith}
 use borrow.Author.Tests.{eq-eqb, ne-eqb}
 use lib.Dec.{eqb}
-use lib.ListN.{length}
 use Rattle.base.proofs.Below.{below-cases}
 use Rattle.base.proofs.Bools.{clash, and-false-left}
 use Rattle.disac4.specs.Loading.{unsupported}
 use Rattle.disac4.specs.System.{System}
 use Rattle.network.specs.Network.{Label, label, supportCount}
+use Rattle.cells.proofs.Stores.{store-same, store-other, store-apart}
 use Rattle.cells.specs.Layout.{WORKERS, LOG, WORK, DOMAIN, COUNTERS, HEADS, TAIL, LOGEND}
-use Rattle.cells.specs.Lists.{deleteM}
+use Rattle.counters.proofs.Kept.{row-heads}
 use Rattle.counters.specs.Load.{countM, loadLabelM, loadValuesM, loadVariablesM, loadM}
 use Rattle.cells.specs.Memory.{Mem, store}
 use Rattle.cells.specs.View.{LISTED, counterRow}
-use Rattle.refinement.proofs.Frames.{store-same, store-other, Apart, delete-apart, delete-domain, delete-counter}
-use Rattle.refinement.proofs.Growing.{Both, both-none, both-more, both-delete}
+use Rattle.refinement.proofs.Frames.{Apart, deleteIf, delete-if-apart}
+use Rattle.refinement.proofs.Growing.{Both, both-none, Appends, appends-if}
 use Rattle.refinement.specs.Inv.{Small}
 use Rattle.index.specs.Index.{Paired}
-use Rattle.refinement.proofs.Labelwise.{row-heads, own-row, Shows, both-other}
-use Rattle.refinement.proofs.Walking.{loop, walk}
+use Rattle.refinement.proofs.Labelwise.{own-row, Shows, both-other, shows-if}
+use Rattle.refinement.proofs.Walking.{loop, walk, is-loop}
 
 module _ (sys : System) where
   values-loop : (x n : ℕ) (m : Mem) → loadValuesM sys x n m ≡ loop (loadLabelM sys x) n m
   unfolding loadValuesM
-  values-loop x zero m = refl
-  values-loop x (suc n) m = ap (loadLabelM sys x n) (values-loop x n m)
-
-  variables-walk : (n : ℕ) (m : Mem) → loadVariablesM sys n m ≡ walk (sys .net) (loadLabelM sys) n m
-  unfolding loadVariablesM
-  variables-walk zero m = refl
-  variables-walk (suc n) m =
-      values-loop n (sys .net .size n) (loadVariablesM sys n m)
-      ∙ ap (loop (loadLabelM sys n) (sys .net .size n)) (variables-walk n m)
+  values-loop x = is-loop (loadLabelM sys x) (loadValuesM sys x) (λ m. refl) (λ n m. refl)
 
   -- the two loops are a walk over the labels
   pub load-walk : (m : Mem) → loadM sys m ≡ walk (sys .net) (loadLabelM sys) (sys .net .variables) m
-  unfolding loadM
-  load-walk m = variables-walk (sys .net .variables) m
+  unfolding loadM loadVariablesM
+  load-walk =
+      is-loop (λ x. loop (loadLabelM sys x) (sys .net .size x)) (loadVariablesM sys) (λ m. refl)
+      (λ x m. values-loop x (sys .net .size x) (loadVariablesM sys x m)) (sys .net .variables)
 
   -- ---- the counters of one label
 
@@ -103,16 +97,10 @@ module _ (sys : System) where
     -- a step leaves alone what stands apart from its label and its owner's lists
     pub load-apart : (m : Mem) (r a b : ℕ) → Apart sys m (sys .owner x - 1) x v r a b → loadLabelM sys x v m r a b ≡ m r a b
     unfolding loadLabelM counterRow
-    load-apart m r a b p = go (unsupported (sys .net) x v)
-      where
-        put : listed m r a b ≡ m r a b
-        put =
-            count-apart (sys .net .variables) (store m DOMAIN x v LISTED) r a b (p .counter)
-            ∙ store-other m DOMAIN x v LISTED r a b (p .domain)
-
-        go : (z : Bool) → cond z (deleteM (sys .owner x - 1) x v (listed m)) (listed m) r a b ≡ m r a b
-        go true = delete-apart sys (sys .owner x - 1) x v (listed m) m r a b p ∙ put
-        go false = put
+    load-apart m r a b p =
+        delete-if-apart sys (sys .owner x - 1) x v (listed m) (unsupported (sys .net) x v) m r a b p
+        ∙ count-apart (sys .net .variables) (store m DOMAIN x v LISTED) r a b (p .counter)
+        ∙ store-other m DOMAIN x v LISTED r a b (p .domain)
 
     -- ---- its cells and lists
 
@@ -121,7 +109,17 @@ module _ (sys : System) where
       pub load-shows : (d : ℕ) (c : ℕ → ℕ) (m : Mem) → Shows sys m₀ x v d c m
           → Shows sys m₀ x v (cond (unsupported (sys .net) x v) 0 LISTED) (supportCount (sys .net) x v) (loadLabelM sys x v m)
       unfolding loadLabelM
-      load-shows d c m s = go (unsupported (sys .net) x v)
+      load-shows d c m s =
+          shows-if sys m₀ (sys .owner x - 1) x v LISTED (supportCount (sys .net) x v) (unsupported (sys .net) x v) (listed m)
+          (record {
+            heads = λ a b.
+                count-apart (sys .net .variables) (store m DOMAIN x v LISTED) HEADS a b (λ y k e. omega arith) ∙ s .heads a b;
+            domain = count-apart (sys .net .variables) (store m DOMAIN x v LISTED) DOMAIN x v (λ y k e. omega arith)
+                ∙ store-same m DOMAIN x v LISTED;
+            counter = λ y k.
+                ap (λ (a : ℕ). listed m COUNTERS a v) (sym (rows y))
+                ∙ count-at (store m DOMAIN x v LISTED) apart (sys .net .variables) y (small .links-inside x y k .1) k;
+          })
         where
           rows : (y : ℕ) → counterRow (store m DOMAIN x v LISTED) x y ≡ counterRow m₀ x y
           rows y = row-heads m₀ (store m DOMAIN x v LISTED) x y (s .heads x y)
@@ -130,76 +128,39 @@ module _ (sys : System) where
               → counterRow (store m DOMAIN x v LISTED) x y ≡ counterRow (store m DOMAIN x v LISTED) x y′ → y ≡ y′
           apart y y′ k k′ e = own-row sys small m₀ paired x y x y′ k k′ (sym (rows y) ∙ e ∙ rows y′) .1
 
-          heads : (a b : ℕ) → listed m HEADS a b ≡ m₀ HEADS a b
-          heads a b =
-              count-apart (sys .net .variables) (store m DOMAIN x v LISTED) HEADS a b (λ y k e. omega arith) ∙ s .heads a b
-
-          counter : (y : ℕ) → sys .net .linked x y ≡ true → listed m COUNTERS (counterRow m₀ x y) v ≡ supportCount (sys .net) x v y
-          counter y k =
-              ap (λ (a : ℕ). listed m COUNTERS a v) (sym (rows y))
-              ∙ count-at (store m DOMAIN x v LISTED) apart (sys .net .variables) y (small .links-inside x y k .1) k
-
-          go : (z : Bool)
-              → Shows sys m₀ x v (cond z 0 LISTED) (supportCount (sys .net) x v)
-              (cond z (deleteM (sys .owner x - 1) x v (listed m)) (listed m))
-          go true = record {
-            heads = λ a b. delete-apart sys (sys .owner x - 1) x v (listed m) m HEADS a b (omega arith) ∙ heads a b;
-            domain = delete-domain sys (sys .owner x - 1) x v (listed m);
-            counter = λ y k. delete-counter sys (sys .owner x - 1) x v (listed m) (counterRow m₀ x y) v ∙ counter y k;
-          }
-          go false = record {
-            heads = heads;
-            domain = count-apart (sys .net .variables) (store m DOMAIN x v LISTED) DOMAIN x v (λ y k e. omega arith)
-                ∙ store-same m DOMAIN x v LISTED;
-            counter = counter;
-          }
-
       -- it is appended to its owner's lists exactly if it is unsupported
       pub load-both : (i : ℕ) (m : Mem)
-          → m WORKERS i LOGEND + length (cond (eqb (sys .owner x) (suc i) && unsupported (sys .net) x v) (label x v ∷ []) []) ≤ 512
-          → m WORKERS i TAIL + length (cond (eqb (sys .owner x) (suc i) && unsupported (sys .net) x v) (label x v ∷ []) []) ≤ 512
-          → Both sys i m (loadLabelM sys x v m)
+          → Appends sys i m (loadLabelM sys x v m)
           (cond (eqb (sys .owner x) (suc i) && unsupported (sys .net) x v) (label x v ∷ []) [])
       unfolding loadLabelM
-      load-both i m room room′ =
+      load-both i m =
           elim (ℕ-discrete (sys .owner x) (suc i)) [
             | yes e ↦
-                let own : eqb (sys .owner x) (suc i) ≡ true = eq-eqb (sys .owner x) (suc i) e in
                 let row : sys .owner x - 1 ≡ i = omega arith in
-                subst (λ b. Both sys i m (loadLabelM sys x v m) (appended (b && unsupported (sys .net) x v))) (sym own)
-                (subst (λ (j : ℕ). Both sys i m (step j (unsupported (sys .net) x v)) (appended (unsupported (sys .net) x v))) (sym row)
-                (go (unsupported (sys .net) x v)
-                (subst (λ b. m WORKERS i LOGEND + length (appended (b && unsupported (sys .net) x v)) ≤ 512) own room)
-                (subst (λ b. m WORKERS i TAIL + length (appended (b && unsupported (sys .net) x v)) ≤ 512) own room′)))
+                subst (λ b. Appends sys i m (loadLabelM sys x v m) (appended (b && unsupported (sys .net) x v)))
+                (sym (eq-eqb (sys .owner x) (suc i) e))
+                (subst
+                (λ (j : ℕ). Appends sys i m (deleteIf (unsupported (sys .net) x v) j x v (listed m)) (appended (unsupported (sys .net) x v)))
+                (sym row)
+                (appends-if sys i (unsupported (sys .net) x v) m (listed m) x v h l (omega (arith, small .few-values x h)) kept))
             | no d ↦
-                subst (λ b. Both sys i m (loadLabelM sys x v m) (appended b))
+                subst (λ b. Appends sys i m (loadLabelM sys x v m) (appended b))
                 (sym (and-false-left (unsupported (sys .net) x v) (ne-eqb (sys .owner x) (suc i) d)))
-                (both-other sys m (loadLabelM sys x v m) i (sys .owner x - 1) x v (load-apart m)
+                (λ room room′.
+                both-other sys m (loadLabelM sys x v m) i (sys .owner x - 1) x v (load-apart m)
                 (λ e. d (omega (arith, small .sound .owned x h .above))))
           ]
         where
           appended : Bool → List Label
           appended b = cond b (label x v ∷ []) []
 
-          step : ℕ → Bool → Mem
-          step j b = cond b (deleteM j x v (listed m)) (listed m)
-
           put : (r b : ℕ) → (r ≡ COUNTERS → ⊥) × (r ≡ DOMAIN → ⊥) → listed m r i b ≡ m r i b
           put r b p =
               count-apart (sys .net .variables) (store m DOMAIN x v LISTED) r i b (λ y k e. absurd (p .0 e))
-              ∙ store-other m DOMAIN x v LISTED r i b (λ e. absurd (p .1 e))
+              ∙ store-apart m DOMAIN x v LISTED r i b (p .1)
 
           kept : Both sys i m (listed m) []
           kept =
               both-none sys i m (listed m) (put WORKERS LOGEND (omega arith))
               (put WORKERS TAIL (omega arith))
               (λ d. put LOG d (omega arith)) (λ d. put WORK d (omega arith))
-
-          go : (z : Bool) → m WORKERS i LOGEND + length (appended z) ≤ 512 → m WORKERS i TAIL + length (appended z) ≤ 512
-              → Both sys i m (step i z) (appended z)
-          go true room room′ =
-              both-more sys i m (listed m) (deleteM i x v (listed m)) [] (label x v ∷ []) kept
-              (both-delete sys i (listed m) x v h l (omega (arith, small .few-values x h))
-              (omega (arith, put WORKERS LOGEND (omega arith)))
-              (omega (arith, put WORKERS TAIL (omega arith))))
-          go false room room′ = kept

@@ -1,10 +1,10 @@
 -- A walk over the labels in memory whose steps each change what is their label's own and the lists of one row: the labels
 -- don't disturb one another.
-use Prim.Native.Nat.{ℕ, _+_, _-_, _*_, _<_, _≤_}
-use mathlib.Core.Bool.{true, false}
+use Prim.Native.Nat.{ℕ, _+_, _<_}
+use mathlib.Core.Bool.{Bool, true, false, cond}
 use mathlib.Core.List.{List, [], _++_}
 use mathlib.Core.Logic.{_⊎_, inl, inr}
-use mathlib.Core.Path.{_≡_, refl, sym, _∙_, ap}
+use mathlib.Core.Path.{_≡_, refl, sym, _∙_, ap, subst}
 use native.Mathlib.Decide.{decLt}
 use native.Mathlib.Omega.{arith}
 use borrow.Author.Tests.{lt-ltb, le-ltb}
@@ -19,26 +19,15 @@ use Rattle.network.specs.Network.{Label, loaded}
 use Rattle.cells.specs.Layout.{WORKERS, LOG, WORK, DOMAIN, COUNTERS, HEADS, TAIL, LOGEND}
 use Rattle.cells.specs.Memory.{Mem}
 use Rattle.cells.specs.View.{counterRow}
-use Rattle.refinement.proofs.Frames.{Apart, domain-apart}
-use Rattle.refinement.proofs.Growing.{Both, both-none, both-more}
+use Rattle.counters.proofs.Kept.{row-heads}
+use Rattle.refinement.proofs.Frame.{SameHeads}
+use Rattle.refinement.proofs.Frames.{Apart, domain-apart, deleteIf, delete-apart, delete-domain, delete-counter}
+use Rattle.refinement.proofs.Growing.{Both, both-none, both-more, Appends}
 use Rattle.refinement.specs.Inv.{Small}
 use Rattle.index.specs.Index.{Paired}
 use Rattle.refinement.proofs.Walking.{walk, gathered, Others, walk-keeps, walk-at, walk-gather}
 
 -- ---- the rows of counters
-
--- the same index gives the same row
-pub row-heads : (m n : Mem) (x y : ℕ) → n HEADS x y ≡ m HEADS x y → counterRow n x y ≡ counterRow m x y
-unfolding counterRow
-row-heads m n x y e = ap (λ (h : ℕ). 2 * h - 1 + one (ltb y x)) e
-
--- the same index pairs alike
-pub paired-heads : (sys : System) (m n : Mem) → ((a b : ℕ) → n HEADS a b ≡ m HEADS a b) → Paired sys m → Paired sys n
-paired-heads sys m n e p = record {
-  low = λ x y l. omega (arith, e x y, p .low x y l);
-  high = λ x y l. omega (arith, e x y, p .high x y l);
-  own = λ x y x′ y′ l l′ q. p .own x y x′ y′ l l′ (sym (e x y) ∙ q ∙ e x′ y′);
-}
 
 one-side : (x y : ℕ) → (x ≡ y → ⊥) → one (ltb y x) ≡ one (ltb x y) → ⊥
 one-side x y n e =
@@ -78,10 +67,23 @@ pub record Shows (sys : System) (m₀ : Mem) (x v d : ℕ) (c : ℕ → ℕ) (m 
   pub domain : m DOMAIN x v ≡ d
   pub counter : (y : ℕ) → sys .net .linked x y ≡ true → m COUNTERS (counterRow m₀ x y) v ≡ c y
 
--- at the start
-pub shows-start : (sys : System) (m : Mem) (x v : ℕ)
-    → Shows sys m x v (m DOMAIN x v) (λ y. m COUNTERS (counterRow m x y) v) m
-shows-start sys m x v = record { heads = λ a b. refl; domain = refl; counter = λ y l. refl }
+-- what is the label's own is that of `m₀`
+abbrev pub As : System → Mem → ℕ → ℕ → Mem → Type 0
+As sys m₀ x v m = Shows sys m₀ x v (m₀ DOMAIN x v) (λ y. m₀ COUNTERS (counterRow m₀ x y) v) m
+
+-- so it is at the start
+as-start : (sys : System) (m : Mem) (x v : ℕ) → As sys m x v m
+as-start sys m x v = record { heads = λ a b. refl; domain = refl; counter = λ y l. refl }
+
+-- a label that is deleted if a test holds
+pub shows-if : (sys : System) (m₀ : Mem) (i x v d : ℕ) (c : ℕ → ℕ) (z : Bool) (m : Mem) → Shows sys m₀ x v d c m
+    → Shows sys m₀ x v (cond z 0 d) c (deleteIf z i x v m)
+shows-if sys m₀ i x v d c true m s = record {
+  heads = λ a b. delete-apart sys i x v m m HEADS a b (omega arith) ∙ s .heads a b;
+  domain = delete-domain sys i x v m;
+  counter = λ y k. delete-counter sys i x v m (counterRow m₀ x y) v ∙ s .counter y k;
+}
+shows-if sys m₀ i x v d c false m s = s
 
 module _ (sys : System) (small : Small sys) (f : ℕ → ℕ → Mem → Mem) (row : ℕ → ℕ) where
   -- each step leaves alone what stands apart from its label and its row's lists
@@ -89,15 +91,14 @@ module _ (sys : System) (small : Small sys) (f : ℕ → ℕ → Mem → Mem) (r
   Local = (x v : ℕ) → x < sys .net .variables → v < sys .net .size x → (m : Mem) (r a b : ℕ)
       → Apart sys m (row x) x v r a b → f x v m r a b ≡ m r a b
 
-  module _ (local : Local) (m₀ : Mem) (paired : Paired sys m₀) where
-    abbrev SameHeads : Mem → Type 0
-    SameHeads m = (a b : ℕ) → m HEADS a b ≡ m₀ HEADS a b
-
-    keeps-heads : (x v : ℕ) → x < sys .net .variables → v < sys .net .size x → (m : Mem) → SameHeads m
-        → SameHeads (f x v m)
+  -- the walk from `m₀` ends in `m₁`
+  module _ (local : Local) (m₀ : Mem) (paired : Paired sys m₀) (m₁ : Mem)
+      (walked : m₁ ≡ walk (sys .net) f (sys .net .variables) m₀) where
+    keeps-heads : (x v : ℕ) → x < sys .net .variables → v < sys .net .size x → (m : Mem) → SameHeads m₀ m
+        → SameHeads m₀ (f x v m)
     keeps-heads x v h l m s a b = local x v h l m HEADS a b (omega arith) ∙ s a b
 
-    moved : (i x v r a b : ℕ) (m : Mem) → SameHeads m → Apart sys m₀ i x v r a b → Apart sys m i x v r a b
+    moved : (i x v r a b : ℕ) (m : Mem) → SameHeads m₀ m → Apart sys m₀ i x v r a b → Apart sys m i x v r a b
     moved i x v r a b m s p = record {
       domain = p .domain;
       counter = λ y l e q. p .counter y l e (q ∙ row-heads m₀ m x y (s x y));
@@ -110,9 +111,10 @@ module _ (sys : System) (small : Small sys) (f : ℕ → ℕ → Mem → Mem) (r
     -- a point that stands apart from all labels is left alone
     pub walk-apart : (r a b : ℕ)
         → ((x v : ℕ) → x < sys .net .variables → v < sys .net .size x → Apart sys m₀ (row x) x v r a b)
-        → walk (sys .net) f (sys .net .variables) m₀ r a b ≡ m₀ r a b
+        → m₁ r a b ≡ m₀ r a b
     walk-apart r a b p =
-        walk-keeps (sys .net) f (λ m. SameHeads m × (m r a b ≡ m₀ r a b))
+        ap (λ (m : Mem). m r a b) walked
+        ∙ walk-keeps (sys .net) f (λ m. SameHeads m₀ m × (m r a b ≡ m₀ r a b))
         (λ x v h l m s.
         (keeps-heads x v h l m (s .0), local x v h l m r a b (moved (row x) x v r a b m (s .0) (p x v h l)) ∙ s .1))
         m₀ ((λ a b. refl), refl) .1
@@ -136,36 +138,25 @@ module _ (sys : System) (small : Small sys) (f : ℕ → ℕ → Mem → Mem) (r
     }
 
     -- each label has, at the end, what its own step gives it
-    pub walk-shows : (x v d d′ : ℕ) (c c′ : ℕ → ℕ) → x < sys .net .variables → v < sys .net .size x
-        → ((m : Mem) → Shows sys m₀ x v d c m → Shows sys m₀ x v d′ c′ (f x v m)) → Shows sys m₀ x v d c m₀
-        → Shows sys m₀ x v d′ c′ (walk (sys .net) f (sys .net .variables) m₀)
-    walk-shows x v d d′ c c′ h l s p =
-        walk-at (sys .net) f (Shows sys m₀ x v d c) (Shows sys m₀ x v d′ c′) x v h l (shows-others x v d c)
-        (shows-others x v d′ c′) s m₀ p
+    pub walk-shows : (x v d : ℕ) (c : ℕ → ℕ) → x < sys .net .variables → v < sys .net .size x
+        → ((m : Mem) → As sys m₀ x v m → Shows sys m₀ x v d c (f x v m)) → Shows sys m₀ x v d c m₁
+    walk-shows x v d c h l s =
+        subst (Shows sys m₀ x v d c) (sym walked)
+        (walk-at (sys .net) f (As sys m₀ x v) (Shows sys m₀ x v d c) x v h l (shows-others x v _ _) (shows-others x v d c) s m₀
+        (as-start sys m₀ x v))
 
     -- the lists of row `i` grow by what the steps append, as long as there is room
     pub walk-both : (i : ℕ) (g : ℕ → ℕ → List Label)
-        → ((x v : ℕ) → x < sys .net .variables → v < sys .net .size x → (m : Mem)
-        → Shows sys m₀ x v (m₀ DOMAIN x v) (λ y. m₀ COUNTERS (counterRow m₀ x y) v) m
-        → m WORKERS i LOGEND + length (g x v) ≤ 512 → m WORKERS i TAIL + length (g x v) ≤ 512
-        → Both sys i m (f x v m) (g x v))
-        → m₀ WORKERS i LOGEND + length (gathered (sys .net) g) ≤ 512
-        → m₀ WORKERS i TAIL + length (gathered (sys .net) g) ≤ 512
-        → Both sys i m₀ (walk (sys .net) f (sys .net .variables) m₀) (gathered (sys .net) g)
-    walk-both i g s room room′ =
-        walk-gather (sys .net) f (λ x v. Shows sys m₀ x v (m₀ DOMAIN x v) (λ y. m₀ COUNTERS (counterRow m₀ x y) v))
-        (λ x v. shows-others x v (m₀ DOMAIN x v) (λ y. m₀ COUNTERS (counterRow m₀ x y) v))
-        Roomy g step m₀ (λ x v h l. shows-start sys m₀ x v)
-        (λ k k′. both-none sys i m₀ m₀ refl refl (λ d. refl) (λ d. refl))
-        room room′
+        → ((x v : ℕ) → x < sys .net .variables → v < sys .net .size x → (m : Mem) → As sys m₀ x v m
+        → Appends sys i m (f x v m) (g x v))
+        → Appends sys i m₀ m₁ (gathered (sys .net) g)
+    walk-both i g s =
+        subst (λ m. Appends sys i m₀ m (gathered (sys .net) g)) (sym walked)
+        (walk-gather (sys .net) f (As sys m₀) (λ x v. shows-others x v _ _) (λ l m. Appends sys i m₀ m l) g step m₀
+        (λ x v h l. as-start sys m₀ x v) (λ k k′. both-none sys i m₀ m₀ refl refl (λ d. refl) (λ d. refl)))
       where
-        Roomy : List Label → Mem → Type 0
-        Roomy l m =
-            m₀ WORKERS i LOGEND + length l ≤ 512 → m₀ WORKERS i TAIL + length l ≤ 512 → Both sys i m₀ m l
-
         step : (x v : ℕ) → x < sys .net .variables → v < sys .net .size x → (l : List Label) (m : Mem)
-            → Shows sys m₀ x v (m₀ DOMAIN x v) (λ y. m₀ COUNTERS (counterRow m₀ x y) v) m → Roomy l m
-            → Roomy (l ++ g x v) (f x v m)
+            → As sys m₀ x v m → Appends sys i m₀ m l → Appends sys i m₀ (f x v m) (l ++ g x v)
         step x v h k l m q b room room′ =
             let fit : length (l ++ g x v) ≡ length l + length (g x v) = length-append l (g x v) in
             let so-far : Both sys i m₀ m l = b (omega arith) (omega arith) in

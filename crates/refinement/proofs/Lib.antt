@@ -1,4 +1,5 @@
 pub mod Actors
+pub mod Allowed
 pub mod Answered
 pub mod Answering
 pub mod Asked
@@ -6,15 +7,12 @@ pub mod Behind
 pub mod Capacity
 pub mod ChannelRows
 pub mod ControllerRead
-pub mod Copied
-pub mod Filled
 pub mod Frame
 pub mod Frames
 pub mod Growing
 pub mod Grown
 pub mod Hearing
 pub mod HeldPoll
-pub mod IndexKept
 pub mod Keeps
 pub mod LabelLoad
 pub mod Labelwise
@@ -25,12 +23,8 @@ pub mod Marks
 pub mod Outgoing
 pub mod PollRead
 pub mod Polling
-pub mod Queue
-pub mod Queues
 pub mod Reading
 pub mod Refined
-pub mod Room
-pub mod RowsKept
 pub mod Runs
 pub mod Seen
 pub mod Sending
@@ -38,7 +32,6 @@ pub mod Sent
 pub mod Start
 pub mod Static
 pub mod Stepped
-pub mod Stores
 pub mod Taken
 pub mod Touching
 pub mod TreatKeeps

@@ -1,40 +1,42 @@
 -- Loading in memory is loading, from a memory that holds the plan's index and is 0 elsewhere.
-use Prim.Native.Nat.{ℕ, zero, suc, _+_, _-_, _<_, _≤_}
+use Prim.Native.Nat.{ℕ, suc, _-_, _<_, _≤_}
 use mathlib.Core.Bool.{Bool, true, false, cond, _&&_, not}
 use mathlib.Core.List.{List, [], _∷_, _++_}
 use mathlib.Core.Option.{none}
-use mathlib.Core.Path.{_≡_, refl, sym, _∙_, ap, subst}
+use mathlib.Core.Path.{_≡_, refl, sym, _∙_, ap}
 use native.Mathlib.Omega.{arith}
-use borrow.Author.Tests.{eqb-true, le-leb}
+use borrow.Author.Tests.{eqb-true}
 use lib.Dec.{eqb}
 use lib.ListN.{length}
-use Rattle.base.proofs.Bools.{clash, refuted, and-intro, and-false-left, and-false-right}
-use Rattle.base.proofs.Choice.{cond-false}
+use Rattle.base.proofs.Below.{gather-none}
+use Rattle.base.proofs.Bools.{clash, refuted, and-false-left, and-false-right}
+use Rattle.base.proofs.Choice.{cond-false, cond-same, between-intro}
 use Rattle.base.proofs.Row.{bit-past}
 use Rattle.base.proofs.Sums.{sum-part, sum-zero}
-use Rattle.base.specs.Below.{one, gatherBelow}
+use Rattle.base.specs.Below.{one}
 use Rattle.base.specs.Row.{bit}
 use Rattle.disac4.proofs.DomainSize.{load-size, deletions-loaded}
 use Rattle.disac4.specs.Loading.{loadedCounter, unsupported, loadedDeletions, load}
-use Rattle.disac4.specs.State.{list, poll}
 use Rattle.disac4.specs.System.{System}
-use Rattle.disac4.specs.declared.Tally.{Tally}
 use Rattle.network.proofs.Loaded.{loaded-variable, loaded-value}
 use Rattle.network.proofs.Supports.{support-count}
 use Rattle.network.specs.Network.{Label, label, loaded, labelsWhere, supports, supportCount}
-use Rattle.cells.specs.Layout.{WORKERS, CURSORS, BOUNDS, LOG, WORK, OUT, WANTED, DOMAIN, COUNTERS, HEADS, HEAD, TAIL, LOGEND, SENDS, LISTS, HELD, POLLS, OUTEND, OUTREAD}
+use Rattle.cells.proofs.Queue.{labels-none, queue-none}
+use Rattle.cells.specs.Layout.{WORKERS, CURSORS, BOUNDS, LOG, WORK, OUT, WANTED, DOMAIN, COUNTERS, HEADS, HEAD, TAIL, LOGEND, SENDS, LISTS, HELD, OUTEND}
+use Rattle.counters.proofs.Kept.{row-heads}
 use Rattle.counters.specs.Load.{loadLabelM, loadM}
 use Rattle.cells.specs.Memory.{Mem}
 pub use Rattle.refinement.specs.Run.{freshTally as startTally}
-use Rattle.cells.specs.View.{LISTED, isWorker, labelsBetween, listAt, messageOf, pollAt, counterRow, viewCounter, viewWork, viewSend, viewHeld, viewLists, viewLetters, viewPolls, viewOut, viewChannel, view}
+use Rattle.cells.specs.View.{LISTED, isWorker, labelsBetween, counterRow, viewCounter, viewWork, viewSend, viewHeld, viewLists, viewLetters, viewPolls, viewOut, viewChannel, view}
+use Rattle.refinement.proofs.Actors.{atActor, row-of}
 use Rattle.refinement.proofs.Frames.{Apart}
-use Rattle.refinement.proofs.Growing.{gather-ext, between-none, labels-none, Grown, Both}
+use Rattle.refinement.proofs.Growing.{Longer, Both}
 use Rattle.refinement.specs.Inv.{Small}
 use Rattle.index.specs.Index.{Paired}
+use Rattle.refinement.proofs.Grown.{lettersQueue, outQueue, pollsQueue}
 use Rattle.refinement.proofs.LabelLoad.{load-walk, load-apart, load-shows, load-both}
-use Rattle.refinement.proofs.Labelwise.{row-heads, unloaded-apart, Shows, shows-start, walk-apart, walk-shows, walk-both}
-use Rattle.refinement.proofs.Queues.{queue, workFrom, sendFrom}
-use Rattle.refinement.proofs.Unmoved.{cond-same, worker-row, Unmoved}
+use Rattle.refinement.proofs.Labelwise.{unloaded-apart, Shows, walk-apart, walk-shows, walk-both, Local}
+use Rattle.refinement.proofs.Unmoved.{Unmoved}
 
 -- the regions before the index are 0
 abbrev pub Blank : Mem → Type 0
@@ -45,42 +47,30 @@ no-deletions : (sys : System) (k : ℕ) → ((x : ℕ) → x < sys .net .variabl
     → loadedDeletions sys k ≡ []
 unfolding loadedDeletions labelsWhere
 no-deletions sys k none-owned =
-    gather-ext (sys .net .variables) _ (λ x. [])
+    gather-none (sys .net .variables) _
     (λ x h.
-    gather-ext (sys .net .size x) _ (λ v. [])
-    (λ v l. cond-false (label x v ∷ []) [] (and-false-left (unsupported (sys .net) x v) (none-owned x h)))
-    ∙ empty (sys .net .size x))
-    ∙ empty (sys .net .variables)
-  where
-    empty : (n : ℕ) → gatherBelow {A = Label} n (λ (i : ℕ). []) ≡ []
-    empty zero = refl
-    empty (suc n) = ap (λ (l : List Label). l ++ []) (empty n)
+    gather-none (sys .net .size x) _
+    (λ v l. cond-false (label x v ∷ []) [] (and-false-left (unsupported (sys .net) x v) (none-owned x h))))
 
 module _ (sys : System) (small : Small sys) (z : Mem) (paired : Paired sys z) (blank : Blank z) where
   abbrev n : Mem
   n = loadM sys z
 
-  local : (x v : ℕ) → x < sys .net .variables → v < sys .net .size x → (m : Mem) (r a b : ℕ)
-      → Apart sys m (sys .owner x - 1) x v r a b → loadLabelM sys x v m r a b ≡ m r a b
-  local x v h l m r a b p = load-apart sys x v m r a b p
+  local : Local sys small (loadLabelM sys) (λ x. sys .owner x - 1)
+  local x v h l = load-apart sys x v
 
   -- what stands apart from all labels is left alone
   pub loaded-apart : (r a b : ℕ)
       → ((x v : ℕ) → x < sys .net .variables → v < sys .net .size x → Apart sys z (sys .owner x - 1) x v r a b)
       → loadM sys z r a b ≡ z r a b
-  loaded-apart r a b p =
-      ap (λ (m : Mem). m r a b) (load-walk sys z)
-      ∙ walk-apart sys small (loadLabelM sys) (λ x. sys .owner x - 1) local z paired r a b p
+  loaded-apart = walk-apart sys small (loadLabelM sys) (λ x. sys .owner x - 1) local z paired n (load-walk sys z)
 
   -- each label's own cells
   pub loaded-shows : (x v : ℕ) → x < sys .net .variables → v < sys .net .size x
       → Shows sys z x v (cond (unsupported (sys .net) x v) 0 LISTED) (supportCount (sys .net) x v) (loadM sys z)
   loaded-shows x v h l =
-      subst (Shows sys z x v (cond (unsupported (sys .net) x v) 0 LISTED) (supportCount (sys .net) x v))
-      (sym (load-walk sys z))
-      (walk-shows sys small (loadLabelM sys) (λ x. sys .owner x - 1) local z paired x v (z DOMAIN x v)
-      (cond (unsupported (sys .net) x v) 0 LISTED) (λ y. z COUNTERS (counterRow z x y) v) (supportCount (sys .net) x v) h l
-      (load-shows sys x v small z paired h l (z DOMAIN x v) (λ y. z COUNTERS (counterRow z x y) v)) (shows-start sys z x v))
+      walk-shows sys small (loadLabelM sys) (λ x. sys .owner x - 1) local z paired n (load-walk sys z) x v _ _ h l
+      (load-shows sys x v small z paired h l (z DOMAIN x v) (λ y. z COUNTERS (counterRow z x y) v))
 
   -- a row deletes at most as many labels as were loaded
   few-deleted : (i : ℕ) → i < sys .workers → length (loadedDeletions sys (suc i)) ≤ 512
@@ -97,12 +87,11 @@ module _ (sys : System) (small : Small sys) (z : Mem) (paired : Paired sys z) (b
   pub loaded-both : (i : ℕ) → i < sys .workers → Both sys i z (loadM sys z) (loadedDeletions sys (suc i))
   unfolding loadedDeletions labelsWhere
   loaded-both i h =
-      subst (λ m. Both sys i z m (loadedDeletions sys (suc i))) (sym (load-walk sys z))
-      (walk-both sys small (loadLabelM sys) (λ x. sys .owner x - 1) local z paired i
+      walk-both sys small (loadLabelM sys) (λ x. sys .owner x - 1) local z paired n (load-walk sys z) i
       (λ x v. cond (eqb (sys .owner x) (suc i) && unsupported (sys .net) x v) (label x v ∷ []) [])
       (λ x v k l m s. load-both sys x v small z paired k l i m)
       (omega (arith, blank WORKERS i LOGEND (omega arith), few-deleted i h))
-      (omega (arith, blank WORKERS i TAIL (omega arith), few-deleted i h)))
+      (omega (arith, blank WORKERS i TAIL (omega arith), few-deleted i h))
 
   -- what else the view shows stays
   pub loaded-unmoved : Unmoved z (loadM sys z)
@@ -159,13 +148,13 @@ module _ (sys : System) (small : Small sys) (z : Mem) (paired : Paired sys z) (b
       go true e false f = sym (unlinked x v y f)
       go false e b f = refl
 
-  queue-loaded : (q col : ℕ) (from : Mem → ℕ → ℕ) → ((i : ℕ) → from n i ≡ 0) → ((i : ℕ) → z WORKERS i col ≡ 0)
-      → ((i : ℕ) → i < sys .workers → Grown sys q col i z n (loadedDeletions sys (suc i)))
-      → (k : ℕ) → queue sys q col from n k ≡ loadedDeletions sys k
+  -- the lists of an actor, from a place of its row of region `q` to the end that a column keeps
+  queue-loaded : (q col : ℕ) (from : ℕ → ℕ) → ((i : ℕ) → from i ≡ 0) → ((i : ℕ) → z WORKERS i col ≡ 0)
+      → ((i : ℕ) → i < sys .workers → Longer sys q col i z n (loadedDeletions sys (suc i)))
+      → (k : ℕ) → atActor sys (λ i. labelsBetween n q i (from i) (n WORKERS i col)) [] k ≡ loadedDeletions sys k
   queue-loaded q col from start end grown k = go (isWorker sys k) refl
     where
-      at-row : (i : ℕ) → i < sys .workers
-          → labelsBetween n q i (from n i) (n WORKERS i col) ≡ loadedDeletions sys (suc i)
+      at-row : (i : ℕ) → i < sys .workers → labelsBetween n q i (from i) (n WORKERS i col) ≡ loadedDeletions sys (suc i)
       at-row i h =
           ap (λ (a : ℕ). labelsBetween n q i a (n WORKERS i col)) (start i)
           ∙ grown i h .new 0 (omega arith)
@@ -173,17 +162,16 @@ module _ (sys : System) (small : Small sys) (z : Mem) (paired : Paired sys z) (b
           (labels-none z q i 0 (z WORKERS i col) (omega (arith, end i)))
 
       go : (b : Bool) → isWorker sys k ≡ b
-          → cond b (labelsBetween n q (k - 1) (from n (k - 1)) (n WORKERS (k - 1) col)) [] ≡ loadedDeletions sys k
-      go true e =
-          at-row (k - 1) (worker-row sys k e .0) ∙ ap (loadedDeletions sys) (sym (worker-row sys k e .1))
+          → cond b (labelsBetween n q (k - 1) (from (k - 1)) (n WORKERS (k - 1) col)) [] ≡ loadedDeletions sys k
+      go true e = at-row (k - 1) (row-of sys k e .0) ∙ ap (loadedDeletions sys) (sym (row-of sys k e .1))
       go false e =
           sym (no-deletions sys k (λ x h.
           refuted (eqb (sys .owner x) k) (λ p. clash (owner-worker x h (eqb-true (sys .owner x) k p)) e)))
         where
           owner-worker : (x : ℕ) → x < sys .net .variables → sys .owner x ≡ k → isWorker sys k ≡ true
           owner-worker x h p =
-              and-intro (le-leb 1 k (omega (arith, small .sound .owned x h .above)))
-              (le-leb k (sys .workers) (omega (arith, small .sound .owned x h .within)))
+              between-intro 1 (sys .workers) k (omega (arith, small .sound .owned x h .above))
+              (omega (arith, small .sound .owned x h .within))
 
   -- a column other than the ends of the lists
   pub column-loaded : (i b : ℕ) → (b ≡ TAIL → ⊥) × (b ≡ LOGEND → ⊥) → n WORKERS i b ≡ 0
@@ -204,19 +192,15 @@ module _ (sys : System) (small : Small sys) (z : Mem) (paired : Paired sys z) (b
 
   no-letters : (i k : ℕ) → viewLetters n i k ≡ []
   unfolding viewLetters
-  no-letters i k =
-      between-none (n CURSORS i k) (n WORKERS i SENDS) (λ c. list (listAt n i c))
-      (omega (arith, column-loaded i SENDS (omega arith)))
+  no-letters i k = queue-none (lettersQueue n i k) (omega (arith, column-loaded i SENDS (omega arith)))
 
   no-out : (i : ℕ) → viewOut n i ≡ []
   unfolding viewOut
-  no-out i =
-      between-none (n WORKERS i OUTREAD) (n WORKERS i OUTEND) (λ e. messageOf n i (n OUT i e))
-      (omega (arith, column-loaded i OUTEND (omega arith)))
+  no-out i = queue-none (outQueue n i) (omega (arith, column-loaded i OUTEND (omega arith)))
 
   no-polls : (i : ℕ) → viewPolls n startTally i ≡ []
   unfolding viewPolls
-  no-polls i = between-none (n WORKERS i POLLS + 1) 1 (λ c. poll (pollAt n c)) (omega arith)
+  no-polls i = queue-none (pollsQueue n startTally i) (omega arith)
 
   channel-loaded : (j k : ℕ) → viewChannel sys n startTally j k ≡ []
   unfolding viewChannel
@@ -235,10 +219,10 @@ module _ (sys : System) (small : Small sys) (z : Mem) (paired : Paired sys z) (b
   load-refines = λ ι. record {
     domain = λ x v. domain-loaded x v ι;
     counter = λ x v y. counter-loaded x v y ι;
-    workList = λ k. queue-loaded WORK TAIL workFrom
+    workList = λ k. queue-loaded WORK TAIL (λ i. n WORKERS i HEAD)
         (λ i. column-loaded i HEAD (omega arith)) (λ i. blank WORKERS i TAIL (omega arith))
         (λ i h. loaded-both i h .work) k ι;
-    toSend = λ k. queue-loaded LOG LOGEND sendFrom
+    toSend = λ k. queue-loaded LOG LOGEND (λ i. n BOUNDS i (n WORKERS i SENDS))
         (λ i. loaded-unmoved .bounds i (n WORKERS i SENDS) ∙ blank BOUNDS i (n WORKERS i SENDS) (omega arith))
         (λ i. blank WORKERS i LOGEND (omega arith)) (λ i h. loaded-both i h .log) k ι;
     held = λ k. held-loaded k ι;

@@ -1,8 +1,8 @@
 -- The marks as a row of bits: one more mark, and all of them.
 use Prim.Native.Nat.{ℕ, zero, suc, _+_, _^_, _<_}
-use mathlib.Core.Bool.{Bool, true, false, cond, _&&_}
-use mathlib.Core.Path.{_≡_, refl, sym, _∙_, ap, ap₂, subst}
-use native.Mathlib.Nat.{le-step, le-refl, two-pow-succ}
+use mathlib.Core.Bool.{Bool, true, false, cond}
+use mathlib.Core.Path.{_≡_, refl, sym, _∙_, ap, subst}
+use native.Mathlib.Nat.{two-pow-succ}
 use native.Mathlib.Omega.{arith}
 use borrow.Author.Tests.{eqb-true, eq-eqb}
 use lib.Dec.{eqb}
@@ -15,11 +15,6 @@ use Rattle.base.specs.Below.{allBelow}
 use Rattle.base.specs.Choice.{update}
 use Rattle.base.specs.Row.{bit, rowOf}
 use Rattle.controller.specs.Controller.{withMark}
-
--- tests that agree below the bound all hold alike
-pub all-ext : (n : ℕ) (t u : ℕ → Bool) → ((i : ℕ) → i < n → t i ≡ u i) → allBelow n t ≡ allBelow n u
-all-ext zero t u h = refl
-all-ext (suc n) t u h = ap₂ _&&_ (all-ext n t u (λ i l. h i (le-step l))) (h n (le-refl (suc n)))
 
 module _ (p marks : ℕ) (small : marks < 2 ^ p) where
   -- the marks with that of row `i` are the row of a test changed at `i`

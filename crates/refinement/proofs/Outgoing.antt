@@ -3,13 +3,14 @@ use Prim.Native.Nat.{ℕ, _+_, _-_, _<_, _≤_}
 use mathlib.Core.Path.{_≡_, sym, _∙_, ap}
 use native.Mathlib.Omega.{arith}
 use lib.Dec.{leb}
+use Rattle.base.proofs.Below.{up-to}
+use Rattle.base.proofs.Choice.{everywhere}
 use Rattle.base.specs.Below.{sumBelow, one}
 use Rattle.cells.specs.Layout.{WORKERS, OUT, SENDS, OUTEND, OUTREAD}
 use Rattle.cells.specs.Memory.{Mem}
 use Rattle.cells.specs.View.{LISTMARK}
 use Rattle.refinement.proofs.Frame.{lists-out-kept, lists-out-more, heard-kept}
 use Rattle.refinement.specs.Inv.{listsOut}
-use Rattle.refinement.proofs.Stores.{each-row, up-to}
 
 -- row `i` has put the message `c`
 pub record Put (i c : ℕ) (m m′ : Mem) : Type 0 where
@@ -17,7 +18,7 @@ pub record Put (i c : ℕ) (m m′ : Mem) : Type 0 where
   pub others : (k : ℕ) → (k ≡ i → ⊥) → m′ WORKERS k OUTEND ≡ m WORKERS k OUTEND
   pub read : (k : ℕ) → m′ WORKERS k OUTREAD ≡ m WORKERS k OUTREAD
   pub new : m′ OUT i (m WORKERS i OUTEND) ≡ c
-  pub old : (k e : ℕ) → (e ≡ m WORKERS i OUTEND → k ≡ i → ⊥) → m′ OUT k e ≡ m OUT k e
+  pub old : (k e : ℕ) → (k ≡ i → e ≡ m WORKERS i OUTEND → ⊥) → m′ OUT k e ≡ m OUT k e
 
 module _ (i c : ℕ) (m m′ : Mem) (g : Put i c m m′) where
   -- the list messages among them are still the row's own
@@ -37,7 +38,7 @@ module _ (i c : ℕ) (m m′ : Mem) (g : Put i c m m′) where
       → ((k : ℕ) → (k ≡ i → ⊥) → m′ WORKERS k SENDS ≡ m WORKERS k SENDS) → (k : ℕ)
       → listsOut m k (m WORKERS k OUTEND) ≡ m WORKERS k SENDS → listsOut m′ k (m′ WORKERS k OUTEND) ≡ m′ WORKERS k SENDS
   put-counted own same =
-      each-row
+      everywhere
       (λ k. listsOut m k (m WORKERS k OUTEND) ≡ m WORKERS k SENDS
       → listsOut m′ k (m′ WORKERS k OUTEND) ≡ m′ WORKERS k SENDS) i
       (λ e.
@@ -48,7 +49,7 @@ module _ (i c : ℕ) (m m′ : Mem) (g : Put i c m m′) where
         ap (λ x. one (leb LISTMARK x)) (g .new),
       ))
       (λ k n e.
-      lists-out-kept m m′ k (m WORKERS k OUTEND) (m′ WORKERS k OUTEND) (g .others k n) (λ x l. g .old k x (λ p. n))
+      lists-out-kept m m′ k (m WORKERS k OUTEND) (m′ WORKERS k OUTEND) (g .others k n) (λ x l. g .old k x (λ p q. n p))
       ∙ e
       ∙ sym (same k n))
 
@@ -57,4 +58,4 @@ module _ (i c : ℕ) (m m′ : Mem) (g : Put i c m m′) where
       → sumBelow p (λ k. listsOut m′ k (m′ WORKERS k OUTREAD)) ≡ sumBelow p (λ k. listsOut m k (m WORKERS k OUTREAD))
   put-heard p put =
       heard-kept m m′ p (λ k h. g .read k) (λ k e h l.
-      g .old k e (λ q x. omega (arith, put k h, ap (λ y. m WORKERS y OUTEND) x)))
+      g .old k e (λ x q. omega (arith, put k h, ap (λ y. m WORKERS y OUTEND) x)))

@@ -5,22 +5,22 @@ use mathlib.Core.Option.{none, some}
 use mathlib.Core.Path.{_≡_, refl, sym, _∙_, ap}
 use native.Mathlib.Omega.{arith}
 use borrow.Author.Tests.{ltb-true, ltb-false, ne-eqb}
-use lib.Dec.{ltb, eqb}
+use lib.Dec.{ltb}
 use Rattle.base.proofs.Choice.{cond-false, update-same, update-other}
 use Rattle.disac4.specs.Action.{afterPoll, readFrom, readWorker}
 use Rattle.disac4.specs.State.{Poll}
 use Rattle.disac4.specs.System.{System}
 use Rattle.disac4.specs.declared.Tally.{Tally}
+use Rattle.cells.proofs.Queue.{queue-taken, queue-none}
 use Rattle.cells.specs.Layout.{WORKERS, HELD, POLLS}
 use Rattle.cells.specs.Memory.{Mem, store}
 use Rattle.messages.specs.Messages.{readPollM}
 use Rattle.controller.specs.Controller.{Machine}
-use Rattle.cells.specs.View.{pollAt, view, viewPolls}
+use Rattle.cells.specs.View.{pollAt, viewPolls, view}
 use Rattle.refinement.proofs.ChannelRows.{at-polls, Stays, Beside, channels-update}
 use Rattle.refinement.proofs.Grown.{Grown, pollsQueue, polls-kept, channels-kept}
-use Rattle.refinement.proofs.HeldPoll.{heldAt, held-update}
+use Rattle.refinement.proofs.HeldPoll.{heldAt, held-update, held-row}
 use Rattle.refinement.specs.Inv.{Small, Inv}
-use Rattle.refinement.proofs.Queue.{queue-taken, queue-none}
 use Rattle.refinement.proofs.Seen.{mapO, viewOf, view-parts, rowsOf, channel-rows, same-state}
 
 module _ (sys : System) (small : Small sys) (s : Machine) (inv : Inv sys s) (i : ℕ) (h : i < sys .workers) where
@@ -66,10 +66,7 @@ module _ (sys : System) (small : Small sys) (s : Machine) (inv : Inv sys s) (i :
     listCounter = λ k. refl;
     channel = channels-update sys (rowsOf m t) (rowsOf m′ t) 0 (suc i) (viewPolls m′ t i)
         (at-polls sys (rowsOf m′ t) i h) other-channels;
-    timestamp = refl;
-    pollOpen = refl;
-    marked = λ k. refl;
-    closed = refl;
+    controller = refl;
   })
     where
       here : heldAt m′ i ≡ some newest
@@ -81,9 +78,7 @@ module _ (sys : System) (small : Small sys) (s : Machine) (inv : Inv sys s) (i :
           ∙ ap (λ (n : ℕ). some (pollAt m n)) e
 
       there : (j : ℕ) → j < sys .workers → (j ≡ i → ⊥) → heldAt m′ j ≡ heldAt m j
-      there j hj n =
-          ap (λ (k : ℕ). cond (eqb k 0) none (some (pollAt m k)))
-          (update-other (λ j. m WORKERS j HELD) i (m WORKERS i POLLS + 1) j n)
+      there j hj n = held-row m m′ j (update-other (λ j. m WORKERS j HELD) i (m WORKERS i POLLS + 1) j n) refl
 
   -- reading a poll in memory is reading from the controller
   pub poll-refines : mapO (λ m′. view sys m′ t) (readPollM i (t .timestamp .0) m) ≡ readWorker 0 (suc i) (viewOf sys s)

@@ -3,22 +3,24 @@ use Prim.Native.Nat.{ℕ, _+_, _<_, _≤_}
 use mathlib.Core.Bool.{false, not, false≢true}
 use mathlib.Core.Logic.{inl, inr, ⊎-elim}
 use mathlib.Core.Option.{some}
-use mathlib.Core.Path.{_≡_, refl, sym, _∙_}
+use mathlib.Core.Path.{_≡_, refl, sym}
 use native.Mathlib.Omega.{arith}
 use borrow.Author.Tests.{ltb-true, not-true, ne-eqb}
 use lib.Dec.{ltb}
 use lib.Pow.{pow-pos}
-use Rattle.base.proofs.Bools.{and-left}
+use Rattle.base.proofs.Below.{up-to}
+use Rattle.base.proofs.Bools.{and-left, and-never}
+use Rattle.base.proofs.Choice.{if-some, some-same}
 use Rattle.disac4.specs.System.{System}
 use Rattle.disac4.specs.declared.Tally.{Tally}
+use Rattle.cells.proofs.Stores.{store-same, store-other}
 use Rattle.cells.specs.Layout.{WORKERS, WANTED, LISTS, HELD, POLLS}
 use Rattle.cells.specs.Memory.{Mem, store}
 use Rattle.messages.specs.Messages.{readPollM}
 use Rattle.controller.specs.Controller.{askM, askedT, asksT}
 use Rattle.controller.specs.Controller.{Machine, pollM}
-use Rattle.refinement.proofs.Frame.{OnlyRow, row-action, row-kept, totals-kept, paired-kept, follows-itself}
+use Rattle.refinement.proofs.Frame.{OnlyRow, row-kept, totals-kept, paired-kept, worker-action}
 use Rattle.refinement.specs.Inv.{Row, Polled, Replied, Totals, Inv}
-use Rattle.refinement.proofs.Stores.{and-never, store-same, store-other, up-to, if-some, some-same}
 
 -- ---- a worker reads a poll
 
@@ -45,7 +47,7 @@ module _ (sys : System) (m : Mem) (t : Tally) (i : ℕ) (inv : Inv sys (record {
     };
     wanted = λ n. refl;
     heads = λ x y. refl;
-    domain = λ x v. refl;
+    listed = λ x v e. e;
   }
 
   row : Row sys (heldM i m) t i
@@ -68,14 +70,15 @@ module _ (sys : System) (m : Mem) (t : Tally) (i : ℕ) (inv : Inv sys (record {
   totals =
       totals-kept sys m (heldM i m) t t
       (record {
-        workers = λ k c held polls.
-            store-other (store m WORKERS i POLLS (m WORKERS i POLLS + 1)) WORKERS i HELD (m WORKERS i POLLS + 1) WORKERS k c
-            (λ r e x. held e)
-            ∙ store-other m WORKERS i POLLS (m WORKERS i POLLS + 1) WORKERS k c (λ r e x. polls e);
+        sends = λ k. refl;
+        lists = λ k. refl;
+        out-end = λ k. refl;
+        out-read = λ k. refl;
         cursors = λ j k. refl;
         bounds = λ k n. refl;
-        domain = λ x v. refl;
         out = λ k e. refl;
+        ends = λ k. refl;
+        logged = refl;
       })
       refl (inv .totals)
 
@@ -92,8 +95,8 @@ module _ (sys : System) (m : Mem) (t : Tally) (i : ℕ) (inv : Inv sys (record {
 
   held-keeps : Inv sys (record { mem = heldM i m; tally = t })
   held-keeps =
-      row-action sys (record { mem = m; tally = t }) (record { mem = heldM i m; tally = t }) i inv only-row
-      (follows-itself m t (inv .polled)) row totals (⊎-elim inl (λ r. inr (replied r)) (inv .replied i h)) (inv .marks)
+      worker-action sys (record { mem = m; tally = t }) (heldM i m) i inv only-row row totals
+      (⊎-elim inl (λ r. inr (replied r)) (inv .replied i h))
 
 -- reading a poll keeps the invariant
 pub read-poll-keeps : (sys : System) (m m′ : Mem) (t : Tally) (i : ℕ) → Inv sys (record { mem = m; tally = t })
@@ -160,11 +163,15 @@ module _ (sys : System) (m : Mem) (t : Tally) (inv : Inv sys (record { mem = m; 
               }) (omega arith) (inv .rows i h);
           totals = totals-kept sys m (askM t m) t (askedT t)
               (record {
-                workers = λ k c held polls. refl;
+                sends = λ k. refl;
+                lists = λ k. refl;
+                out-end = λ k. refl;
+                out-read = λ k. refl;
                 cursors = λ j k. refl;
                 bounds = λ k n. refl;
-                domain = λ x v. refl;
                 out = λ k e. refl;
+                ends = λ k. refl;
+                logged = refl;
               }) refl (inv .totals);
           polled = polled;
           replied = λ i h. ⊎-elim inl (λ r. inr (replied-asked i h r)) (inv .replied i h);

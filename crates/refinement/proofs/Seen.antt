@@ -1,25 +1,36 @@
 -- A machine as the state that it stands for, and a state by its parts.
 use Prim.Native.Nat.{ℕ, _+_, _-_, _<_}
 use mathlib.Core.Bool.{Bool, true, false, cond}
-use mathlib.Core.Option.{Option, none, some}
+use mathlib.Core.List.{List}
+use mathlib.Core.Option.{Option}
 pub use mathlib.Core.Option.{Option·map as mapO}
 use mathlib.Core.Path.{_≡_, refl, _∙_, ap, fun-ext}
 use native.Mathlib.Omega.{arith}
 use borrow.Author.Tests.{le-leb, lt-leb}
 use Rattle.base.proofs.Choice.{cond-true, cond-false}
+use Rattle.network.specs.Network.{Label}
 use Rattle.disac4.specs.State.{State, list, reply}
 use Rattle.disac4.specs.System.{System}
 use Rattle.disac4.specs.declared.Tally.{Tally}
+use Rattle.cells.specs.Layout.{WORKERS, BOUNDS, LOG, WORK, HEAD, TAIL, LOGEND, SENDS}
 use Rattle.cells.specs.Memory.{Mem}
 pub use Rattle.refinement.specs.Run.{viewOf}
 use Rattle.controller.specs.Controller.{Machine}
-use Rattle.cells.specs.View.{LISTMARK, view, labelsBetween, listAt, messageOf, pollAt, counterRow, viewWork, viewSend, viewHeld, viewLists, viewLetters, viewPolls, viewOut, viewChannel, viewCounter}
+use Rattle.cells.specs.View.{LISTMARK, labelsBetween, listAt, messageOf, pollAt, counterRow, viewCounter, viewWork, viewSend, viewHeld, viewLists, viewLetters, viewPolls, viewOut, viewChannel, view}
 use Rattle.refinement.proofs.ChannelRows.{Rows, atChannel}
 
 -- Named on an `unfolding` line, this opens the view down to the channels' contents.
 unfoldable pub view-parts : Unit {0}
 unfolding view labelsBetween pollAt counterRow viewWork viewSend viewHeld viewLists viewChannel viewCounter
 view-parts = tt
+
+-- the work list of a row
+abbrev pub workOf : Mem → ℕ → List Label
+workOf m i = labelsBetween m WORK i (m WORKERS i HEAD) (m WORKERS i TAIL)
+
+-- what it has to send
+abbrev pub sendOf : Mem → ℕ → List Label
+sendOf m i = labelsBetween m LOG i (m BOUNDS i (m WORKERS i SENDS)) (m WORKERS i LOGEND)
 
 -- the channels that a memory and a tally stand for
 abbrev pub rowsOf : Mem → Tally → Rows
@@ -40,10 +51,7 @@ pub record Same (s s′ : State) : Type 0 where
   pub held : (k : ℕ) → s .held k ≡ s′ .held k
   pub listCounter : (k : ℕ) → s .listCounter k ≡ s′ .listCounter k
   pub channel : (j k : ℕ) → s .channel j k ≡ s′ .channel j k
-  pub timestamp : s .controller .timestamp ≡ s′ .controller .timestamp
-  pub pollOpen : s .controller .pollOpen ≡ s′ .controller .pollOpen
-  pub marked : (k : ℕ) → s .controller .marked k ≡ s′ .controller .marked k
-  pub closed : s .controller .closed ≡ s′ .controller .closed
+  pub controller : s .controller ≡ s′ .controller
 
 -- they are one state
 pub same-state : (s s′ : State) → Same s s′ → s ≡ s′
@@ -55,25 +63,14 @@ same-state s s′ e = λ i. record {
   held = fun-ext (e .held) i;
   listCounter = fun-ext (e .listCounter) i;
   channel = fun-ext (λ j. fun-ext (e .channel j)) i;
-  controller = record {
-    timestamp = e .timestamp i;
-    pollOpen = e .pollOpen i;
-    marked = fun-ext (e .marked) i;
-    closed = e .closed i;
-  };
+  controller = e .controller i;
 }
 
--- a choice between idle and an action
-pub mapO-cond {ℓ κ} : {A : Type ℓ} {B : Type κ} (f : A → B) (b : Bool) (a : A) (c : B) → f a ≡ c
-    → mapO f (cond b (some a) none) ≡ cond b (some c) none
-mapO-cond f true a c e = ap some e
-mapO-cond f false a c e = refl
-
--- the other way round
-pub mapO-unless {ℓ κ} : {A : Type ℓ} {B : Type κ} (f : A → B) (b : Bool) (a : A) (c : B) → f a ≡ c
-    → mapO f (cond b none (some a)) ≡ cond b none (some c)
-mapO-unless f true a c e = refl
-mapO-unless f false a c e = ap some e
+-- a choice between two results, part by part
+pub mapO-cond {ℓ κ} : {A : Type ℓ} {B : Type κ} (f : A → B) (b : Bool) (x y : Option A) (x′ y′ : Option B)
+    → (b ≡ true → mapO f x ≡ x′) → (b ≡ false → mapO f y ≡ y′) → mapO f (cond b x y) ≡ cond b x′ y′
+mapO-cond f true x y x′ y′ p q = p refl
+mapO-cond f false x y x′ y′ p q = q refl
 
 -- a number from 1,024 on stands for a list message
 pub list-code : (m : Mem) (i c n : ℕ) → c ≡ LISTMARK + n → messageOf m i c ≡ list (listAt m i n)

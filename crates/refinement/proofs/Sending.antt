@@ -6,18 +6,21 @@ use mathlib.Core.Path.{_≡_, refl, sym, _∙_, ap}
 use native.Mathlib.Omega.{arith}
 use borrow.Author.Tests.{eqb-false, le-leb, ne-eqb}
 use lib.Dec.{ltb, eqb}
+use Rattle.base.proofs.Below.{up-to}
+use Rattle.base.proofs.Bools.{and-never}
+use Rattle.base.proofs.Choice.{everywhere, if-some, unless-some, some-same}
 use Rattle.base.proofs.Sums.{sum-ext}
 use Rattle.base.specs.Below.{sumBelow, one}
 use Rattle.disac4.specs.System.{System}
 use Rattle.disac4.specs.declared.Tally.{Tally}
+use Rattle.cells.proofs.Stores.{store-same, store-other}
 use Rattle.cells.specs.Layout.{WORKERS, CURSORS, BOUNDS, OUT, LOGEND, SENDS, LISTS, OUTEND}
 use Rattle.cells.specs.Memory.{Mem}
 use Rattle.messages.specs.Messages.{sendM, sentM}
 use Rattle.cells.specs.View.{LISTMARK}
-use Rattle.refinement.proofs.Frame.{OnlyRow, Answered, row-action, follows-itself}
+use Rattle.refinement.proofs.Frame.{OnlyRow, Answered, worker-action}
 use Rattle.refinement.specs.Inv.{Row, Totals, Inv}
 use Rattle.refinement.proofs.Outgoing.{Put, put-lists, put-counted, put-heard}
-use Rattle.refinement.proofs.Stores.{and-never, store-same, store-other, each-row, up-to, if-some, unless-some, some-same}
 
 -- ---- what the stores changed
 
@@ -26,7 +29,7 @@ module _ (i : ℕ) (m : Mem) where
   unfolding sentM
   other-rows k c n = simp (ne-eqb k i n, and-never)
 
-  old-bound : (k n : ℕ) → (n ≡ m WORKERS i SENDS + 1 → k ≡ i → ⊥) → sentM i m BOUNDS k n ≡ m BOUNDS k n
+  old-bound : (k n : ℕ) → (k ≡ i → n ≡ m WORKERS i SENDS + 1 → ⊥) → sentM i m BOUNDS k n ≡ m BOUNDS k n
   unfolding sentM
   old-bound k n h =
       store-other m BOUNDS i (m WORKERS i SENDS + 1) (m WORKERS i LOGEND) BOUNDS k n (λ p. h)
@@ -58,14 +61,14 @@ module _ (i : ℕ) (m : Mem) where
   only-row = record {
     others = λ k n. record {
       workers = λ c. other-rows k c n;
-      bounds = λ c. old-bound k c (λ p. n);
+      bounds = λ c. old-bound k c (λ p q. n p);
       log = λ c. refl;
       work = λ c. refl;
-      out = λ c. put .old k c (λ p. n);
+      out = λ c. put .old k c (λ p q. n p);
     };
     wanted = λ n. refl;
     heads = λ x y. refl;
-    domain = λ x v. refl;
+    listed = λ x v e. e;
   }
 
 -- ---- the parts of the invariant
@@ -102,17 +105,17 @@ module _ (sys : System) (m : Mem) (t : Tally) (i : ℕ) (inv : Inv sys (record {
       record {
         own-cursor = u .own-cursor;
         cursor = λ j k p q.
-            each-row (λ j. m CURSORS j k ≤ m WORKERS j SENDS → m CURSORS j k ≤ sentM i m WORKERS j SENDS) i
+            everywhere (λ j. m CURSORS j k ≤ m WORKERS j SENDS → m CURSORS j k ≤ sentM i m WORKERS j SENDS) i
             (λ l. omega (arith, more-sends i m)) (λ j n l. omega (arith, other-rows i m j SENDS n)) j (u .cursor j k p q);
         pushed = λ k p.
             u .pushed k p
             ∙ ap (λ x. m WORKERS k LOGEND + x)
             (sum-ext (sys .workers) (λ j. m BOUNDS j (m CURSORS j k)) (λ j. sentM i m BOUNDS j (m CURSORS j k)) (λ j q.
             sym
-            (old-bound i m j (m CURSORS j k) (λ x e.
+            (old-bound i m j (m CURSORS j k) (λ e x.
             omega (arith, u .cursor j k q p, ap (λ x. m WORKERS x SENDS) e)))));
         counted = λ k p.
-            each-row
+            everywhere
             (λ k. m WORKERS k LISTS ≡ m WORKERS k SENDS + sumBelow (sys .workers) (λ j. m CURSORS j k)
             → sentM i m WORKERS k LISTS ≡ sentM i m WORKERS k SENDS + sumBelow (sys .workers) (λ j. m CURSORS j k)) i
             (λ e. omega (arith, more-lists i m, more-sends i m))
@@ -137,8 +140,7 @@ module _ (sys : System) (m : Mem) (t : Tally) (i : ℕ) (inv : Inv sys (record {
 
   sent-keeps : Inv sys (record { mem = sentM i m; tally = t })
   sent-keeps =
-      row-action sys (record { mem = m; tally = t }) (record { mem = sentM i m; tally = t }) i inv (only-row i m)
-      (follows-itself m t (inv .polled)) row totals answered (inv .marks)
+      worker-action sys (record { mem = m; tally = t }) (sentM i m) i inv (only-row i m) row totals answered
 
 -- sending keeps the invariant
 pub send-keeps : (sys : System) (m m′ : Mem) (t : Tally) (i : ℕ) → Inv sys (record { mem = m; tally = t })

@@ -13,18 +13,19 @@ use Rattle.disac4.specs.Action.{isEmpty, afterSend, send}
 use Rattle.disac4.specs.State.{Message, list}
 use Rattle.disac4.specs.System.{System}
 use Rattle.disac4.specs.declared.Tally.{Tally}
+use Rattle.cells.proofs.Queue.{labels-same, labels-none, labels-empty, queue-put}
+use Rattle.cells.proofs.Stores.{store-same, store-other}
 use Rattle.cells.specs.Layout.{WORKERS, BOUNDS, LOG, OUT, LOGEND, SENDS, LISTS, OUTEND}
 use Rattle.cells.specs.Memory.{Mem}
 use Rattle.messages.specs.Messages.{sentM, sendM}
 use Rattle.controller.specs.Controller.{Machine}
-use Rattle.cells.specs.View.{LISTMARK, labelOf, labelsBetween, listAt, messageOf, view, viewSend, viewLetters, viewOut}
+use Rattle.cells.specs.View.{LISTMARK, listAt, messageOf, viewSend, viewLetters, viewOut, view}
 use Rattle.refinement.proofs.Actors.{at-worker, actors-update, counters-more}
 use Rattle.refinement.proofs.Capacity.{sends-few, outend-few, lists-few}
 use Rattle.refinement.proofs.ChannelRows.{atChannel, at-letters, at-out, Stays, channels-broadcast}
-use Rattle.refinement.proofs.Grown.{Grown, behind, send-kept, lettersQueue, letters-kept, outQueue, out-kept, channels-kept}
+use Rattle.refinement.proofs.Grown.{Grown, send-kept, lettersQueue, letters-kept, outQueue, out-kept, channels-kept}
 use Rattle.refinement.specs.Inv.{Small, Inv}
-use Rattle.refinement.proofs.Queue.{queue, queue-same, queue-put, queue-none, queue-empty}
-use Rattle.refinement.proofs.Seen.{mapO, mapO-unless, viewOf, view-parts, rowsOf, list-code, same-state}
+use Rattle.refinement.proofs.Seen.{mapO, viewOf, view-parts, rowsOf, list-code, same-state, sendOf, mapO-cond}
 
 module _ (sys : System) (small : Small sys) (s : Machine) (inv : Inv sys s) (i : ℕ) (h : i < sys .workers) where
   abbrev m : Mem
@@ -37,22 +38,21 @@ module _ (sys : System) (small : Small sys) (s : Machine) (inv : Inv sys s) (i :
   unfolding sentM
   sent-grown = record {
     logs = λ j hj d l. refl;
-    bounds = λ j hj n l. behind (m BOUNDS) i (m WORKERS i SENDS + 1) (m WORKERS i LOGEND) j n
-        (λ e f. omega (arith, ap (λ (k : ℕ). m WORKERS k SENDS) e));
-    outs = λ j hj n l. behind (m OUT) i (m WORKERS i OUTEND) (LISTMARK + m WORKERS i SENDS) j n
-        (λ e f. omega (arith, ap (λ (k : ℕ). m WORKERS k OUTEND) e));
+    bounds = λ j hj n l. store-other m BOUNDS i (m WORKERS i SENDS + 1) (m WORKERS i LOGEND) BOUNDS j n
+        (λ r e f. omega (arith, ap (λ (k : ℕ). m WORKERS k SENDS) e));
+    outs = λ j hj n l. store-other m OUT i (m WORKERS i OUTEND) (LISTMARK + m WORKERS i SENDS) OUT j n
+        (λ r e f. omega (arith, ap (λ (k : ℕ). m WORKERS k OUTEND) e));
     wanted = λ n l. refl;
   }
 
   -- what is to be sent becomes the newest list message
   newest : listAt (sentM i m) i (m WORKERS i SENDS) ≡ viewSend sys m (suc i)
-  unfolding sentM listAt view-parts
+  unfolding sentM listAt viewSend
   newest =
-      queue-same (queue (m BOUNDS i (m WORKERS i SENDS)) (m WORKERS i LOGEND) (λ d. labelOf (m LOG i d)))
-      (queue _ _ (λ d. labelOf (m LOG i d))) (λ d p q. refl)
+      labels-same m (sentM i m) LOG i (m BOUNDS i (m WORKERS i SENDS)) (m WORKERS i LOGEND)
       (sent-grown .bounds i h (m WORKERS i SENDS) (le-refl _))
-      (update₂-same (λ n j. m BOUNDS j n) (m WORKERS i SENDS + 1) i (m WORKERS i LOGEND))
-      ∙ sym (at-worker sys (λ j. labelsBetween m LOG j (m BOUNDS j (m WORKERS j SENDS)) (m WORKERS j LOGEND)) [] i h)
+      (store-same m BOUNDS i (m WORKERS i SENDS + 1) (m WORKERS i LOGEND)) (λ d p q. refl)
+      ∙ sym (at-worker sys (sendOf m) [] i h)
 
   newest-out : messageOf (sentM i m) i (sentM i m OUT i (m WORKERS i OUTEND)) ≡ list (viewSend sys m (suc i))
   newest-out = list-code (sentM i m) i _ (m WORKERS i SENDS) put ∙ ap list newest
@@ -100,10 +100,7 @@ module _ (sys : System) (small : Small sys) (s : Machine) (inv : Inv sys s) (i :
     domain = λ x v. refl;
     counter = λ x v y. refl;
     workList = λ k. refl;
-    toSend = actors-update sys
-        (λ j. labelsBetween m LOG j (m BOUNDS j (m WORKERS j SENDS)) (m WORKERS j LOGEND))
-        (λ j. labelsBetween (sentM i m) LOG j (sentM i m BOUNDS j (sentM i m WORKERS j SENDS)) (m WORKERS j LOGEND))
-        [] i [] h all-sent
+    toSend = actors-update sys (sendOf m) (sendOf (sentM i m)) [] i [] h all-sent
         (λ j hj n. send-kept sys small s inv (sentM i m) sent-grown j hj
         (update-other (λ j. m WORKERS j SENDS) i (m WORKERS i SENDS + 1) j n) refl);
     held = λ k. refl;
@@ -112,20 +109,16 @@ module _ (sys : System) (small : Small sys) (s : Machine) (inv : Inv sys s) (i :
         (λ j hj n. update-other (λ j. m WORKERS j LISTS) i (m WORKERS i LISTS + 1) j n);
     channel = channels-broadcast sys (rowsOf m t) (rowsOf (sentM i m) t) (suc i) (list (viewSend sys m (suc i))) h
         sent-to not-sent;
-    timestamp = refl;
-    pollOpen = refl;
-    marked = λ k. refl;
-    closed = refl;
+    controller = refl;
   })
     where
-      all-sent : labelsBetween (sentM i m) LOG i (sentM i m BOUNDS i (sentM i m WORKERS i SENDS)) (m WORKERS i LOGEND) ≡ []
+      all-sent : sendOf (sentM i m) i ≡ []
       all-sent =
-          queue-none
-          (queue (sentM i m BOUNDS i (sentM i m WORKERS i SENDS)) (m WORKERS i LOGEND) (λ d. labelOf (m LOG i d)))
+          labels-none (sentM i m) LOG i (sentM i m BOUNDS i (sentM i m WORKERS i SENDS)) (m WORKERS i LOGEND)
           (omega (
             arith,
             ap (sentM i m BOUNDS i) (update-same (λ j. m WORKERS j SENDS) i (m WORKERS i SENDS + 1)),
-            update₂-same (λ n j. m BOUNDS j n) (m WORKERS i SENDS + 1) i (m WORKERS i LOGEND),
+            store-same m BOUNDS i (m WORKERS i SENDS + 1) (m WORKERS i LOGEND),
           ))
 
   -- there is room for every list message
@@ -140,18 +133,16 @@ module _ (sys : System) (small : Small sys) (s : Machine) (inv : Inv sys s) (i :
 
   -- nothing is to be sent exactly if the last list message ends where the log does
   pub nothing-to-send : isEmpty (viewSend sys m (suc i)) ≡ eqb (m BOUNDS i (m WORKERS i SENDS)) (m WORKERS i LOGEND)
-  unfolding viewSend labelsBetween
+  unfolding viewSend
   nothing-to-send =
-      ap isEmpty
-      (at-worker sys (λ j. labelsBetween m LOG j (m BOUNDS j (m WORKERS j SENDS)) (m WORKERS j LOGEND)) [] i h)
-      ∙ queue-empty (queue (m BOUNDS i (m WORKERS i SENDS)) (m WORKERS i LOGEND) (λ d. labelOf (m LOG i d)))
-      (inv .rows i h .last-bound)
+      ap isEmpty (at-worker sys (sendOf m) [] i h)
+      ∙ labels-empty m LOG i (m BOUNDS i (m WORKERS i SENDS)) (m WORKERS i LOGEND) (inv .rows i h .last-bound)
 
   -- sending in memory is sending
   pub send-refines : mapO (λ m′. view sys m′ t) (sendM i m) ≡ send sys (suc i) (viewOf sys s)
   unfolding view send
   send-refines =
       ap (mapO (λ m′. view sys m′ t)) send-room
-      ∙ mapO-unless (λ m′. view sys m′ t) (eqb (m BOUNDS i (m WORKERS i SENDS)) (m WORKERS i LOGEND)) (sentM i m)
-      (afterSend sys (suc i) (viewOf sys s)) sent-view
+      ∙ mapO-cond (λ m′. view sys m′ t) (eqb (m BOUNDS i (m WORKERS i SENDS)) (m WORKERS i LOGEND)) none (some (sentM i m))
+      none (some (afterSend sys (suc i) (viewOf sys s))) (λ p. refl) (λ p. ap some sent-view)
       ∙ ap (λ (b : Bool). cond b none (some (afterSend sys (suc i) (viewOf sys s)))) (sym nothing-to-send)

@@ -1,25 +1,24 @@
 -- A run begins as document 01's loading leaves the plan, whatever the cells held.
 use Prim.Native.Nat.{ℕ, _<_, _≤_}
-use mathlib.Core.Bool.{true}
 use mathlib.Core.List.{List}
 use mathlib.Core.Logic.{inl, inr}
-use mathlib.Core.Option.{none, some}
-use mathlib.Core.Path.{_≡_, refl, sym, _∙_, ap}
+use mathlib.Core.Option.{none}
+use mathlib.Core.Path.{_≡_, _∙_, ap}
 use native.Mathlib.Omega.{arith}
-use borrow.Author.Tests.{lt-ltb, le-ltb}
-use Rattle.base.proofs.Choice.{cond-true, cond-false}
+use borrow.Author.Tests.{lt-ltb}
+use Rattle.base.proofs.Choice.{cond-true}
 use Rattle.disac4.specs.Loading.{load}
 use Rattle.disac4.specs.Outcome.{systemAt}
-use Rattle.disac4.specs.System.{System, systemOf}
+use Rattle.disac4.specs.System.{systemOf}
 use Rattle.index.proofs.Chains.{indexed, index-keeps, indexed-kept}
-use Rattle.refinement.proofs.IndexKept.{load-index}
 use Rattle.refinement.proofs.LoadKeeps.{load-starts}
 use Rattle.refinement.proofs.Loaded.{small}
 use Rattle.index.proofs.Pairing.{paired}
 use Rattle.refinement.proofs.Loading.{Blank, load-refines}
 use Rattle.index.specs.Index.{Indexed, indexM}
 use Rattle.refinement.specs.Inv.{Small, Inv}
-use Rattle.cells.specs.Layout.{BEHIND, HEADS}
+use Rattle.cells.specs.Layout.{HEADS, BEHIND}
+use Rattle.counters.proofs.Kept.{load-variables-kept}
 use Rattle.counters.specs.Load.{clearedM, loadM}
 use Rattle.cells.specs.Memory.{Mem}
 use Rattle.refinement.specs.Run.{viewOf, startM}
@@ -59,14 +58,19 @@ module _ (b : List ℕ) (sound : planFault b ≡ none) where
     unfolding systemAt startM
     start-view = load-refines (systemOf (planOf b)) fits-regions ground (paired b sound ground ground-indexed) blank
 
+    -- loading leaves the index alone, and the cells behind
+    load-static : (r i j : ℕ) → HEADS ≤ r → loadM (systemAt b) ground r i j ≡ ground r i j
+    unfolding loadM
+    load-static = load-variables-kept (systemAt b) (systemAt b .net .variables) ground .static
+
     -- the loaded memory holds the plan's index
     pub start-indexed : Indexed b (startM b m .mem)
     unfolding startM
     start-indexed =
-        indexed-kept b ground (loadM (systemAt b) ground) (load-index (systemAt b) ground) ground-indexed
+        indexed-kept b ground (loadM (systemAt b) ground) load-static ground-indexed
 
     -- and the cells behind as they were
     pub start-behind : (i j : ℕ) → startM b m .mem BEHIND i j ≡ m BEHIND i j
     unfolding startM clearedM
     start-behind i j =
-        load-index (systemAt b) ground BEHIND i j (omega arith) ∙ index-keeps b (clearedM m) BEHIND (inr (omega arith)) i j
+        load-static BEHIND i j (omega arith) ∙ index-keeps b (clearedM m) BEHIND (inr (omega arith)) i j

@@ -1,44 +1,30 @@
 -- No turn writes the plan's index or the cells behind the needed ones.
-use Prim.Native.Nat.{ℕ, zero, suc, _+_, _-_, _<_, _≤_}
+use Prim.Native.Nat.{ℕ, _+_, _-_, _/_, _%_, _<_, _≤_}
 use mathlib.Core.Bool.{Bool, true, false, cond, _||_, not}
 use mathlib.Core.List.{List, [], _∷_}
 use mathlib.Core.Option.{Option, none, some, Option·getD}
-use mathlib.Core.Path.{_≡_, refl, sym, _∙_, ap}
+use mathlib.Core.Path.{_≡_, refl, _∙_}
 use native.Mathlib.Omega.{arith}
 use borrow.Author.Tests.{ne-eqb}
 use lib.Dec.{leb, ltb, eqb}
 use Rattle.disac4.specs.System.{System}
 use Rattle.disac4.specs.Turn.{Turn, treatNumber, sendNumber, answerNumber, pollNumber, allowed}
 use Rattle.disac4.specs.declared.Tally.{Tally}
-use Rattle.refinement.proofs.IndexKept.{treat-index}
-use Rattle.cells.specs.Layout.{WORKERS, CURSORS, BOUNDS, LOG, WORK, OUT, WANTED, HEADS, HEAD, TAIL, LOGEND, LISTS, SENDS, OUTEND, OUTREAD, HELD, POLLS}
-use Rattle.cells.specs.Lists.{pushM, copyM}
+use Rattle.cells.proofs.Stores.{store-apart, copy-other}
+use Rattle.cells.specs.Layout.{WORKERS, CURSORS, BOUNDS, WORK, OUT, WANTED, HEADS, HEAD, TAIL, LOGEND, SENDS, LISTS, HELD, POLLS, OUTEND, OUTREAD}
 use Rattle.cells.specs.Memory.{Mem, store}
 use Rattle.messages.specs.Messages.{letterEnd, letterStart, sentM, sendM, takenM, readListM, readPollM, answeredM, answerM}
 use Rattle.controller.specs.Controller.{askM, askedT, asksT, hasOut, outReadM, toldT}
 use Rattle.refinement.specs.Run.{playM}
 use Rattle.controller.specs.Controller.{Machine, hearM, pollM}
 use Rattle.refinement.specs.Step.{withMem, readM, workerM, stepM, afterM}
+use Rattle.counters.proofs.Kept.{touch-variables-kept}
 use Rattle.counters.specs.Treat.{treatM}
 
 -- a point of the index or behind
 module _ (r a b : ℕ) (h : HEADS ≤ r) where
   far : (s : ℕ) → s < HEADS → eqb r s ≡ false
   far s l = ne-eqb r s (λ e. omega arith)
-
-  copy-static : (j i from n : ℕ) (m : Mem) → copyM j i from n m r a b ≡ m r a b
-  unfolding copyM pushM
-  copy-static j i from zero m = refl
-  copy-static j i from (suc n) m =
-      push (copyM j i from n m LOG j (from + n)) (copyM j i from n m) ∙ copy-static j i from n m
-    where
-      push : (c : ℕ) (m : Mem) → pushM WORK TAIL i c m r a b ≡ m r a b
-      push c m = at-test (ltb (m WORKERS i TAIL) 512)
-        where
-          at-test : (t : Bool)
-              → cond t (store (store m WORK i (m WORKERS i TAIL) c) WORKERS i TAIL (m WORKERS i TAIL + 1)) m r a b ≡ m r a b
-          at-test true = rw (far WORK (omega arith), far WORKERS (omega arith))
-          at-test false = refl
 
   -- ---- an action gives a memory that agrees at the point, or nothing
 
@@ -71,7 +57,7 @@ module _ (r a b : ℕ) (h : HEADS ≤ r) where
       (kept-if (ltb (m WORKERS i LISTS) 65535)
       (agrees
       (rw (far WORKERS (omega arith), far CURSORS (omega arith))
-      (copy-static j i (letterStart j i m) (letterEnd j i m - letterStart j i m) m)))
+      (copy-other j i (letterStart j i m) (letterEnd j i m - letterStart j i m) m r a b (omega arith))))
       idle)
       idle)
       idle)
@@ -98,11 +84,16 @@ module _ (r a b : ℕ) (h : HEADS ≤ r) where
       idle)
 
   treat-kept : (sys : System) (i : ℕ) (m : Mem) → Kept m (treatM sys i m)
-  treat-kept sys i m = go (treatM sys i m) refl
-    where
-      go : (o : Option Mem) → treatM sys i m ≡ o → Kept m o
-      go none e = idle
-      go (some n) e = agrees (treat-index sys i m n e r a b h)
+  unfolding treatM
+  treat-kept sys i m =
+      kept-if (ltb (m WORKERS i HEAD) (m WORKERS i TAIL))
+      (kept-if (ltb (m WORKERS i HEAD) 512)
+      (agrees
+      (touch-variables-kept sys i (m WORK i (m WORKERS i HEAD) / 16) (m WORK i (m WORKERS i HEAD) % 16) (sys .net .variables)
+      (store m WORKERS i HEAD (m WORKERS i HEAD + 1)) .static r a b h
+      ∙ store-apart m WORKERS i HEAD (m WORKERS i HEAD + 1) r a b (λ e. omega arith)))
+      idle)
+      idle
 
   worker-kept : (sys : System) (i d : ℕ) (s : Machine) → Kept (s .mem) (workerM sys i d s)
   unfolding workerM readM

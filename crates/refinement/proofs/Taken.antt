@@ -1,31 +1,32 @@
 -- Reading a list message in memory is reading from a worker.
-use Prim.Native.Nat.{ℕ, suc, _+_, _-_, _<_}
-use mathlib.Core.Bool.{Bool, true, false}
+use Prim.Native.Nat.{ℕ, suc, _+_, _<_}
+use mathlib.Core.Bool.{Bool, true, false, cond, _&&_}
 use mathlib.Core.List.{List, [], _++_}
 use mathlib.Core.Option.{none, some}
-use mathlib.Core.Path.{_≡_, refl, sym, _∙_, ap, ap₂}
+use mathlib.Core.Path.{_≡_, refl, sym, _∙_, ap}
 use native.Mathlib.Omega.{arith}
-use borrow.Author.Tests.{ltb-true, ltb-false, lt-ltb, le-leb, lt-leb, eq-eqb, ne-eqb}
+use borrow.Author.Tests.{ltb-true, ltb-false, lt-ltb, le-leb}
 use lib.Dec.{ltb, eqb}
-use Rattle.base.proofs.Bools.{and-intro, and-false-left, and-false-right}
-use Rattle.base.proofs.Choice.{cond-true, cond-false, update-same, update-other, update₂-same}
+use Rattle.base.proofs.Choice.{cond-false}
 use Rattle.disac4.specs.Action.{afterList, readFrom, readWorker}
 use Rattle.disac4.specs.System.{System}
 use Rattle.disac4.specs.declared.Tally.{Tally}
-use Rattle.network.specs.Network.{Label}
-use Rattle.cells.specs.Layout.{WORKERS, CURSORS, LOG, WORK, HEAD, TAIL, SENDS, LISTS}
-use Rattle.cells.specs.Memory.{Mem, store}
-use Rattle.messages.specs.Messages.{letterStart, letterEnd, takenM, readListM}
+use Rattle.network.specs.Network.{Label, loaded}
+use Rattle.cells.proofs.Queue.{labels-same, queue, queue-taken, queue-none}
+use Rattle.cells.specs.Layout.{WORKERS, CURSORS, BOUNDS, LOG, WORK, OUT, WANTED, DOMAIN, COUNTERS, HEADS, HEAD, TAIL, LOGEND, SENDS, LISTS, HELD, POLLS, OUTEND, OUTREAD}
+use Rattle.cells.specs.Memory.{Mem}
+use Rattle.messages.specs.Messages.{letterEnd, takenM, readListM}
 use Rattle.controller.specs.Controller.{Machine}
-use Rattle.cells.specs.View.{labelOf, labelsBetween, listBetween, listAt, view, viewLetters}
-use Rattle.refinement.proofs.Actors.{at-worker, actors-update, counters-more}
-use Rattle.refinement.proofs.Capacity.{bound-logged, logend-small, sends-few, lists-few, letter-room}
+use Rattle.cells.specs.View.{LISTED, labelsBetween, listAt, counterRow, viewCounter, viewWork, viewSend, viewLists, viewLetters, viewChannel, view}
+use Rattle.counters.proofs.Kept.{row-heads}
+use Rattle.refinement.proofs.Actors.{at-worker, actors-update, counters-more, actors-same}
+use Rattle.refinement.proofs.Capacity.{bound-logged, logend-small, sends-few, lists-few}
 use Rattle.refinement.proofs.ChannelRows.{at-letters, Stays, Beside, channels-update}
-use Rattle.refinement.proofs.Filled.{isBehind, filled, copy-filled}
-use Rattle.refinement.proofs.Grown.{Grown, behind, lettersQueue, letters-kept, channels-kept}
+use Rattle.refinement.proofs.Grown.{Grown, lettersQueue, letters-kept, channels-kept, send-kept}
 use Rattle.refinement.specs.Inv.{Small, Inv}
-use Rattle.refinement.proofs.Queue.{queue, queue-taken, queue-none, queue-same, queue-shift, queue-append}
-use Rattle.refinement.proofs.Seen.{mapO, viewOf, view-parts, rowsOf, channel-rows, same-state}
+use Rattle.refinement.proofs.HeldPoll.{held-same, held-row}
+use Rattle.refinement.proofs.Reading.{region, column, other-work, more-lists, new-cursor, old-cursor, taken-list}
+use Rattle.refinement.proofs.Seen.{mapO, viewOf, rowsOf, channel-rows, same-state, workOf, sendOf}
 
 module _ (sys : System) (small : Small sys) (s : Machine) (inv : Inv sys s) (j i : ℕ) (hj : j < sys .workers)
     (hi : i < sys .workers) (apart : j ≡ i → ⊥) where
@@ -35,113 +36,70 @@ module _ (sys : System) (small : Small sys) (s : Machine) (inv : Inv sys s) (j i
   abbrev t : Tally
   t = s .tally
 
-  abbrev tail : ℕ
-  tail = m WORKERS i TAIL
-
-  -- how many labels the next list message holds
-  abbrev size : ℕ
-  size = letterEnd j i m - letterStart j i m
-
   -- the memory after
   abbrev m′ : Mem
-  m′ =
-      store (store (filled j i (letterStart j i m) size m) CURSORS j i (m CURSORS j i + 1)) WORKERS i LISTS
-      (m WORKERS i LISTS + 1)
+  m′ = takenM j i m
 
   taken-grown : Grown sys m t m′
   taken-grown = record {
-    logs = λ k hk d l. refl;
-    bounds = λ k hk n l. refl;
-    outs = λ k hk n l. refl;
-    wanted = λ n l. refl;
+    logs = λ k hk d l. region j i m LOG (omega arith) k d;
+    bounds = λ k hk n l. region j i m BOUNDS (omega arith) k n;
+    outs = λ k hk n l. region j i m OUT (omega arith) k n;
+    wanted = λ n l. region j i m WANTED (omega arith) 0 n;
   }
+
+  -- a column but where the work list ends and the list counter
+  steady : (k c : ℕ) → (c ≡ TAIL → ⊥) × (c ≡ LISTS → ⊥) → m′ WORKERS k c ≡ m WORKERS k c
+  steady k c n = column j i m k c (λ e. n .0) (λ e. n .1)
 
   other-channels : Stays sys (Beside (suc j) (suc i)) (rowsOf m t) (rowsOf m′ t)
   other-channels = channels-kept sys small s inv m′ taken-grown t (Beside (suc j) (suc i)) (record {
-    cursors = λ a b ha hb n. behind (m CURSORS) j i (m CURSORS j i + 1) a b (λ p q. n (ap suc p) (ap suc q));
-    sends = λ a b ha hb n. refl;
-    out-read = λ a ha n. refl;
-    out-end = λ a ha n. refl;
-    polls = λ b hb n. refl;
+    cursors = λ a b ha hb n. old-cursor j i m a b (λ p q. n (ap suc p) (ap suc q));
+    sends = λ a b ha hb n. steady a SENDS (omega arith);
+    out-read = λ a ha n. steady a OUTREAD (omega arith);
+    out-end = λ a ha n. steady a OUTEND (omega arith);
+    polls = λ b hb n. steady b POLLS (omega arith);
     timestamp = λ b hb n. refl;
   })
 
+  counter-kept : (x v y : ℕ) → viewCounter sys m′ x v y ≡ viewCounter sys m x v y
+  unfolding viewCounter
+  counter-kept x v y =
+      ap (λ (c : ℕ). cond (loaded (sys .net) x v && sys .net .linked x y) c 0)
+      (region j i m COUNTERS (omega arith) (counterRow m′ x y) v
+      ∙ ap (λ (r : ℕ). m COUNTERS r v) (row-heads m m′ x y (region j i m HEADS (omega arith) x y)))
+
   module _ (l : m CURSORS j i < m WORKERS j SENDS) where
-    work-here : labelsBetween m′ WORK i (m′ WORKERS i HEAD) (m′ WORKERS i TAIL)
-        ≡ labelsBetween m WORK i (m WORKERS i HEAD) tail ++ listAt m j (m CURSORS j i)
-    unfolding labelsBetween listAt
+    work-here : workOf m′ i ≡ workOf m i ++ listAt m j (m CURSORS j i)
     work-here =
-        ap (λ (n : ℕ). listBetween (m WORKERS i HEAD) n after) (update-same (λ k. m WORKERS k TAIL) i (tail + size))
-        ∙ queue-append (m WORKERS i HEAD) tail size after (inv .rows i hi .queue)
-        ∙ ap₂ (λ (x y : List Label). x ++ y)
-        (queue-same (queue (m WORKERS i HEAD) tail (λ d. labelOf (m WORK i d))) (queue (m WORKERS i HEAD) tail after)
-        (λ d p q. ap labelOf (before d q)) refl refl)
-        (queue-shift (queue tail (tail + size) after)
-        (queue (letterStart j i m) (letterEnd j i m) (λ d. labelOf (m LOG j d)))
-        (omega arith) (λ d p. ap labelOf (new d (omega arith))))
-      where
-        after : ℕ → Label
-        after d = labelOf (m′ WORK i d)
+        ap (λ (a : ℕ). labelsBetween m′ WORK i a (m′ WORKERS i TAIL)) (steady i HEAD (omega arith))
+        ∙ taken-list sys small s inv j i hj hi apart l .new (m WORKERS i HEAD) (inv .rows i hi .queue)
 
-        before : (d : ℕ) → d < tail → m′ WORK i d ≡ m WORK i d
-        before d q =
-            cond-false (m LOG j (letterStart j i m + (d - tail))) (m WORK i d)
-            (and-false-left (eqb i i) (and-false-left (ltb d (tail + size)) (lt-leb tail d q)))
-
-        new : (d : ℕ) → d < size → m′ WORK i (tail + d) ≡ m LOG j (letterStart j i m + d)
-        new d q =
-            let e : letterStart j i m + (tail + d - tail) ≡ letterStart j i m + d = omega arith in
-            cond-true (m LOG j (letterStart j i m + (tail + d - tail))) (m WORK i (tail + d))
-            (and-intro
-            (and-intro (le-leb tail (tail + d) (omega arith)) (lt-ltb (tail + d) (tail + size) (omega arith)))
-            (eq-eqb i i refl))
-            ∙ ap (m LOG j) e
-
-    work-there : (k : ℕ) → k < sys .workers → (k ≡ i → ⊥)
-        → labelsBetween m′ WORK k (m′ WORKERS k HEAD) (m′ WORKERS k TAIL)
-        ≡ labelsBetween m WORK k (m WORKERS k HEAD) (m WORKERS k TAIL)
-    unfolding labelsBetween
+    work-there : (k : ℕ) → k < sys .workers → (k ≡ i → ⊥) → workOf m′ k ≡ workOf m k
     work-there k hk n =
-        queue-same (queue (m WORKERS k HEAD) (m WORKERS k TAIL) (λ d. labelOf (m WORK k d)))
-        (queue (m WORKERS k HEAD) (m′ WORKERS k TAIL) (λ d. labelOf (m′ WORK k d)))
-        (λ d p q.
-        ap labelOf
-        (cond-false (m LOG j (letterStart j i m + (d - tail))) (m WORK k d)
-        (and-false-right (isBehind tail size d) (ne-eqb k i n))))
-        refl (update-other (λ k. m WORKERS k TAIL) i (tail + size) k n)
+        labels-same m m′ WORK k (m WORKERS k HEAD) (m WORKERS k TAIL) (steady k HEAD (omega arith))
+        (column j i m k TAIL (λ e x. n e) (omega arith)) (λ d p q. other-work j i m k d n)
 
     taken-view : view sys m′ t ≡ afterList (suc j) (suc i) (listAt m j (m CURSORS j i)) (viewLetters m′ j i) (view sys m t)
-    unfolding view-parts afterList
+    unfolding view viewWork viewSend viewLists viewChannel afterList
     taken-view = same-state _ _ (record {
-      domain = λ x v. refl;
-      counter = λ x v y. refl;
-      workList = actors-update sys work (λ k. labelsBetween m′ WORK k (m′ WORKERS k HEAD) (m′ WORKERS k TAIL)) [] i _ hi
+      domain = λ x v. ap (λ (c : ℕ). eqb c LISTED) (region j i m DOMAIN (omega arith) x v);
+      counter = counter-kept;
+      workList = actors-update sys (workOf m) (workOf m′) [] i _ hi
           (work-here
-          ∙ ap (λ (x : List Label). x ++ listAt m j (m CURSORS j i)) (sym (at-worker sys work [] i hi))) work-there;
-      toSend = λ k. refl;
-      held = λ k. refl;
-      listCounter = counters-more sys (λ k. m WORKERS k LISTS) (λ k. m′ WORKERS k LISTS) (t .lists .0) i hi
-          (update-same (λ k. m WORKERS k LISTS) i (m WORKERS i LISTS + 1))
-          (λ k hk n. update-other (λ k. m WORKERS k LISTS) i (m WORKERS i LISTS + 1) k n);
+          ∙ ap (λ (x : List Label). x ++ listAt m j (m CURSORS j i)) (sym (at-worker sys (workOf m) [] i hi))) work-there;
+      toSend = actors-same sys (sendOf m) (sendOf m′) [] (λ k hk.
+          send-kept sys small s inv m′ taken-grown k hk (steady k SENDS (omega arith)) (steady k LOGEND (omega arith)));
+      held = held-same sys m m′ (λ k hk.
+          held-row m m′ k (steady k HELD (omega arith)) (region j i m WANTED (omega arith) 0 (m WORKERS k HELD)));
+      listCounter = counters-more sys (λ k. m WORKERS k LISTS) (λ k. m′ WORKERS k LISTS) (t .lists .0) i hi (more-lists j i m)
+          (λ k hk n. column j i m k LISTS (omega arith) (λ e x. n e));
       channel = channels-update sys (rowsOf m t) (rowsOf m′ t) (suc j) (suc i) (viewLetters m′ j i)
           (at-letters sys (rowsOf m′ t) j i hj hi apart) other-channels;
-      timestamp = refl;
-      pollOpen = refl;
-      marked = λ k. refl;
-      closed = refl;
+      controller = refl;
     })
-      where
-        work : ℕ → List Label
-        work k = labelsBetween m WORK k (m WORKERS k HEAD) (m WORKERS k TAIL)
 
     -- there is room for every label of the list message
-    taken-room : takenM j i m ≡ m′
-    unfolding takenM
-    taken-room =
-        ap
-        (λ (x : Mem). store (store x CURSORS j i (m CURSORS j i + 1)) WORKERS i LISTS (m WORKERS i LISTS + 1))
-        (copy-filled j i (letterStart j i m) m size (letter-room sys small s inv j i hj hi apart l))
-
     read-room : readListM j i m ≡ some m′
     unfolding readListM
     read-room =
@@ -156,7 +114,6 @@ module _ (sys : System) (small : Small sys) (s : Machine) (inv : Inv sys s) (j i
               )),
           lt-ltb (m WORKERS i LISTS) 65535 (omega (arith, lists-few sys small s inv i hi)),
         )
-        (ap some taken-room)
 
   -- reading a list message in memory is reading from a worker
   pub list-refines : mapO (λ m′. view sys m′ t) (readListM j i m) ≡ readWorker (suc j) (suc i) (viewOf sys s)
@@ -180,7 +137,7 @@ module _ (sys : System) (small : Small sys) (s : Machine) (inv : Inv sys s) (j i
           (ap (readFrom (suc j) (suc i) (viewOf sys s))
           (channel
           ∙ queue-taken (lettersQueue m j i) (lettersQueue m′ j i) (letters-kept sys small s inv m′ taken-grown j i hj) l
-          (update₂-same (λ b a. m CURSORS a b) i j (m CURSORS j i + 1)) refl))
+          (new-cursor j i m) (steady j SENDS (omega arith))))
       go false p =
           ap (mapO (λ m′. view sys m′ t)) (idle p)
           ∙ sym

@@ -1,5 +1,5 @@
 -- Treating a label in memory goes over the labels one by one, and each loses and is deleted as document 01 words it.
-use Prim.Native.Nat.{ℕ, zero, suc, _+_, _-_, _<_, _≤_}
+use Prim.Native.Nat.{ℕ, suc, _-_, _<_}
 use mathlib.Core.Bool.{Bool, true, false, cond, _&&_}
 use mathlib.Core.List.{List, [], _∷_}
 use mathlib.Core.Path.{_≡_, refl, sym, _∙_, ap, subst}
@@ -7,7 +7,6 @@ use native.Mathlib.Decide.{ℕ-discrete}
 use native.Mathlib.Omega.{arith}
 use borrow.Author.Tests.{eq-eqb, ne-eqb}
 use lib.Dec.{eqb}
-use lib.ListN.{length}
 use Rattle.base.proofs.Bools.{and-left, and-right, and-intro}
 use Rattle.base.proofs.Choice.{cond-true, cond-false}
 use Rattle.disac4.specs.Action.{loses, lowered, deletes}
@@ -15,18 +14,19 @@ use Rattle.disac4.specs.State.{State}
 use Rattle.disac4.specs.System.{System}
 use Rattle.disac4.specs.declared.Tally.{Tally}
 use Rattle.network.proofs.Loaded.{loaded-intro}
-use Rattle.network.specs.Network.{Label, label, supports}
-use Rattle.cells.specs.Layout.{WORKERS, DOMAIN, COUNTERS, HEADS, TAIL, LOGEND}
-use Rattle.cells.specs.Lists.{deleteM}
+use Rattle.network.specs.Network.{label, supports, Label}
+use Rattle.cells.proofs.Stores.{store-same, store-other}
+use Rattle.cells.specs.Layout.{DOMAIN, COUNTERS}
 use Rattle.cells.specs.Memory.{Mem, store}
+use Rattle.counters.proofs.Kept.{row-heads}
 use Rattle.counters.specs.Treat.{loseM, touchM, touchValuesM, touchVariableM, touchVariablesM}
 use Rattle.cells.specs.View.{LISTED, counterRow, viewCounter, view}
-use Rattle.refinement.proofs.Frames.{store-same, store-other, Apart, delete-apart, delete-domain, delete-counter}
-use Rattle.refinement.proofs.Growing.{Both, both-none, both-more, both-delete}
+use Rattle.refinement.proofs.Frames.{Apart, deleteIf, delete-if-apart}
+use Rattle.refinement.proofs.Growing.{both-none, Appends, appends-if}
 use Rattle.refinement.specs.Inv.{Small}
 use Rattle.index.specs.Index.{Paired}
-use Rattle.refinement.proofs.Labelwise.{row-heads, own-row, Shows}
-use Rattle.refinement.proofs.Walking.{loop, walk}
+use Rattle.refinement.proofs.Labelwise.{own-row, Shows, As, shows-if}
+use Rattle.refinement.proofs.Walking.{loop, walk, is-loop}
 
 module _ (sys : System) (i y w : ℕ) where
   -- the step at one label
@@ -34,32 +34,26 @@ module _ (sys : System) (i y w : ℕ) where
   touchLabelM x v m =
       cond (eqb (sys .owner x) (suc i)) (cond (sys .net .linked x y) (touchM sys i y w x v m) m) m
 
-  idle-loop : (n : ℕ) (m : Mem) → loop (λ v m. m) n m ≡ m
-  idle-loop zero m = refl
-  idle-loop (suc n) m = idle-loop n m
-
-  values-loop : (x n : ℕ) (m : Mem) → touchValuesM sys i y w x n m ≡ loop (touchM sys i y w x) n m
-  unfolding touchValuesM
-  values-loop x zero m = refl
-  values-loop x (suc n) m = ap (touchM sys i y w x n) (values-loop x n m)
+  idle-loop : (n : ℕ) (m : Mem) → m ≡ loop (λ v m. m) n m
+  idle-loop = is-loop (λ v m. m) (λ n m. m) (λ m. refl) (λ n m. refl)
 
   variable-loop : (x : ℕ) (m : Mem) → touchVariableM sys i y w x m ≡ loop (touchLabelM x) (sys .net .size x) m
-  unfolding touchVariableM
+  unfolding touchVariableM touchValuesM
   variable-loop x m = go (eqb (sys .owner x) (suc i)) (sys .net .linked x y)
     where
       go : (a b : Bool)
           → cond a (cond b (touchValuesM sys i y w x (sys .net .size x) m) m) m
           ≡ loop (λ v m. cond a (cond b (touchM sys i y w x v m) m) m) (sys .net .size x) m
-      go true true = values-loop x (sys .net .size x) m
-      go true false = sym (idle-loop (sys .net .size x) m)
-      go false b = sym (idle-loop (sys .net .size x) m)
+      go true true = is-loop (touchM sys i y w x) (touchValuesM sys i y w x) (λ m. refl) (λ n m. refl) (sys .net .size x) m
+      go true false = idle-loop (sys .net .size x) m
+      go false b = idle-loop (sys .net .size x) m
 
   -- the two loops are a walk over the labels
   pub touch-walk : (n : ℕ) (m : Mem) → touchVariablesM sys i y w n m ≡ walk (sys .net) touchLabelM n m
   unfolding touchVariablesM
-  touch-walk zero m = refl
-  touch-walk (suc n) m =
-      variable-loop n (touchVariablesM sys i y w n m) ∙ ap (loop (touchLabelM n) (sys .net .size n)) (touch-walk n m)
+  touch-walk =
+      is-loop (λ x. loop (touchLabelM x) (sys .net .size x)) (touchVariablesM sys i y w) (λ m. refl)
+      (λ x m. variable-loop x (touchVariablesM sys i y w x m))
 
   -- ---- one label
 
@@ -68,7 +62,7 @@ module _ (sys : System) (i y w : ℕ) where
   lower v k c m = store m COUNTERS k v (c - 1)
 
   abbrev lose : ℕ → ℕ → ℕ → ℕ → Mem → Mem
-  lose x v k c m = cond (eqb (c - 1) 0) (deleteM i x v (lower v k c m)) (lower v k c m)
+  lose x v k c m = deleteIf (eqb (c - 1) 0) i x v (lower v k c m)
 
   lose-with : (x v k c : ℕ) (m : Mem) → counterRow m x y ≡ k → m COUNTERS k v ≡ c → loseM i x v y m ≡ lose x v k c m
   unfolding loseM
@@ -112,13 +106,11 @@ module _ (sys : System) (i y w : ℕ) where
         low : sys .net .linked x y ≡ true → lower v k c m r a b ≡ m r a b
         low l = store-other m COUNTERS k v (c - 1) r a b (p .counter y l)
 
-        lost : sys .net .linked x y ≡ true → (z : Bool) → cond z (deleteM i x v (lower v k c m)) (lower v k c m) r a b ≡ m r a b
-        lost l true = delete-apart sys i x v (lower v k c m) m r a b p ∙ low l
-        lost l false = low l
-
         go : (z : Bool) → losesIn m x v ≡ z → cond z (loseM i x v y m) m r a b ≡ m r a b
         go true e =
-            ap (λ (n : Mem). n r a b) (lose-with x v k c m refl refl) ∙ lost (loses-linked x v m e) (eqb (c - 1) 0)
+            ap (λ (n : Mem). n r a b) (lose-with x v k c m refl refl)
+            ∙ delete-if-apart sys i x v (lower v k c m) (eqb (c - 1) 0) m r a b p
+            ∙ low (loses-linked x v m e)
         go false e = refl
 
     -- ---- a label that stands as it stood in `m₀`
@@ -131,31 +123,28 @@ module _ (sys : System) (i y w : ℕ) where
       abbrev counterOf : ℕ → ℕ
       counterOf y′ = m₀ COUNTERS (counterRow m₀ x y′) v
 
-      abbrev As : Mem → Type 0
-      As m = Shows sys m₀ x v (m₀ DOMAIN x v) counterOf m
-
       abbrev lowered-to : ℕ
       lowered-to = counterOf y - 1
 
-      abbrev outcome : Bool → Bool → Mem → Mem
-      outcome a b m =
-          cond a
-          (cond b (deleteM i x v (store m COUNTERS (counterRow m₀ x y) v lowered-to))
-          (store m COUNTERS (counterRow m₀ x y) v lowered-to))
-          m
+      -- the label has lost one
+      abbrev low : Mem → Mem
+      low m = store m COUNTERS (counterRow m₀ x y) v lowered-to
 
-      same-loses : (m : Mem) → As m → losesIn m x v ≡ losesIn m₀ x v
+      abbrev outcome : Bool → Mem → Mem
+      outcome a m = cond a (deleteIf (eqb lowered-to 0) i x v (low m)) m
+
+      same-loses : (m : Mem) → As sys m₀ x v m → losesIn m x v ≡ losesIn m₀ x v
       unfolding loses view
       same-loses m s =
           ap (λ (d : ℕ). eqb (sys .owner x) (suc i) && eqb d LISTED && supports (sys .net) x v y w) (s .domain)
 
-      touch-is : (m : Mem) → As m → touchLabelM x v m ≡ outcome (losesIn m₀ x v) (eqb lowered-to 0) m
+      touch-is : (m : Mem) → As sys m₀ x v m → touchLabelM x v m ≡ outcome (losesIn m₀ x v) m
       touch-is m s =
           touch-loses x v m
           ∙ ap (λ (b : Bool). cond b (loseM i x v y m) m) (same-loses m s)
           ∙ go (losesIn m₀ x v) refl
         where
-          go : (b : Bool) → losesIn m₀ x v ≡ b → cond b (loseM i x v y m) m ≡ outcome b (eqb lowered-to 0) m
+          go : (b : Bool) → losesIn m₀ x v ≡ b → cond b (loseM i x v y m) m ≡ outcome b m
           go true e =
               lose-with x v (counterRow m₀ x y) (counterOf y) m (row-heads m₀ m x y (s .heads x y))
               (s .counter y (loses-linked x v m₀ e))
@@ -174,32 +163,26 @@ module _ (sys : System) (i y w : ℕ) where
           ap (λ (a : Bool). cond (a && eqb y′ y) (st .counter x v y′ - 1) (st .counter x v y′)) e
           ∙ ap (λ (c : ℕ). cond (b && eqb y′ y) (c - 1) c) (shown-counter y′ k)
 
-      deletes-when : (b : Bool) → losesIn m₀ x v ≡ b → (c : Bool) → eqb lowered-to 0 ≡ c
-          → deletes sys (suc i) (label y w) st x v ≡ b && c
+      deletes-when : (b : Bool) → losesIn m₀ x v ≡ b → deletes sys (suc i) (label y w) st x v ≡ b && eqb lowered-to 0
       unfolding deletes
-      deletes-when true e c f =
+      deletes-when true e =
           ap (λ (a : Bool). a && eqb (lowered sys (suc i) (label y w) st x v y) 0) e
           ∙ ap (λ (n : ℕ). eqb n 0)
           (lowered-when true e y (loses-linked x v m₀ e) ∙ cond-true (counterOf y - 1) (counterOf y) (eq-eqb y y refl))
-          ∙ f
-      deletes-when false e c f = ap (λ (a : Bool). a && eqb (lowered sys (suc i) (label y w) st x v y) 0) e
+      deletes-when false e = ap (λ (a : Bool). a && eqb (lowered sys (suc i) (label y w) st x v y) 0) e
 
       -- the label's domain cell and counters after its step
-      pub touch-shows : (m : Mem) → As m
+      pub touch-shows : (m : Mem) → As sys m₀ x v m
           → Shows sys m₀ x v (cond (deletes sys (suc i) (label y w) st x v) 0 (m₀ DOMAIN x v))
           (lowered sys (suc i) (label y w) st x v) (touchLabelM x v m)
-      touch-shows m s =
-          subst (Shows sys m₀ x v _ _) (sym (touch-is m s)) (go (losesIn m₀ x v) refl (eqb lowered-to 0) refl)
+      touch-shows m s = subst (Shows sys m₀ x v _ _) (sym (touch-is m s)) (go (losesIn m₀ x v) refl)
         where
-          low : Mem
-          low = store m COUNTERS (counterRow m₀ x y) v lowered-to
-
           low-counter : sys .net .linked x y ≡ true → (y′ : ℕ) → sys .net .linked x y′ ≡ true
-              → low COUNTERS (counterRow m₀ x y′) v ≡ cond (eqb y′ y) (counterOf y′ - 1) (counterOf y′)
+              → low m COUNTERS (counterRow m₀ x y′) v ≡ cond (eqb y′ y) (counterOf y′ - 1) (counterOf y′)
           low-counter k y′ k′ =
               elim (ℕ-discrete y′ y) [
                 | yes e ↦
-                    ap (λ (a : ℕ). low COUNTERS (counterRow m₀ x a) v) e
+                    ap (λ (a : ℕ). low m COUNTERS (counterRow m₀ x a) v) e
                     ∙ store-same m COUNTERS (counterRow m₀ x y) v lowered-to
                     ∙ sym (cond-true (counterOf y - 1) (counterOf y) (eq-eqb y y refl))
                     ∙ ap (λ (a : ℕ). cond (eqb a y) (counterOf a - 1) (counterOf a)) (sym e)
@@ -210,59 +193,39 @@ module _ (sys : System) (i y w : ℕ) where
                     ∙ sym (cond-false (counterOf y′ - 1) (counterOf y′) (ne-eqb y′ y e))
               ]
 
-          Goal : Mem → Type 0
-          Goal =
-              Shows sys m₀ x v (cond (deletes sys (suc i) (label y w) st x v) 0 (m₀ DOMAIN x v))
-              (lowered sys (suc i) (label y w) st x v)
+          lost : ℕ → ℕ
+          lost = lowered sys (suc i) (label y w) st x v
 
-          go : (a : Bool) → losesIn m₀ x v ≡ a → (b : Bool) → eqb lowered-to 0 ≡ b → Goal (outcome a b m)
-          go true e true f = record {
-            heads = λ a b. delete-apart sys i x v low m HEADS a b (omega arith) ∙ s .heads a b;
-            domain = delete-domain sys i x v low ∙ sym (cond-true 0 (m₀ DOMAIN x v) (deletes-when true e true f));
-            counter = λ y′ k.
-                delete-counter sys i x v low (counterRow m₀ x y′) v
-                ∙ low-counter (loses-linked x v m₀ e) y′ k
-                ∙ sym (lowered-when true e y′ k);
-          }
-          go true e false f = record {
-            heads = s .heads;
-            domain = s .domain ∙ sym (cond-false 0 (m₀ DOMAIN x v) (deletes-when true e false f));
-            counter = λ y′ k. low-counter (loses-linked x v m₀ e) y′ k ∙ sym (lowered-when true e y′ k);
-          }
-          go false e b f = record {
-            heads = s .heads;
-            domain = s .domain ∙ sym (cond-false 0 (m₀ DOMAIN x v) (deletes-when false e b f));
-            counter = λ y′ k. s .counter y′ k ∙ sym (lowered-when false e y′ k);
-          }
+          go : (a : Bool) → losesIn m₀ x v ≡ a
+              → Shows sys m₀ x v (cond (deletes sys (suc i) (label y w) st x v) 0 (m₀ DOMAIN x v)) lost (outcome a m)
+          go true e =
+              subst (λ z. Shows sys m₀ x v (cond z 0 (m₀ DOMAIN x v)) lost (outcome true m)) (sym (deletes-when true e))
+              (shows-if sys m₀ i x v (m₀ DOMAIN x v) lost (eqb lowered-to 0) (low m) (record {
+                heads = s .heads;
+                domain = s .domain;
+                counter = λ y′ k. low-counter (loses-linked x v m₀ e) y′ k ∙ sym (lowered-when true e y′ k);
+              }))
+          go false e =
+              subst (λ z. Shows sys m₀ x v (cond z 0 (m₀ DOMAIN x v)) lost m) (sym (deletes-when false e))
+              (record {
+                heads = s .heads;
+                domain = s .domain;
+                counter = λ y′ k. s .counter y′ k ∙ sym (lowered-when false e y′ k);
+              })
 
       -- it is appended to the lists of row `i` exactly if it is deleted
-      pub touch-both : (m : Mem) → As m
-          → m WORKERS i LOGEND + length (cond (deletes sys (suc i) (label y w) st x v) (label x v ∷ []) []) ≤ 512
-          → m WORKERS i TAIL + length (cond (deletes sys (suc i) (label y w) st x v) (label x v ∷ []) []) ≤ 512
-          → Both sys i m (touchLabelM x v m) (cond (deletes sys (suc i) (label y w) st x v) (label x v ∷ []) [])
-      touch-both m s room room′ =
-          subst (λ n. Both sys i m n (appended (deletes sys (suc i) (label y w) st x v))) (sym (touch-is m s))
-          (go (losesIn m₀ x v) refl (eqb lowered-to 0) refl)
+      pub touch-both : (m : Mem) → As sys m₀ x v m
+          → Appends sys i m (touchLabelM x v m) (cond (deletes sys (suc i) (label y w) st x v) (label x v ∷ []) [])
+      touch-both m s =
+          subst (λ n. Appends sys i m n (appended (deletes sys (suc i) (label y w) st x v))) (sym (touch-is m s))
+          (subst (λ z. Appends sys i m (outcome (losesIn m₀ x v) m) (appended z))
+          (sym (deletes-when (losesIn m₀ x v) refl)) (go (losesIn m₀ x v)))
         where
           appended : Bool → List Label
           appended b = cond b (label x v ∷ []) []
 
-          low : Mem
-          low = store m COUNTERS (counterRow m₀ x y) v lowered-to
-
-          go : (a : Bool) → losesIn m₀ x v ≡ a → (b : Bool) → eqb lowered-to 0 ≡ b
-              → Both sys i m (outcome a b m) (appended (deletes sys (suc i) (label y w) st x v))
-          go true e true f =
-              let d : deletes sys (suc i) (label y w) st x v ≡ true = deletes-when true e true f in
-              let size : length (appended (deletes sys (suc i) (label y w) st x v)) ≡ 1 =
-              ap (λ b. length (appended b)) d in
-              subst (λ b. Both sys i m (outcome true true m) (appended b)) (sym d)
-              (both-more sys i m low (deleteM i x v low) [] (label x v ∷ [])
-              (both-none sys i m low refl refl (λ d. refl) (λ d. refl))
-              (both-delete sys i low x v h l (omega (arith, small .few-values x h)) (omega arith) (omega arith)))
-          go true e false f =
-              subst (λ b. Both sys i m low (appended b)) (sym (deletes-when true e false f))
-              (both-none sys i m low refl refl (λ d. refl) (λ d. refl))
-          go false e b f =
-              subst (λ c. Both sys i m m (appended c)) (sym (deletes-when false e b f))
-              (both-none sys i m m refl refl (λ d. refl) (λ d. refl))
+          go : (a : Bool) → Appends sys i m (outcome a m) (appended (a && eqb lowered-to 0))
+          go true =
+              appends-if sys i (eqb lowered-to 0) m (low m) x v h l (omega (arith, small .few-values x h))
+              (both-none sys i m (low m) refl refl (λ d. refl) (λ d. refl))
+          go false = λ room room′. both-none sys i m m refl refl (λ d. refl) (λ d. refl)

@@ -9,7 +9,7 @@ use native.Mathlib.Omega.{arith}
 use borrow.Author.Tests.{lt-ltb, le-ltb}
 use lib.Dec.{eqb}
 use lib.ListN.{length}
-use Rattle.base.proofs.Bools.{clash, refuted, and-left, and-right, and-false-left, and-false-right}
+use Rattle.base.proofs.Bools.{clash, refuted, and-left, and-right, and-false-left, and-true, and-never}
 use Rattle.base.proofs.Choice.{cond-true, cond-false}
 use Rattle.base.specs.Choice.{update}
 use Rattle.network.proofs.DomainSize.{domainSize}
@@ -20,21 +20,25 @@ use Rattle.disac4.specs.System.{System}
 use Rattle.disac4.specs.declared.Tally.{Tally}
 use Rattle.network.proofs.Loaded.{loaded-variable, loaded-value}
 use Rattle.network.specs.Network.{Label, label, loaded, labelsWhere}
+use Rattle.cells.proofs.Queue.{labels-first, labels-none, labels-same}
+use Rattle.cells.proofs.Stores.{store-same, store-other}
 use Rattle.cells.specs.Layout.{WORKERS, CURSORS, BOUNDS, LOG, WORK, OUT, WANTED, DOMAIN, COUNTERS, HEADS, HEAD, TAIL, LOGEND, SENDS}
 use Rattle.cells.specs.Memory.{Mem, store}
 use Rattle.controller.specs.Controller.{Machine}
+use Rattle.counters.proofs.Kept.{row-heads}
 use Rattle.counters.specs.Treat.{touchVariablesM, treatM}
 use Rattle.cells.specs.View.{LISTED, labelOf, labelsBetween, counterRow, viewCounter, viewWork, viewSend, view}
-use Rattle.refinement.proofs.Frames.{store-same, store-other, Apart}
-use Rattle.refinement.proofs.Growing.{labels-ext, labels-first, labels-none, Both}
+use Rattle.refinement.proofs.Actors.{at-worker, actors-update}
+use Rattle.refinement.proofs.Capacity.{log-room, tail-room, tail-small}
+use Rattle.refinement.proofs.Frame.{paired-kept}
+use Rattle.refinement.proofs.Frames.{Apart}
+use Rattle.refinement.proofs.Growing.{Both}
 use Rattle.refinement.specs.Inv.{Small, Inv}
 use Rattle.index.specs.Index.{Paired}
-use Rattle.refinement.proofs.Labelwise.{row-heads, paired-heads, unloaded-apart, Shows, shows-start, walk-apart, walk-shows, walk-both}
-use Rattle.refinement.proofs.Queues.{workFrom, sendFrom, queue-at, queue-after}
-use Rattle.refinement.proofs.Room.{log-room, work-room}
-use Rattle.refinement.proofs.RowsKept.{same-bound}
+use Rattle.refinement.proofs.Labelwise.{unloaded-apart, Shows, walk-apart, walk-shows, walk-both, Local}
+use Rattle.refinement.proofs.Seen.{workOf, sendOf}
 use Rattle.refinement.proofs.Touching.{touchLabelM, touch-walk, touch-apart, touch-shows, touch-both}
-use Rattle.refinement.proofs.Unmoved.{Unmoved, held-kept, lists-kept, channel-kept}
+use Rattle.refinement.proofs.Unmoved.{Unmoved, held-kept, lists-kept, channel-kept, same-bound}
 use Rattle.refinement.proofs.Walking.{walk}
 
 module _ (sys : System) (small : Small sys) (s : Machine) (inv : Inv sys s) (i : ℕ) (h : i < sys .workers)
@@ -70,32 +74,26 @@ module _ (sys : System) (small : Small sys) (s : Machine) (inv : Inv sys s) (i :
   unfolding step
   walked = touch-walk sys i (a .variable) (a .value) (sys .net .variables) taken
 
-  local : (x v : ℕ) → x < sys .net .variables → v < sys .net .size x → (n : Mem) (r a b : ℕ) → Apart sys n i x v r a b
-      → step x v n r a b ≡ n r a b
+  local : Local sys small step (λ x. i)
   unfolding step
-  local x v k l n r b c p = touch-apart sys i (a .variable) (a .value) t x v n r b c p
+  local x v k l = touch-apart sys i (a .variable) (a .value) t x v
 
   paired : Paired sys taken
-  paired = paired-heads sys m taken (λ a b. refl) (inv .paired)
+  paired = paired-kept m taken sys (λ a b. refl) (inv .paired)
 
   -- what stands apart is left alone
   pub treated-apart : (r b c : ℕ)
       → ((x v : ℕ) → x < sys .net .variables → v < sys .net .size x → Apart sys taken i x v r b c)
       → treatedM r b c ≡ taken r b c
-  treated-apart r b c p =
-      ap (λ (n : Mem). n r b c) walked ∙ walk-apart sys small step (λ x. i) local taken paired r b c p
+  treated-apart = walk-apart sys small step (λ x. i) local taken paired treatedM walked
 
   -- each label's own cells
   pub treated-shows : (x v : ℕ) → x < sys .net .variables → v < sys .net .size x
       → Shows sys taken x v (cond (deletes sys (suc i) a st x v) 0 (m DOMAIN x v)) (lowered sys (suc i) a st x v) treatedM
   unfolding step deletes lowered loses view viewCounter counterRow
   treated-shows x v k l =
-      subst (Shows sys taken x v (cond (deletes sys (suc i) a st x v) 0 (m DOMAIN x v)) (lowered sys (suc i) a st x v))
-      (sym walked)
-      (walk-shows sys small step (λ x. i) local taken paired x v (m DOMAIN x v)
-      (cond (deletes sys (suc i) a st x v) 0 (m DOMAIN x v)) (λ y. taken COUNTERS (counterRow taken x y) v)
-      (lowered sys (suc i) a st x v) k l
-      (touch-shows sys i (a .variable) (a .value) t small taken paired x v k l) (shows-start sys taken x v))
+      walk-shows sys small step (λ x. i) local taken paired treatedM walked x v _ _ k l
+      (touch-shows sys i (a .variable) (a .value) t small taken paired x v k l)
 
   -- as many labels are deleted as there is room for
   deleted-size : length (deletions sys (suc i) a st) ≤ domainSize (sys .net) (st .domain)
@@ -109,12 +107,10 @@ module _ (sys : System) (small : Small sys) (s : Machine) (inv : Inv sys s) (i :
   pub treated-both : Both sys i taken treatedM (deletions sys (suc i) a st)
   unfolding step deletions labelsWhere deletes lowered loses view viewCounter counterRow
   treated-both =
-      subst (λ n. Both sys i taken n (deletions sys (suc i) a st)) (sym walked)
-      (walk-both sys small step (λ x. i) local taken paired i
+      walk-both sys small step (λ x. i) local taken paired treatedM walked i
       (λ x v. cond (deletes sys (suc i) a st x v) (label x v ∷ []) [])
       (λ x v k l n. touch-both sys i (a .variable) (a .value) t small taken paired x v k l n)
-      (room LOGEND (omega (arith, log-room sys s inv i h, small .few-labels)))
-      (room TAIL (omega (arith, work-room sys s inv i h, small .few-labels))))
+      (room LOGEND (log-room sys small s inv i h)) (room TAIL (tail-room sys small s inv i h))
 
   -- nothing else that the view shows has changed
   pub treated-unmoved : Unmoved m treatedM
@@ -143,12 +139,8 @@ module _ (sys : System) (small : Small sys) (s : Machine) (inv : Inv sys s) (i :
   domain-after x v = go (loaded (sys .net) x v) refl
     where
       kept : (b : Bool) (d : ℕ) → eqb (cond b 0 d) LISTED ≡ eqb d LISTED && not b
-      kept true d = sym (and-false-right (eqb d LISTED) refl)
-      kept false d = all (eqb d LISTED)
-        where
-          all : (c : Bool) → c ≡ c && true
-          all true = refl
-          all false = refl
+      kept true d = sym (and-never (eqb d LISTED))
+      kept false d = sym (and-true (eqb d LISTED) refl)
 
       go : (b : Bool) → loaded (sys .net) x v ≡ b
           → eqb (treatedM DOMAIN x v) LISTED ≡ eqb (m DOMAIN x v) LISTED && not (deletes sys (suc i) a st x v)
@@ -207,24 +199,29 @@ module _ (sys : System) (small : Small sys) (s : Machine) (inv : Inv sys s) (i :
   work-after : (k : ℕ) → viewWork sys treatedM k ≡ update (viewWork sys m) (suc i) (rest ++ deletions sys (suc i) a st) k
   unfolding viewWork
   work-after =
-      queue-after sys WORK TAIL workFrom m treatedM i h (rest ++ deletions sys (suc i) a st)
+      actors-update sys (workOf m) (workOf treatedM) [] i (rest ++ deletions sys (suc i) a st) h
       (ap (λ (b : ℕ). labelsBetween treatedM WORK i b (treatedM WORKERS i TAIL)) head-after
       ∙ treated-both .work .new (head + 1) (omega arith)
       ∙ ap (λ (l : List Label). l ++ deletions sys (suc i) a st)
-      (labels-ext m taken WORK i (head + 1) (m WORKERS i TAIL) (λ d p q. refl)))
-      (λ j n. (other-row j HEAD n, other-row j TAIL n, λ d. treated-apart WORK j d (λ x v k l. omega arith)))
+      (labels-same m taken WORK i (head + 1) (m WORKERS i TAIL) refl refl (λ d p q. refl)))
+      (λ j k n.
+      labels-same m treatedM WORK j (m WORKERS j HEAD) (m WORKERS j TAIL) (other-row j HEAD n) (other-row j TAIL n)
+      (λ d p q. treated-apart WORK j d (λ x v k l. omega arith)))
 
   send-after : (k : ℕ)
       → viewSend sys treatedM k ≡ update (viewSend sys m) (suc i) (viewSend sys m (suc i) ++ deletions sys (suc i) a st) k
   unfolding viewSend
   send-after =
-      queue-after sys LOG LOGEND sendFrom m treatedM i h (viewSend sys m (suc i) ++ deletions sys (suc i) a st)
+      actors-update sys (sendOf m) (sendOf treatedM) [] i (viewSend sys m (suc i) ++ deletions sys (suc i) a st) h
       (ap (λ (b : ℕ). labelsBetween treatedM LOG i b (treatedM WORKERS i LOGEND)) (same-bound sys m treatedM t treated-unmoved i)
       ∙ treated-both .log .new (m BOUNDS i (m WORKERS i SENDS)) (inv .rows i h .last-bound)
       ∙ ap (λ (l : List Label). l ++ deletions sys (suc i) a st)
-      (labels-ext m taken LOG i (m BOUNDS i (m WORKERS i SENDS)) (m WORKERS i LOGEND) (λ d p q. refl)
-      ∙ sym (queue-at sys LOG LOGEND sendFrom m i h)))
-      (λ j n. (same-bound sys m treatedM t treated-unmoved j, other-row j LOGEND n, λ d. treated-apart LOG j d (λ x v k l. omega arith)))
+      (labels-same m taken LOG i (m BOUNDS i (m WORKERS i SENDS)) (m WORKERS i LOGEND) refl refl (λ d p q. refl)
+      ∙ sym (at-worker sys (sendOf m) [] i h)))
+      (λ j k n.
+      labels-same m treatedM LOG j (m BOUNDS j (m WORKERS j SENDS)) (m WORKERS j LOGEND)
+      (same-bound sys m treatedM t treated-unmoved j) (other-row j LOGEND n)
+      (λ d p q. treated-apart LOG j d (λ x v k l. omega arith)))
 
   -- the state that the memory stands for is the one after the treatment
   pub treated-view : view sys treatedM t ≡ afterTreat sys (suc i) a rest st
@@ -236,7 +233,7 @@ module _ (sys : System) (small : Small sys) (s : Machine) (inv : Inv sys s) (i :
     toSend = λ k. send-after k z;
     held = λ k. held-kept sys m treatedM t treated-unmoved k z;
     listCounter = λ k. lists-kept sys m treatedM t treated-unmoved k z;
-    channel = λ j k. channel-kept sys m treatedM t treated-unmoved (inv .rows) j k z;
+    channel = λ j k. channel-kept sys small s inv treatedM treated-unmoved j k z;
     controller = st .controller;
   }
 
@@ -246,7 +243,7 @@ module _ (sys : System) (small : Small sys) (s : Machine) (inv : Inv sys s) (i :
   treat-busy =
       cond-true _ none (lt-ltb head (m WORKERS i TAIL) busy)
       ∙ cond-true (some treatedM) none
-      (lt-ltb head 512 (omega (arith, work-room sys s inv i h, small .few-labels)))
+      (lt-ltb head 512 (omega (arith, tail-small sys small s inv i h)))
 
 -- a row whose work list is empty is idle
 pub treat-idle : (sys : System) (m : Mem) (i : ℕ) → m WORKERS i TAIL ≤ m WORKERS i HEAD → treatM sys i m ≡ none
@@ -254,10 +251,9 @@ unfolding treatM
 treat-idle sys m i h = cond-false _ none (le-ltb (m WORKERS i HEAD) (m WORKERS i TAIL) h)
 
 -- the work list of a row
-work-list : (sys : System) (m : Mem) (t : Tally) (i : ℕ) → i < sys .workers
-    → view sys m t .workList (suc i) ≡ labelsBetween m WORK i (m WORKERS i HEAD) (m WORKERS i TAIL)
+work-list : (sys : System) (m : Mem) (t : Tally) (i : ℕ) → i < sys .workers → view sys m t .workList (suc i) ≡ workOf m i
 unfolding view viewWork
-work-list sys m t i h = queue-at sys WORK TAIL workFrom m i h
+work-list sys m t i h = at-worker sys (workOf m) [] i h
 
 -- treating in memory is treating
 pub treat-refines : (sys : System) → Small sys → (s : Machine) → Inv sys s → (i : ℕ) → i < sys .workers

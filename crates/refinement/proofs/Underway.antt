@@ -6,22 +6,23 @@ use mathlib.Core.Option.{none}
 use mathlib.Core.Path.{_≡_, refl, sym, _∙_, ap, subst}
 use native.Mathlib.Omega.{arith}
 use lib.ListN.{length}
+use Rattle.base.proofs.Bools.{and-true}
 use Rattle.base.specs.Below.{one}
 use Rattle.disac4.proofs.FiguresFit.{figures-fit}
 use Rattle.disac4.specs.Loading.{load}
 use Rattle.disac4.specs.Outcome.{systemAt}
 use Rattle.disac4.specs.Report.{isSend, isPoll, final}
 use Rattle.disac4.specs.State.{State}
-use Rattle.disac4.specs.System.{System, systemOf}
+use Rattle.disac4.specs.System.{System}
 use Rattle.disac4.specs.Turn.{Turn, isSome, play, changesWhere}
-use Rattle.index.proofs.Chains.{indexed-kept, and-true}
+use Rattle.index.proofs.Chains.{indexed-kept}
 use Rattle.refinement.proofs.Refined.{refined}
 use Rattle.refinement.proofs.Runs.{Refines, playM-append, countM-append, run-view, run-keeps, run-counts}
 use Rattle.refinement.proofs.Start.{is-accepted, fits-regions, start-inv, start-view, start-indexed, start-behind}
 use Rattle.refinement.proofs.Static.{play-static}
-use Rattle.index.specs.Index.{Indexed, Ready}
+use Rattle.index.specs.Index.{Ready}
 use Rattle.refinement.specs.Inv.{Inv}
-use Rattle.cells.specs.Layout.{BEHIND, HEADS}
+use Rattle.cells.specs.Layout.{HEADS, BEHIND}
 use Rattle.cells.specs.Memory.{Mem, memOf}
 use Rattle.refinement.specs.Run.{viewOf, playM, countM, startM, At, Going, Plays}
 use Rattle.controller.specs.Controller.{Machine, machine}

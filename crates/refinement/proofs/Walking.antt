@@ -2,7 +2,7 @@
 use Prim.Native.Nat.{ℕ, zero, suc, _<_}
 use mathlib.Core.List.{List, [], _++_, append-assoc, append-nil}
 use mathlib.Core.Logic.{⊎-elim}
-use mathlib.Core.Path.{_≡_, sym, subst}
+use mathlib.Core.Path.{_≡_, sym, _∙_, ap, subst}
 use native.Mathlib.Nat.{not-suc-le-zero, le-step, le-refl}
 use native.Mathlib.Omega.{arith}
 use Rattle.base.proofs.Below.{below-cases}
@@ -14,6 +14,12 @@ module _ {A : Type 0} where
   abbrev pub loop : (ℕ → A → A) → ℕ → A → A
   loop f zero a = a
   loop f (suc n) a = f n (loop f n a)
+
+  -- a recursion by these steps is the loop
+  pub is-loop : (f F : ℕ → A → A) → ((a : A) → F 0 a ≡ a) → ((n : ℕ) (a : A) → F (suc n) a ≡ f n (F n a)) → (n : ℕ) (a : A)
+      → F n a ≡ loop f n a
+  is-loop f F start more zero a = start a
+  is-loop f F start more (suc n) a = more n a ∙ ap (f n) (is-loop f F start more n a)
 
   loop-keeps : (P : A → Type 0) (f : ℕ → A → A) (n : ℕ) → ((j : ℕ) → j < n → (a : A) → P a → P (f j a)) → (a : A) → P a
       → P (loop f n a)

@@ -19,7 +19,7 @@ use Rattle.cells.specs.Layout.{WORKERS, WORK, HEAD, TAIL}
 use Rattle.counters.specs.Load.{clearedM, loadM}
 use Rattle.cells.specs.Memory.{Mem, memOf}
 use Rattle.controller.specs.Controller.{Machine, machine}
-use Rattle.refinement.specs.Step.{workerM, stepM, afterM}
+use Rattle.refinement.specs.Step.{readM, workerM, stepM, afterM}
 use Rattle.cells.specs.View.{view}
 use Rattle.refinement.specs.declared.Progress.{Progress}
 use Rattle.plan.specs.Decode.{planFault}
@@ -70,6 +70,10 @@ pub record Playable (b cells : List ℕ) (t : Tally) : Type 0 where
 -- the action `d` of row `i`, on a memory
 abbrev pub workerOn : System → Tally → ℕ → ℕ → Mem → Option Mem
 workerOn sys t i d m = workerM sys i d (record { mem = m; tally = t })
+
+-- row `i` reads from actor `d`, on a memory
+abbrev pub readOn : Tally → ℕ → ℕ → Mem → Option Mem
+readOn t i d m = readM d i (record { mem = m; tally = t })
 
 -- a turn, on a machine
 abbrev pub turnOn : System → ℕ → ℕ → Machine → Option Machine

@@ -4,8 +4,9 @@ use mathlib.Core.Path.{_≡_, refl, sym, _∙_, ap}
 use native.Mathlib.Omega.{arith}
 use lib.ListN.{length}
 use Rattle.disac4.specs.System.{System}
-use Rattle.counters.proofs.Kept.{row-kept, touch-values-kept}
+use Rattle.counters.proofs.Kept.{row-heads, touch-values-kept}
 use Rattle.counters.proofs.TreatLaws.{value-more}
+use Rattle.cells.specs.Layout.{HEADS}
 use Rattle.cells.specs.Memory.{Mem, memOf}
 use Rattle.cells.specs.View.{counterRow}
 use Rattle.counters.specs.Treat.{Supported, touchValuesM}
@@ -34,6 +35,12 @@ add-v c = omega arith
 loop-less : tie.Need-loop-less Inv-loop μ-loop
 loop-less c = omega arith
 
+-- the counters stay in their row
+row-stays : (sys : System) (i y w x v : ℕ) (m n : Mem) → n ≡ touchValuesM sys i y w x v m → counterRow n x y ≡ counterRow m x y
+row-stays sys i y w x v m n e =
+    ap (λ (n : Mem). counterRow n x y) e
+    ∙ row-heads m _ x y (touch-values-kept sys i y w x v m .static HEADS x y (omega arith))
+
 loop-again : tie.Need-loop-again Inv-loop μ-loop
 loop-again c =
     let l = c .before .before .before .before .before in
@@ -44,7 +51,7 @@ loop-again c =
           let e = l .loop .inv .2 sys y w s in
           value-more sys (a .i) y w _ _ _ (a .x) (l .loop .v) e
           (c .before .before .touch .ensures sys y w (s .holds (l .loop .v) (omega arith))
-          (s .counted ∙ sym (ap (λ (m : Mem). counterRow m (a .x) y) e ∙ row-kept _ _ (a .x) y (touch-values-kept sys (a .i) y w (a .x) (l .loop .v) _)))),
+          (s .counted ∙ sym (row-stays sys (a .i) y w (a .x) (l .loop .v) _ _ e))),
     )
 
 same-length : tie.Need-same-length Inv-loop μ-loop

@@ -19,11 +19,11 @@ abbrev μ-loop : tie.MeasureT-loop
 loop-holds : tie.Need-loop-holds Inv-loop μ-loop
 loop-holds c = none-played _ _ _ _ _
 
-add-advance : tie.Need-add-advance Inv-loop μ-loop
-add-advance c = omega arith
+add-control : tie.Need-add-control Inv-loop μ-loop
+add-control c = omega arith
 
-advance-requires : tie.Need-advance-requires Inv-loop μ-loop
-advance-requires c κs =
+control-requires : tie.Need-control-requires Inv-loop μ-loop
+control-requires c κs =
     let l = c .before .before in
     let s = l .before .before .before in
     (goes-on (l .loop .inv) (s .pre .0), s .pre .1, may-hear (s .args .p) _ (omega arith) (omega arith))
@@ -38,8 +38,8 @@ loop-again : tie.Need-loop-again Inv-loop μ-loop
 loop-again c =
     let v = c .before .before in
     let l = v .before .before .before in
-    one-more (l .loop .inv) (v .advance .last .1 .0) (v .advance .result) (v .before .before .loop-test .taken)
-    (v .advance .kept .1 .0) (rw add-one at (v .advance .ensures))
+    one-more (l .loop .inv) (v .control .last .1 .0) (v .control .result) (v .before .before .loop-test .taken)
+    (v .control .kept .1 .0) (rw add-one at (v .control .ensures))
 
 same-length : tie.Need-same-length Inv-loop μ-loop
 same-length c = c .before .loop .inv .same
@@ -54,8 +54,8 @@ hear-all-spec =
     Inv-loop
     μ-loop
     loop-holds
-    add-advance
-    advance-requires
+    add-control
+    control-requires
     add-i
     loop-less
     loop-again

@@ -27,8 +27,8 @@ hear-all-requires c κs =
     let w = c .before .before .before in
     (have-worked w, w .before .before .before .before .pre .1)
 
-advance-requires : tie.Need-advance-requires
-advance-requires c κs =
+control-requires : tie.Need-control-requires
+control-requires c κs =
     let h = c .before .before .before in
     let w = h .before .before .before .before in
     let s = w .before .before .before .before in (
@@ -51,9 +51,9 @@ returns c =
     let workers = gatherBelow (a .p) (λ i. workerRound (a .p) (suc i)) in
     let controller = listBelow (a .p) (λ i. turn 0 (suc i)) in
     plays-then b (workers ++ controller) (turn 0 12 ∷ []) _ _ _ _ _ _
-    (plays-then b workers controller _ _ _ _ _ _ (w .workers-round .ensures) (h .hear-all .ensures)) (e .advance .ensures)
+    (plays-then b workers controller _ _ _ _ _ _ (w .workers-round .ensures) (h .hear-all .ensures)) (e .control .ensures)
 
 pub play-round-spec : {M : Type 1} → statement M
 play-round-spec =
     tie.close
-    (tie.spec workers-round-requires hear-all-requires advance-requires same-length returns)
+    (tie.spec workers-round-requires hear-all-requires control-requires same-length returns)

@@ -1,21 +1,28 @@
 -- `engine::rounds::read_other` reads from an actor that is not the worker itself. Assumes nothing.
+use native.Mathlib.Omega.{arith}
 use borrow.Author.Needs.{needs}
 use borrow.Author.Tests.{eq-eqb, ne-eqb}
 use denote.Ref.{now}
 use Rattle.disac4.proofs.Rounds.{may-read}
-use Rattle.refinement.proofs.Underway.{plays-none}
+use Rattle.engine.proofs.Working.{running-playable, works-none}
 use Rattle.engine.proofs.rounds.read_other.Statement.{statement}
 use Rattle.engine.proofs.rounds.read_other.Tie as tie
 
 returns : tie.Need-returns
 returns c =
     let a = c .before .before .before .args in
-    rw (eq-eqb (a .j) (a .k) (c .if1 .taken)) (plays-none (now (a .b)) (now (a .cells)) (a .g))
+    (rw (eq-eqb (a .j) (a .k) (c .if1 .taken)) (works-none (now (a .b)) (now (a .cells)) (a .t)), omega arith)
 
-advance-requires : tie.Need-advance-requires
-advance-requires c κs =
+read-turn-requires : tie.Need-read-turn-requires
+read-turn-requires c κs =
     let s = c .before .before .before .before in
-    (s .pre .0, s .pre .1, may-read (s .args .p) (s .args .k) (s .args .j) (s .pre .2) (s .pre .3) (s .pre .4) (c .before .if1 .left))
+    let can = running-playable (now (s .args .b)) (now (s .args .cells)) (s .args .t) (s .pre .0) in (
+      s .pre .0,
+      s .pre .1,
+      s .pre .2,
+      omega (arith, s .pre .1, s .pre .4, can .workers),
+      may-read (s .args .p) (s .args .k) (s .args .j) (s .pre .2) (s .pre .3) (s .pre .4) (c .before .if1 .left),
+    )
 
 same-length : tie.Need-same-length
 same-length c = search needs
@@ -25,7 +32,7 @@ returns-2 c =
     let v = c .before .before in
     let i = v .before .before in
     let a = i .before .before .before .args in
-    rw (ne-eqb (a .j) (a .k) (i .if1 .left)) (v .advance .ensures)
+    (rw (ne-eqb (a .j) (a .k) (i .if1 .left)) (v .read-turn .ensures .0), v .read-turn .ensures .1)
 
 pub read-other-spec : {M : Type 1} → statement M
-read-other-spec = tie.close (tie.spec returns advance-requires same-length returns-2)
+read-other-spec = tie.close (tie.spec returns read-turn-requires same-length returns-2)

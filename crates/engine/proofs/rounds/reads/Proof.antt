@@ -1,36 +1,48 @@
--- `engine::rounds::reads` reads from every other actor. The loop's invariant: the actors passed are read from. The measure is
--- what is left. Assumes nothing.
-use Prim.Native.Nat.{suc, _-_}
+-- `engine::rounds::reads` reads from every other actor. The loop's invariant: those passed are read from. The measure is what is
+-- left. Assumes nothing.
+use Prim.Native.Nat.{suc, _-_, _≤_}
 use mathlib.Core.Bool.{cond}
 use mathlib.Core.List.{[], _∷_, map}
 use native.Mathlib.Omega.{arith}
 use lib.Dec.{eqb}
+use denote.Ref.{now}
 use Rattle.disac4.specs.Round.{others}
 use Rattle.disac4.specs.Turn.{turn}
-use Rattle.engine.proofs.Advancing.{playable}
-use Rattle.engine.proofs.Playing.{Playing, none-played, goes-on, one-more, all-played, map-gather}
+use Rattle.engine.proofs.Playing.{map-gather}
+use Rattle.engine.proofs.Working.{Working, none-worked, working-on, one-worked, all-worked, running-playable}
 use Rattle.engine.proofs.rounds.reads.Statement.{statement}
 use Rattle.engine.proofs.rounds.reads.Tie as tie
 
 abbrev Inv-loop : tie.InvT-loop
-Inv-loop b cells₀ p k at₀ j₀ cells at j = Playing b (suc p) (λ i. map (turn k) (cond (eqb i k) [] (i ∷ []))) cells₀ at₀ j cells at
+Inv-loop b cells₀ t p k changes₀ j₀ cells changes j =
+    Working b (suc p) (λ i. map (turn k) (cond (eqb i k) [] (i ∷ []))) cells₀ t j changes cells
 
 abbrev μ-loop : tie.MeasureT-loop
-μ-loop b cells₀ p k at₀ j₀ cells at j = suc p - j
+μ-loop b cells₀ t p k changes₀ j₀ cells changes j = suc p - j
+
+few-at : (s : tie.Start Inv-loop μ-loop) → s .args .p ≤ 8
+few-at s =
+    omega (arith, s .pre .1, running-playable (now (s .args .b)) (now (s .args .cells)) (s .args .t) (s .pre .0) .workers)
 
 loop-holds : tie.Need-loop-holds Inv-loop μ-loop
-loop-holds c = none-played _ _ _ _ _
+loop-holds c = none-worked _ _ _ _ _
 
 read-other-requires : tie.Need-read-other-requires Inv-loop μ-loop
 read-other-requires c κs =
     let l = c .before .before in
     let s = l .before .before .before in
-    (goes-on (l .loop .inv) (s .pre .0), s .pre .1, s .pre .2, s .pre .3, c .before .loop-test .taken)
+    (working-on (l .loop .inv) (s .pre .0), s .pre .1, s .pre .2, s .pre .3, c .before .loop-test .taken)
+
+add-changes : tie.Need-add-changes Inv-loop μ-loop
+add-changes c =
+    let v = c .before .before in
+    let l = v .before .before .before in
+    omega (arith, few-at (l .before .before .before), l .loop .inv .few, l .loop .inv .passed, v .read-other .ensures .1)
 
 add-j : tie.Need-add-j Inv-loop μ-loop
 add-j c =
-    let s = c .before .before .before .before .before .before .before .before in
-    omega (arith, s .pre .1, playable _ _ _ (s .pre .0) .workers)
+    let l = c .before .before .before .before .before in
+    omega (arith, few-at (l .before .before .before), l .loop .inv .passed)
 
 loop-less : tie.Need-loop-less Inv-loop μ-loop
 loop-less c = omega arith
@@ -39,8 +51,8 @@ loop-again : tie.Need-loop-again Inv-loop μ-loop
 loop-again c =
     let v = c .before .before in
     let l = v .before .before .before in
-    one-more (l .loop .inv) (v .read-other .last .1 .0) (v .read-other .result) (omega arith)
-    (v .read-other .kept .1 .0) (v .read-other .ensures)
+    one-worked (l .loop .inv) (v .read-other .last .1 .0) (v .read-other .result) (omega arith) (v .read-other .ensures .1)
+    (v .read-other .kept .1 .0) (v .read-other .ensures .0)
 
 same-length : tie.Need-same-length Inv-loop μ-loop
 same-length c = c .before .loop .inv .same
@@ -48,9 +60,13 @@ same-length c = c .before .loop .inv .same
 returns : tie.Need-returns Inv-loop μ-loop
 unfolding others
 returns c =
-    let a = c .before .before .before .before .args in
-    rw (map-gather (turn (a .k)) (suc (a .p)) (λ j. cond (eqb j (a .k)) [] (j ∷ []))) at
-    (all-played (c .before .loop .inv) (c .loop-test .left))
+    let l = c .before in
+    let s = l .before .before .before in
+    let a = s .args in (
+      rw (map-gather (turn (a .k)) (suc (a .p)) (λ j. cond (eqb j (a .k)) [] (j ∷ []))) at
+          (all-worked (l .loop .inv) (c .loop-test .left)),
+      omega (arith, few-at s, l .loop .inv .few, l .loop .inv .passed),
+    )
 
 pub reads-spec : {M : Type 1} → statement M
 reads-spec =
@@ -60,6 +76,7 @@ reads-spec =
     μ-loop
     loop-holds
     read-other-requires
+    add-changes
     add-j
     loop-less
     loop-again

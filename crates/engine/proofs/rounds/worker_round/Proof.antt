@@ -1,50 +1,90 @@
 -- `engine::rounds::worker_round` plays the turns of a worker. Assumes nothing.
+use Prim.Native.Nat.{_+_, _<_, _≤_}
 use borrow.Author.Needs.{needs}
 use mathlib.Core.List.{[], _∷_, map}
 use mathlib.Core.Path.{refl}
+use native.Mathlib.Omega.{arith}
 use denote.Ref.{now}
 use Rattle.disac4.proofs.Rounds.{may-work}
 use Rattle.disac4.specs.Round.{others, workerRound}
 use Rattle.disac4.specs.Turn.{turn}
-use Rattle.engine.proofs.Playing.{goes-after}
-use Rattle.refinement.proofs.Underway.{plays-then}
-use Rattle.refinement.specs.Run.{Going}
+use Rattle.engine.proofs.Advancing.{counts-room}
+use Rattle.engine.proofs.Working.{works-then, worked-plays, running-by, running-after}
+use Rattle.engine.specs.Play.{Running}
 use Rattle.engine.proofs.rounds.worker_round.Statement.{statement}
 use Rattle.engine.proofs.rounds.worker_round.Tie as tie
 
 reads-requires : tie.Need-reads-requires
-reads-requires c κs = search needs
+reads-requires c κs =
+    let s = c .before .before .before .before in
+    (running-by (now (s .args .b)) (now (s .args .cells)) (s .args .g) (s .pre .0), s .pre .1, s .pre .2, s .pre .3)
 
--- the run goes on after the reads, and after treating
-has-read : (r : tie.After-reads) → Going (now (r .before .before .before .before .args .b)) (r .reads .last .1 .0) (r .reads .result)
-has-read r = goes-after _ _ _ _ _ _ (r .before .before .before .before .pre .0) (r .reads .kept .1 .0) (r .reads .ensures)
+-- the run goes on after the reads, after treating and after sending
+has-read : (r : tie.After-reads)
+    → Running (now (r .before .before .before .before .before .args .b)) (r .reads .last .1 .0) (r .before .before .before .before .before .args .g .tally)
+has-read r =
+    let s = r .before .before .before .before .before in
+    running-after _ _ _ _ _ _ _ (running-by (now (s .args .b)) (now (s .args .cells)) (s .args .g) (s .pre .0)) (r .reads .kept .1 .0) (r .reads .ensures .0)
 
-has-treated : (t : tie.After-advance)
-    → Going (now (t .before .before .before .before .before .before .before .before .args .b)) (t .advance .last .1 .0) (t .advance .result)
+has-treated : (t : tie.After-work-turn)
+    → Running (now (t .before .before .before .before .before .before .before .before .before .args .b)) (t .work-turn .last .1 .0)
+    (t .before .before .before .before .before .before .before .before .before .args .g .tally)
 has-treated t =
-    goes-after _ _ _ _ _ _ (has-read (t .before .before .before .before)) (t .advance .kept .1 .0) (t .advance .ensures)
+    running-after _ _ _ _ _ _ _ (has-read (t .before .before .before .before)) (t .work-turn .kept .1 .0) (t .work-turn .ensures .0)
 
-advance-requires : tie.Need-advance-requires
-advance-requires c κs =
+work-turn-requires : tie.Need-work-turn-requires
+work-turn-requires c κs =
     let r = c .before .before .before in
-    let s = r .before .before .before .before in
-    (has-read r, s .pre .1, may-work (s .args .p) (s .args .k) _ (s .pre .2) (s .pre .3) refl)
+    let s = r .before .before .before .before .before in
+    (has-read r, s .pre .1, s .pre .2, may-work (s .args .p) (s .args .k) _ (s .pre .2) (s .pre .3) refl)
 
-advance-requires-2 : tie.Need-advance-requires-2
-advance-requires-2 c κs =
+work-turn-requires-2 : tie.Need-work-turn-requires-2
+work-turn-requires-2 c κs =
     let t = c .before .before .before in
-    let s = t .before .before .before .before .before .before .before .before in
-    (has-treated t, s .pre .1, may-work (s .args .p) (s .args .k) _ (s .pre .2) (s .pre .3) refl)
+    let s = t .before .before .before .before .before .before .before .before .before in
+    (has-treated t, s .pre .1, s .pre .2, may-work (s .args .p) (s .args .k) _ (s .pre .2) (s .pre .3) refl)
 
-advance-requires-3 : tie.Need-advance-requires-3
-advance-requires-3 c κs =
+work-turn-requires-3 : tie.Need-work-turn-requires-3
+work-turn-requires-3 c κs =
     let d = c .before .before .before in
     let t = d .before .before .before .before in
-    let s = t .before .before .before .before .before .before .before .before in (
-      goes-after _ _ _ _ _ _ (has-treated t) (d .advance2 .kept .1 .0) (d .advance2 .ensures),
+    let s = t .before .before .before .before .before .before .before .before .before in (
+      running-after _ _ _ _ _ _ _ (has-treated t) (d .work-turn2 .kept .1 .0) (d .work-turn2 .ensures .0),
       s .pre .1,
+      s .pre .2,
       may-work (s .args .p) (s .args .k) _ (s .pre .2) (s .pre .3) refl,
     )
+
+-- the counts have room for the turns of a worker
+room : (e : tie.After-work-turn3) →
+    let d = e .before .before .before .before in
+    let t = d .before .before .before .before in
+    let r = t .before .before .before .before in
+    let g = r .before .before .before .before .before .args .g in
+    (g .changes + r .reads .result + t .work-turn .result + d .work-turn2 .result + e .work-turn3 .result < 65548)
+    × (g .sends + d .work-turn2 .result < 65537)
+room e =
+    let d = e .before .before .before .before in
+    let t = d .before .before .before .before in
+    let r = t .before .before .before .before in
+    let s = r .before .before .before .before .before in
+    let c = counts-room (now (s .args .b)) (now (s .args .cells)) (s .args .g) (s .pre .0) in
+    omega (arith, c .0, c .1, r .reads .ensures .1, t .work-turn .ensures .1, d .work-turn2 .ensures .1, e .work-turn3 .ensures .1)
+
+add-t19 : tie.Need-add-t19
+add-t19 c = omega (arith, room (c .before .before .before) .0)
+
+add-t20 : tie.Need-add-t20
+add-t20 c = omega (arith, room (c .before .before .before) .0)
+
+add-t21 : tie.Need-add-t21
+add-t21 c = omega (arith, room (c .before .before .before) .0)
+
+add-t22 : tie.Need-add-t22
+add-t22 c = omega (arith, room (c .before .before .before) .0)
+
+add-t23 : tie.Need-add-t23
+add-t23 c = omega (arith, room (c .before .before .before .before) .1)
 
 same-length : tie.Need-same-length
 same-length c = search needs
@@ -52,25 +92,31 @@ same-length c = search needs
 returns : tie.Need-returns
 unfolding workerRound
 returns c =
-    let e = c .before .before in
+    let e = c .before .before .before .before in
     let d = e .before .before .before .before in
     let t = d .before .before .before .before in
     let r = t .before .before .before .before in
-    let a = r .before .before .before .before .args in
+    let a = r .before .before .before .before .before .args in
     let b = now (a .b) in
     let k = a .k in
-    plays-then b (map (turn k) (others (a .p) k)) (turn k 9 ∷ turn k 10 ∷ turn k 11 ∷ []) _ _ _ _ _ _ (r .reads .ensures)
-    (plays-then b (turn k 9 ∷ turn k 10 ∷ []) (turn k 11 ∷ []) _ _ _ _ _ _
-    (plays-then b (turn k 9 ∷ []) (turn k 10 ∷ []) _ _ _ _ _ _ (t .advance .ensures) (d .advance2 .ensures))
-    (e .advance3 .ensures))
+    worked-plays b (workerRound (a .p) k) _ _ _ _ (a .g) _
+    (works-then b (map (turn k) (others (a .p) k)) (turn k 9 ∷ turn k 10 ∷ turn k 11 ∷ []) _ _ _ _ _ _ _ _ (r .reads .ensures .0)
+    (works-then b (turn k 9 ∷ []) (turn k 10 ∷ turn k 11 ∷ []) _ _ _ _ _ _ _ _ (t .work-turn .ensures .0)
+    (works-then b (turn k 10 ∷ []) (turn k 11 ∷ []) _ _ _ _ _ _ _ _ (d .work-turn2 .ensures .0) (e .work-turn3 .ensures .0))))
+    (record { before = refl; after = refl; changes = omega arith; sends = omega arith; polls = refl })
 
 pub worker-round-spec : {M : Type 1} → statement M
 worker-round-spec =
     tie.close
     (tie.spec
     reads-requires
-    advance-requires
-    advance-requires-2
-    advance-requires-3
+    work-turn-requires
+    work-turn-requires-2
+    work-turn-requires-3
+    add-t19
+    add-t20
+    add-t21
+    add-t22
+    add-t23
     same-length
     returns)

@@ -1,71 +1,92 @@
 -- `engine::run::advance` plays one turn more. Assumes nothing.
+use mathlib.Core.Path.{_≡_, refl, sym, ap, subst}
+use mathlib.Core.List.{[], _∷_}
 use Prim.Native.Nat.{ℕ, _+_}
-use mathlib.Core.Path.{refl, ap}
 use native.Mathlib.Omega.{arith}
+use lib.Dec.{eqb}
 use denote.Ref.{now}
-use Rattle.disac4.specs.Report.{isSend, isPoll}
 use Rattle.disac4.specs.Turn.{turn}
-use Rattle.engine.proofs.Advancing.{playable, counts-room, adds-one, part-of, advanced}
+use Rattle.engine.proofs.Advancing.{counts-room, part-of}
+use Rattle.engine.proofs.Working.{running-by, worked-plays}
 use borrow.Author.Needs.{needs}
 use Rattle.engine.proofs.run.advance.Statement.{statement}
 use Rattle.engine.proofs.run.advance.Tie as tie
 
-step-requires : tie.Need-step-requires
-step-requires c κs =
-    let s = c .before .before .before .before in
-    (playable (now (s .args .b)) (now (s .args .cells)) (s .args .g) (s .pre .0), s .pre .1, s .pre .2)
-
-add-t13 : tie.Need-add-t13
-add-t13 c =
-    let s = c .before .before .before .before .before .before .before .before .before in
-    let h = c .before .before .before .before .step in
-    let room = counts-room (now (s .args .b)) (now (s .args .cells)) (s .args .g) (s .pre .0) in
-    let few = adds-one _ _ _ _ _ (h .ensures) in
-    omega (arith, room .0, few)
-
-if-send-requires : tie.Need-if-send-requires
-if-send-requires c κs = search needs
-
-add-t15 : tie.Need-add-t15
-add-t15 c =
-    let s = c .before .before .before .before .before .before .before .before .before .before .before in
-    let h = c .before .before .before .before .before .before .step in
-    let room = counts-room (now (s .args .b)) (now (s .args .cells)) (s .args .g) (s .pre .0) in
-    let few = adds-one _ _ _ _ _ (h .ensures) in
-    omega (arith, room .1, few, part-of (isSend (turn (s .args .actor) (s .args .action))) (h .result .changed) (c .before .if-send .result) (c .before .if-send .ensures))
-
-if-poll-requires : tie.Need-if-poll-requires
-if-poll-requires c κs = search needs
-
-add-t17 : tie.Need-add-t17
-add-t17 c =
-    let s = c .before .before .before .before .before .before .before .before .before .before .before .before .before in
-    let h = c .before .before .before .before .before .before .before .before .step in
-    let room = counts-room (now (s .args .b)) (now (s .args .cells)) (s .args .g) (s .pre .0) in
-    let few = adds-one _ _ _ _ _ (h .ensures) in
-    omega (arith, room .2, few, part-of (isPoll (turn (s .args .actor) (s .args .action))) (h .result .changed) (c .before .if-poll .result) (c .before .if-poll .ensures))
+control-requires : tie.Need-control-requires
+control-requires c κs =
+    let t = c .before in
+    let s = t .before .before .before in
+    (s .pre .0, s .pre .1, rw (sym (t .if1 .taken)) (s .pre .2))
 
 same-length : tie.Need-same-length
 same-length c = search needs
 
 returns : tie.Need-returns
 returns c =
-    let s = c .before .before .before .before .before .before .before .before .before .before .before .before .before in
-    let a = s .args in
-    let h = c .before .before .before .before .before .before .before .before .step in
-    advanced (now (a .b)) (now (a .cells)) (h .last .1 .0) (a .g) _ (a .actor) (a .action) (h .result) (s .pre .0 .sound)
-    (h .ensures) refl refl (ap (λ (n : ℕ). a .g .sends + n) (c .before .before .before .if-send .ensures))
-    (ap (λ (n : ℕ). a .g .polls + n) (c .before .if-poll .ensures))
+    let v = c .before .before in
+    let t = v .before .before in
+    rw (t .if1 .taken) (v .control .ensures)
+
+work-turn-requires : tie.Need-work-turn-requires
+work-turn-requires c κs =
+    let e = c .before .before in
+    let s = e .before .before .before in (
+      running-by (now (s .args .b)) (now (s .args .cells)) (s .args .g) (s .pre .0),
+      s .pre .1,
+      omega (arith, e .if1 .left),
+      s .pre .2,
+    )
+
+add-t14 : tie.Need-add-t14
+add-t14 c =
+    let w = c .before .before .before in
+    let s = w .before .before .before .before .before .before in
+    let room = counts-room (now (s .args .b)) (now (s .args .cells)) (s .args .g) (s .pre .0) in
+    omega (arith, room .0, w .work-turn .ensures .1)
+
+if-action-requires : tie.Need-if-action-requires
+if-action-requires c κs = search needs
+
+add-t16 : tie.Need-add-t16
+add-t16 c =
+    let i = c .before in
+    let w = i .before .before .before .before in
+    let s = w .before .before .before .before .before .before in
+    let room = counts-room (now (s .args .b)) (now (s .args .cells)) (s .args .g) (s .pre .0) in
+    omega (
+      arith,
+      room .1,
+      w .work-turn .ensures .1,
+      part-of (eqb (s .args .action) 10) (w .work-turn .result) (i .if-action .result) (i .if-action .ensures),
+    )
+
+same-length-2 : tie.Need-same-length-2
+same-length-2 c = search needs
+
+returns-2 : tie.Need-returns-2
+returns-2 c =
+    let i = c .before in
+    let w = i .before .before .before .before in
+    let a = w .before .before .before .before .before .before .args in
+    worked-plays (now (a .b)) _ _ _ _ _ (a .g) _ (w .work-turn .ensures .0)
+    (record {
+      before = refl;
+      after = refl;
+      changes = refl;
+      sends = ap (λ (n : ℕ). a .g .sends + n) (i .if-action .ensures);
+      polls = refl;
+    })
 
 pub advance-spec : {M : Type 1} → statement M
 advance-spec =
     tie.close
     (tie.spec
-    step-requires
-    add-t13
-    if-send-requires
-    add-t15
-    if-poll-requires
-    add-t17
+    control-requires
     same-length
-    returns)
+    returns
+    work-turn-requires
+    add-t14
+    if-action-requires
+    add-t16
+    same-length-2
+    returns-2)

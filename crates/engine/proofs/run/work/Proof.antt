@@ -3,7 +3,7 @@ use denote.Ref.{now}
 use native.Mathlib.Omega.{arith}
 use Rattle.disac4.specs.Outcome.{systemAt}
 use Rattle.disac4.specs.System.{systemOf}
-use Rattle.engine.proofs.RunLaws.{acts-as, worker-treats, worker-sends, worker-answers, worker-polls, worker-lists}
+use Rattle.engine.proofs.RunLaws.{acts-as, worker-treats, worker-sends, worker-answers, worker-reads}
 use Rattle.cells.specs.Memory.{memOf}
 use Rattle.refinement.specs.Run.{workerOn}
 use Rattle.plan.specs.Decode.{planOf}
@@ -55,11 +55,14 @@ returns-3 c =
     (worker-answers (systemAt (now (a .b))) (a .t) (a .i) (a .d) (memOf (now (a .cells))) (c .before .before .before .before .before .before .if1 .left) (c .before .before .before .before .before .if2 .left) (c .before .before .before .before .if3 .taken))
     (c .before .before .answer .ensures)
 
-cast-n : tie.Need-cast-n
-cast-n c = search needs
-
-read-poll-requires : tie.Need-read-poll-requires
-read-poll-requires c κs = search needs
+read-requires : tie.Need-read-requires
+read-requires c κs =
+    let e = c .before in
+    let s = e .before .before .before .before .before in (
+      s .pre .0 .ready .long,
+      omega (arith, s .pre .0 .workers, s .pre .1),
+      omega (arith, s .pre .2, e .if3 .left, e .before .if2 .left, e .before .before .if1 .left),
+    )
 
 same-length-4 : tie.Need-same-length-4
 same-length-4 c = search needs
@@ -67,27 +70,12 @@ same-length-4 c = search needs
 returns-4 : tie.Need-returns-4
 unfolding systemAt
 returns-4 c =
-    let a = c .before .before .before .before .before .before .before .before .before .before .before .before .args in
+    let r = c .before .before in
+    let e = r .before .before in
+    let a = e .before .before .before .before .before .args in
     acts-as _ (workerOn (systemAt (now (a .b))) (a .t) (a .i) (a .d)) (now (a .cells)) _ _
-    (worker-polls (systemAt (now (a .b))) (a .t) (a .i) (a .d) (memOf (now (a .cells))) (c .before .before .before .before .before .before .before .before .before .if1 .left) (c .before .before .before .before .before .before .before .before .if2 .left) (c .before .before .before .before .before .before .before .if3 .left) (c .before .before .before .before .before .before .if4 .taken))
-    (c .before .before .read-poll .ensures)
-
-sub-read-list : tie.Need-sub-read-list
-sub-read-list c = search needs
-
-read-list-requires : tie.Need-read-list-requires
-read-list-requires c κs = search needs
-
-same-length-5 : tie.Need-same-length-5
-same-length-5 c = search needs
-
-returns-5 : tie.Need-returns-5
-unfolding systemAt
-returns-5 c =
-    let a = c .before .before .before .before .before .before .before .before .before .before .args in
-    acts-as _ (workerOn (systemAt (now (a .b))) (a .t) (a .i) (a .d)) (now (a .cells)) _ _
-    (worker-lists (systemAt (now (a .b))) (a .t) (a .i) (a .d) (memOf (now (a .cells))) (c .before .before .before .before .before .before .before .if1 .left) (c .before .before .before .before .before .before .if2 .left) (c .before .before .before .before .before .if3 .left) (c .before .before .before .before .if4 .left))
-    (c .before .before .read-list .ensures)
+    (worker-reads (systemAt (now (a .b))) (a .t) (a .i) (a .d) (memOf (now (a .cells))) (e .before .before .if1 .left) (e .before .if2 .left)
+    (e .if3 .left)) (r .read .ensures)
 
 pub work-spec : {M : Type 1} → statement M
 work-spec =
@@ -102,11 +90,6 @@ work-spec =
     answer-requires
     same-length-3
     returns-3
-    cast-n
-    read-poll-requires
+    read-requires
     same-length-4
-    returns-4
-    sub-read-list
-    read-list-requires
-    same-length-5
-    returns-5)
+    returns-4)

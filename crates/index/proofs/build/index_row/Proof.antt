@@ -5,9 +5,10 @@ use mathlib.Core.Path.{_≡_, refl, sym, _∙_}
 use native.Mathlib.Omega.{arith}
 use lib.ListN.{length}
 use Rattle.cells.proofs.Ranges.{may-put}
+use Rattle.cells.specs.Layout.{PLACES}
 use Rattle.cells.specs.Memory.{memOf}
 use Rattle.format.specs.Format.{variableCount}
-use Rattle.index.proofs.Own.{count-none, count-low, count-more, own-more, own-listed, located-kept, row-places}
+use Rattle.index.proofs.Own.{count-none, count-low, count-more, own-more, own-listed, row-other, located-kept}
 use Rattle.index.proofs.Places.{few-sections}
 use Rattle.index.proofs.build.index_row.Statement.{statement}
 use Rattle.index.proofs.build.index_row.Tie as tie
@@ -63,7 +64,7 @@ owned-requires c κs =
     let s = s p in
     let b = now (s .args .b) in (
       located-kept b (now (s .args .cells)) (p .put .last .0) _ (s .pre .0) (p .put .kept .0 ∙ l p .loop .inv .4) (written p)
-          (row-places b (s .args .i) (l p .loop .x + 1) (memOf (now (s .args .cells)))),
+          (λ k. row-other b (s .args .i) (memOf (now (s .args .cells))) (l p .loop .x + 1) PLACES 0 k (λ e f. omega arith)),
       s .pre .1,
       omega (arith, l p .loop .inv),
     )

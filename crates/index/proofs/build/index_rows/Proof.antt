@@ -6,8 +6,7 @@ use native.Mathlib.Omega.{arith}
 use lib.ListN.{length}
 use Rattle.cells.specs.Layout.{PLACES}
 use Rattle.cells.specs.Memory.{memOf}
-use Rattle.index.proofs.Chains.{own-keeps}
-use Rattle.index.proofs.Own.{rows-more, located-kept}
+use Rattle.index.proofs.Own.{own-keeps, rows-more, located-kept}
 use Rattle.index.proofs.build.index_rows.Statement.{statement}
 use Rattle.index.proofs.build.index_rows.Tie as tie
 use Rattle.index.specs.Index.{ownM}
@@ -28,7 +27,7 @@ index-row-requires c κs =
     let s = l .before .before .before in
     let b = now (s .args .b) in (
       located-kept b (now (s .args .cells)) (l .loop .cells) _ (s .pre) (l .loop .inv .1) (l .loop .inv .2)
-          (λ k. own-keeps b (l .loop .i) (memOf (now (s .args .cells))) PLACES 0 k (λ e. omega arith) (λ e. omega arith)),
+          (λ k. own-keeps b (memOf (now (s .args .cells))) (l .loop .i) PLACES 0 k (λ e. omega arith) (λ e. omega arith)),
       omega arith,
     )
 

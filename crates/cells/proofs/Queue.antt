@@ -1,15 +1,19 @@
--- A queue in a row: what stands from one column to another. It grows at its end and is taken from its front.
-use Prim.Native.Nat.{ℕ, zero, suc, _+_, _-_, _<_, _≤_}
-use mathlib.Core.List.{List, [], _∷_, _++_, append-assoc, append-nil}
+-- A queue in a row: what stands from one column to another. It grows at its end and is taken from its front. The labels of
+-- a row are one.
+use Prim.Native.Nat.{ℕ, suc, _+_, _-_, _/_, _%_, _<_, _≤_}
+use mathlib.Core.List.{List, [], _∷_, _++_}
 use mathlib.Core.Path.{_≡_, refl, sym, _∙_, ap, ap₂}
 use native.Mathlib.Decide.{ℕ-discrete}
-use native.Mathlib.Nat.{le-step, le-refl}
 use native.Mathlib.Omega.{arith}
 use borrow.Author.Tests.{eq-eqb, ne-eqb}
 use lib.Dec.{eqb}
+use lib.ListN.{length}
+use Rattle.base.proofs.Below.{list-ext, list-first, length-list-below}
 use Rattle.base.specs.Below.{listBelow}
+use Rattle.network.specs.Network.{Label, label}
 use Rattle.disac4.specs.Action.{isEmpty}
-use Rattle.cells.specs.View.{listBetween}
+use Rattle.cells.specs.Memory.{Mem}
+use Rattle.cells.specs.View.{codeOf, labelOf, listBetween, labelsBetween}
 
 -- where a queue begins, where it ends, and what stands at each place
 pub record Queue (A : Type 0) : Type 0 where
@@ -30,20 +34,11 @@ module _ {A : Type 0} where
   abbrev pub Kept : Queue A → Queue A → Type 0
   Kept q q′ = (n : ℕ) → q .start ≤ n → n < q .stop → q′ .place n ≡ q .place n
 
-  below-ext : (n : ℕ) (f g : ℕ → A) → ((d : ℕ) → d < n → f d ≡ g d) → listBelow n f ≡ listBelow n g
-  below-ext zero f g h = refl
-  below-ext (suc n) f g h =
-      ap₂ (λ (l : List A) (a : A). l ++ (a ∷ [])) (below-ext n f g (λ d p. h d (le-step p))) (h n (le-refl (suc n)))
-
-  below-first : (n : ℕ) (f : ℕ → A) → listBelow (suc n) f ≡ f 0 ∷ listBelow n (λ d. f (suc d))
-  below-first zero f = refl
-  below-first (suc n) f = ap (λ (l : List A). l ++ (f (suc n) ∷ [])) (below-first n f)
-
   -- as many places, each with the same content
   pub queue-shift : (q q′ : Queue A) → q .stop - q .start ≡ q′ .stop - q′ .start
       → ((d : ℕ) → d < q .stop - q .start → q .place (q .start + d) ≡ q′ .place (q′ .start + d)) → listed q ≡ listed q′
   queue-shift q q′ e h =
-      below-ext (q .stop - q .start) (λ d. q .place (q .start + d)) (λ d. q′ .place (q′ .start + d)) h
+      list-ext (q .stop - q .start) (λ d. q .place (q .start + d)) (λ d. q′ .place (q′ .start + d)) h
       ∙ ap (λ (n : ℕ). listBelow n (λ d. q′ .place (q′ .start + d))) e
 
   -- the same ends
@@ -62,15 +57,11 @@ module _ {A : Type 0} where
   pub queue-put : (q q′ : Queue A) → Kept q q′ → q .start ≤ q .stop → q′ .start ≡ q .start → q′ .stop ≡ q .stop + 1
       → listed q′ ≡ listed q ++ (q′ .place (q .stop) ∷ [])
   queue-put q q′ h l a b =
-      let e : q′ .stop - q′ .start ≡ suc (q .stop - q .start) = omega arith in
-      let z : q′ .start + (q .stop - q .start) ≡ q .stop = omega arith in
+      let e : q′ .stop - q′ .start ≡ suc (q .stop - q′ .start) = omega arith in
+      let z : q′ .start + (q .stop - q′ .start) ≡ q .stop = omega arith in
       ap (λ (n : ℕ). listBelow n (λ d. q′ .place (q′ .start + d))) e
       ∙ ap₂ (λ (l : List A) (a : A). l ++ (a ∷ []))
-      (below-ext (q .stop - q .start) (λ d. q′ .place (q′ .start + d)) (λ d. q .place (q .start + d)) same)
-      (ap (q′ .place) z)
-    where
-      same : (d : ℕ) → d < q .stop - q .start → q′ .place (q′ .start + d) ≡ q .place (q .start + d)
-      same d k = h (q′ .start + d) (omega arith) (omega arith) ∙ ap (λ (n : ℕ). q .place (n + d)) a
+      (queue-same q (queue (q′ .start) (q .stop) (q′ .place)) h a refl) (ap (q′ .place) z)
 
   -- the oldest taken
   pub queue-taken : (q q′ : Queue A) → Kept q q′ → q .start < q .stop → q′ .start ≡ q .start + 1 → q′ .stop ≡ q .stop
@@ -79,32 +70,14 @@ module _ {A : Type 0} where
       let e : q .stop - q .start ≡ suc (q′ .stop - q′ .start) = omega arith in
       let z : q .start + 0 ≡ q .start = omega arith in
       ap (λ (n : ℕ). listBelow n (λ d. q .place (q .start + d))) e
-      ∙ below-first (q′ .stop - q′ .start) (λ d. q .place (q .start + d))
+      ∙ list-first (q′ .stop - q′ .start) (λ d. q .place (q .start + d))
       ∙ ap₂ (λ (a : A) (l : List A). a ∷ l) (ap (q .place) z)
-      (below-ext (q′ .stop - q′ .start) (λ d. q .place (q .start + suc d)) (λ d. q′ .place (q′ .start + d)) same)
+      (list-ext (q′ .stop - q′ .start) (λ d. q .place (q .start + suc d)) (λ d. q′ .place (q′ .start + d)) same)
     where
       same : (d : ℕ) → d < q′ .stop - q′ .start → q .place (q .start + suc d) ≡ q′ .place (q′ .start + d)
       same d k =
           let y : q′ .start + d ≡ q .start + suc d = omega arith in
           sym (h (q .start + suc d) (omega arith) (omega arith)) ∙ ap (q′ .place) (sym y)
-
-  -- one queue behind another
-  pub queue-append : (start stop n : ℕ) (f : ℕ → A) → start ≤ stop
-      → listBetween start (stop + n) f ≡ listBetween start stop f ++ listBetween stop (stop + n) f
-  queue-append start stop zero f l =
-      let e : stop + 0 ≡ stop = omega arith in
-      ap (λ (k : ℕ). listBetween start k f) e
-      ∙ sym (append-nil (listBetween start stop f))
-      ∙ ap (λ (l : List A). listBetween start stop f ++ l) (sym (queue-none (queue stop (stop + 0) f) (omega arith)))
-  queue-append start stop (suc n) f l =
-      one-more start (omega arith)
-      ∙ ap (λ (k : List A). k ++ (f (stop + n) ∷ [])) (queue-append start stop n f l)
-      ∙ append-assoc (listBetween start stop f) (listBetween stop (stop + n) f) (f (stop + n) ∷ [])
-      ∙ ap (λ (k : List A). listBetween start stop f ++ k) (sym (one-more stop (omega arith)))
-    where
-      one-more : (a : ℕ) → a ≤ stop + n
-          → listBetween a (stop + suc n) f ≡ listBetween a (stop + n) f ++ (f (stop + n) ∷ [])
-      one-more a h = queue-put (queue a (stop + n) f) (queue a (stop + suc n) f) (λ d p q. refl) h refl (omega arith)
 
   -- it is empty exactly if it ends where it begins
   pub queue-empty : (q : Queue A) → q .start ≤ q .stop → isEmpty (listed q) ≡ eqb (q .start) (q .stop)
@@ -115,3 +88,51 @@ module _ {A : Type 0} where
             (queue-taken q (queue (q .start + 1) (q .stop) (q .place)) (λ d a b. refl) (omega arith) refl refl)
             ∙ sym (ne-eqb (q .start) (q .stop) n)
       ]
+
+-- ---- the labels of a row as a queue
+
+abbrev labelQueue : Mem → ℕ → ℕ → ℕ → ℕ → Queue Label
+labelQueue m r i from to = queue from to (λ d. labelOf (m r i d))
+
+-- cells that agree between the same ends
+pub labels-same : (m n : Mem) (r i from to : ℕ) {from′ to′ : ℕ} → from′ ≡ from → to′ ≡ to
+    → ((d : ℕ) → from ≤ d → d < to → n r i d ≡ m r i d) → labelsBetween n r i from′ to′ ≡ labelsBetween m r i from to
+unfolding labelsBetween
+labels-same m n r i from to {from′} {to′} e f h =
+    queue-same (labelQueue m r i from to) (labelQueue n r i from′ to′) (λ d p q. ap labelOf (h d p q)) e f
+
+-- the oldest label apart
+pub labels-first : (m : Mem) (r i from to : ℕ) → from < to
+    → labelsBetween m r i from to ≡ labelOf (m r i from) ∷ labelsBetween m r i (from + 1) to
+unfolding labelsBetween
+labels-first m r i from to h =
+    queue-taken (labelQueue m r i from to) (labelQueue m r i (from + 1) to) (λ d p q. refl) h refl refl
+
+-- no labels
+pub labels-none : (m : Mem) (r i from to : ℕ) → to ≤ from → labelsBetween m r i from to ≡ []
+unfolding labelsBetween
+labels-none m r i from to h = queue-none (labelQueue m r i from to) h
+
+-- there are none exactly if the ends are the same
+pub labels-empty : (m : Mem) (r i from to : ℕ) → from ≤ to → isEmpty (labelsBetween m r i from to) ≡ eqb from to
+unfolding labelsBetween
+labels-empty m r i from to h = queue-empty (labelQueue m r i from to) h
+
+-- one more label at the end
+pub labels-last : (m : Mem) (r i from to : ℕ) → from ≤ to
+    → labelsBetween m r i from (to + 1) ≡ labelsBetween m r i from to ++ (labelOf (m r i to) ∷ [])
+unfolding labelsBetween
+labels-last m r i from to h =
+    queue-put (labelQueue m r i from to) (labelQueue m r i from (to + 1)) (λ d p q. refl) h refl refl
+
+-- how many there are
+pub labels-length : (m : Mem) (r i from to : ℕ) → length (labelsBetween m r i from to) ≡ to - from
+unfolding labelsBetween
+labels-length m r i from to = length-list-below (to - from) (λ d. labelOf (m r i (from + d)))
+
+-- a cell holds the label that was put into it
+pub label-code : (x v : ℕ) → v < 16 → labelOf (codeOf x v) ≡ label x v
+label-code x v h =
+    let p : codeOf x v / 16 ≡ x = omega arith in
+    let q : codeOf x v % 16 ≡ v = omega arith in
+    λ i. record { variable = p i; value = q i }

@@ -1,0 +1,80 @@
+-- `engine::run::hear_turn` plays one turn of the controller. Assumes nothing.
+use Prim.Native.Nat.{ℕ, _-_, _≤_}
+use mathlib.Core.Bool.{true}
+use mathlib.Core.Path.{_≡_, refl, sym, _∙_, subst}
+use native.Mathlib.Omega.{arith}
+use denote.Ref.{now}
+use Rattle.controller.specs.Controller.{machine, hearM, pollM}
+use Rattle.disac4.specs.Outcome.{systemAt}
+use Rattle.disac4.specs.Turn.{allowed, turn}
+use Rattle.engine.proofs.RunLaws.{hears-as, hears-idle, turn-closed, turn-polls, turn-hears, may-hear, workers-are}
+use Rattle.refinement.specs.Run.{turnOn}
+use borrow.Author.Needs.{needs}
+use Rattle.engine.proofs.run.hear_turn.Statement.{statement}
+use Rattle.engine.proofs.run.hear_turn.Tie as tie
+
+few-at : (s : tie.Start) → s .args .p ≤ 8
+few-at s = omega (arith, s .pre .0 .workers, s .pre .1)
+
+allowed-at : (s : tie.Start) → allowed (systemAt (now (s .args .b)) .workers) (turn 0 (s .args .d)) ≡ true
+allowed-at s =
+    subst (λ (n : ℕ). allowed n (turn 0 (s .args .d)) ≡ true) (s .pre .1 ∙ sym (workers-are (now (s .args .b)))) (s .pre .2)
+
+returns : tie.Need-returns
+returns c =
+    let a = c .before .before .before .args in
+    hears-idle (turnOn (systemAt (now (a .b))) 0 (a .d)) (now (a .cells)) (a .t) _
+    (turn-closed (systemAt (now (a .b))) 0 (a .d) (machine (now (a .cells)) (a .t)) (c .if1 .taken)) refl refl
+
+poll-requires : tie.Need-poll-requires
+poll-requires c κs = search needs
+
+same-length : tie.Need-same-length
+same-length c = search needs
+
+returns-2 : tie.Need-returns-2
+returns-2 c =
+    let q = c .before .before in
+    let t = q .before .before in
+    let s = t .before .before .before .before in
+    let a = s .args in
+    hears-as pollM (turnOn (systemAt (now (a .b))) 0 (a .d)) (now (a .cells)) (a .t) _ _
+    (turn-polls (systemAt (now (a .b))) 0 (a .d) (machine (now (a .cells)) (a .t)) (t .before .if1 .left) (allowed-at s) refl (t .if2 .taken))
+    (q .poll .ensures)
+
+sub-heard : tie.Need-sub-heard
+sub-heard c =
+    let s = c .before .before .before .before .before in
+    omega (arith, may-hear (s .args .p) 0 (s .args .d) (few-at s) (s .pre .2) refl (c .before .if2 .left))
+
+heard-requires : tie.Need-heard-requires
+heard-requires c κs =
+    let s = c .before .before .before .before .before in
+    let h = may-hear (s .args .p) 0 (s .args .d) (few-at s) (s .pre .2) refl (c .before .if2 .left) in
+    (s .pre .0 .ready .long, s .pre .0 .marks, omega (arith, few-at s), few-at s)
+
+same-length-2 : tie.Need-same-length-2
+same-length-2 c = search needs
+
+returns-3 : tie.Need-returns-3
+returns-3 c =
+    let h = c .before .before in
+    let e = h .before .before in
+    let s = e .before .before .before .before in
+    let a = s .args in
+    hears-as (hearM (systemAt (now (a .b))) (a .d - 1)) (turnOn (systemAt (now (a .b))) 0 (a .d)) (now (a .cells)) (a .t) _ _
+    (turn-hears (systemAt (now (a .b))) 0 (a .d) (machine (now (a .cells)) (a .t)) (e .before .if1 .left) (allowed-at s) refl (e .if2 .left))
+    (h .heard .ensures (systemAt (now (a .b))) (workers-are (now (a .b)) ∙ sym (s .pre .1)))
+
+pub hear-turn-spec : {M : Type 1} → statement M
+hear-turn-spec =
+    tie.close
+    (tie.spec
+    returns
+    poll-requires
+    same-length
+    returns-2
+    sub-heard
+    heard-requires
+    same-length-2
+    returns-3)

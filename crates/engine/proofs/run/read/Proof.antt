@@ -1,0 +1,56 @@
+-- `engine::run::read` takes the next poll or the next list message. Assumes nothing.
+use native.Mathlib.Omega.{arith}
+use borrow.Author.Needs.{needs}
+use denote.Ref.{now}
+use Rattle.cells.specs.Memory.{memOf}
+use Rattle.engine.proofs.RunLaws.{acts-as, read-polls, read-lists}
+use Rattle.refinement.specs.Run.{readOn}
+use Rattle.engine.proofs.run.read.Statement.{statement}
+use Rattle.engine.proofs.run.read.Tie as tie
+
+cast-n : tie.Need-cast-n
+cast-n c = search needs
+
+read-poll-requires : tie.Need-read-poll-requires
+read-poll-requires c κs = search needs
+
+same-length : tie.Need-same-length
+same-length c = search needs
+
+returns : tie.Need-returns
+returns c =
+    let p = c .before .before in
+    let t = p .before .before .before .before in
+    let a = t .before .before .args in
+    acts-as _ (readOn (a .t) (a .i) (a .d)) (now (a .cells)) _ _
+    (read-polls (a .t) (a .i) (a .d) (memOf (now (a .cells))) (t .if1 .taken)) (p .read-poll .ensures)
+
+sub-read-list : tie.Need-sub-read-list
+sub-read-list c = search needs
+
+read-list-requires : tie.Need-read-list-requires
+read-list-requires c κs = search needs
+
+same-length-2 : tie.Need-same-length-2
+same-length-2 c = search needs
+
+returns-2 : tie.Need-returns-2
+returns-2 c =
+    let l = c .before .before in
+    let t = l .before .before in
+    let a = t .before .before .args in
+    acts-as _ (readOn (a .t) (a .i) (a .d)) (now (a .cells)) _ _
+    (read-lists (a .t) (a .i) (a .d) (memOf (now (a .cells))) (t .if1 .left)) (l .read-list .ensures)
+
+pub read-spec : {M : Type 1} → statement M
+read-spec =
+    tie.close
+    (tie.spec
+    cast-n
+    read-poll-requires
+    same-length
+    returns
+    sub-read-list
+    read-list-requires
+    same-length-2
+    returns-2)
