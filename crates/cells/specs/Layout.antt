@@ -55,9 +55,17 @@ PLACES = 10
 abbrev pub NEXT : ℕ
 NEXT = 11
 
+-- the variables that each worker owns, ascending
+abbrev pub OWN : ℕ
+OWN = 12
+
+-- how many they are, by the worker's row
+abbrev pub OWNED : ℕ
+OWNED = 13
+
 -- the cells behind the needed ones, which no run touches
 abbrev pub BEHIND : ℕ
-BEHIND = 12
+BEHIND = 14
 
 -- ---- the columns of a worker's row
 
@@ -114,6 +122,8 @@ regions =
     ∷ region HEADS 21912 32 32
     ∷ region PLACES 22936 1 176
     ∷ region NEXT 23112 1 128
+    ∷ region OWN 23240 8 32
+    ∷ region OWNED 23496 1 8
     ∷ []
 
 abbrev pub regionAt : ℕ → Region

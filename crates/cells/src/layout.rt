@@ -89,6 +89,20 @@ pub const NEXT: Region = Region {
     cols: 128,
 };
 
+pub const OWN: Region = Region {
+    id: 12,
+    base: 23240,
+    rows: 8,
+    cols: 32,
+};
+
+pub const OWNED: Region = Region {
+    id: 13,
+    base: 23496,
+    rows: 1,
+    cols: 8,
+};
+
 // The columns of a worker's row.
 pub const HEAD: usize = 0;
 

@@ -13,7 +13,7 @@ use Rattle.network.specs.Network.{supportCount}
 use Rattle.index.proofs.Chains.{indexed-kept}
 use Rattle.index.specs.Index.{Ready}
 use Rattle.cells.proofs.Stores.{store-apart}
-use Rattle.cells.specs.Layout.{WORKERS, LOG, WORK, DOMAIN, COUNTERS, HEADS, PLACES, NEXT, TAIL, LOGEND}
+use Rattle.cells.specs.Layout.{WORKERS, LOG, WORK, DOMAIN, COUNTERS, HEADS, TAIL, LOGEND}
 use Rattle.cells.specs.Lists.{pushM, deleteM}
 use Rattle.counters.specs.Load.{countM, loadLabelM, loadValuesM, loadVariablesM}
 use Rattle.cells.specs.Memory.{Mem, memOf, store}
@@ -32,9 +32,7 @@ ready-kept b old new r l e k =
     record {
       long = omega (arith, r .long);
       sound = r .sound;
-      index =
-          indexed-kept b (memOf old) (memOf new) (λ i j. p .static HEADS i j (omega arith))
-          (λ i j. p .static PLACES i j (omega arith)) (λ i j. p .static NEXT i j (omega arith)) (r .index);
+      index = indexed-kept b (memOf old) (memOf new) (p .static) (r .index);
     }
 
 -- the same index gives two variables' counters the same row

@@ -1,20 +1,34 @@
 -- Laws that the code of a treatment meets its definitions in memory by.
-use Prim.Native.Nat.{ℕ, suc, _+_, _*_, _-_, _/_, _%_, _<_, _≤_}
+use Prim.Native.Nat.{ℕ, zero, suc, _+_, _*_, _-_, _/_, _%_, _<_, _≤_}
 use mathlib.Core.Bool.{Bool, true, false, cond}
 use mathlib.Core.List.{List}
+use mathlib.Core.Logic.{⊎-elim}
 use mathlib.Core.Option.{none, some}
 use mathlib.Core.Path.{_≡_, refl, sym, _∙_, ap}
+use native.Mathlib.Decide.{decLt}
+use native.Mathlib.Nat.{eq-or-lt-of-le}
 use native.Mathlib.Numerals.{add-one}
 use native.Mathlib.Omega.{arith}
 use borrow.Author.Tests.{lt-ltb, le-ltb, eq-eqb, ne-eqb}
 use lib.Dec.{eqb}
+use Rattle.base.proofs.Bools.{decided}
 use Rattle.base.proofs.Choice.{cond-true, cond-false}
-use Rattle.disac4.specs.System.{System}
+use Rattle.base.proofs.Row.{row-bit}
+use Rattle.base.specs.Row.{bit, rowOf}
+use Rattle.disac4.specs.System.{System, systemOf}
+use Rattle.network.specs.Network.{supports}
+use Rattle.plan.proofs.Pairs.{allowed-symmetric}
+use Rattle.plan.specs.Decode.{planOf}
+use Rattle.plan.specs.Network.{pairAllowed, shareConstraint, networkOf}
+use Rattle.plan.specs.WellFormed.{sizeOf}
+use Rattle.index.proofs.Permitted.{supports-allowed}
+use Rattle.index.proofs.Own.{Owned, count-none, count-here, count-past, count-grows}
 use Rattle.index.specs.Allowed.{Listed}
+use Rattle.index.specs.Index.{owns, ownCount}
 use Rattle.cells.specs.Layout.{WORKERS, WORK, DOMAIN, COUNTERS, HEAD, TAIL}
 use Rattle.cells.specs.Lists.{deleteM}
 use Rattle.cells.specs.Memory.{Mem, store}
-use Rattle.counters.specs.Treat.{loseM, touchM, touchValuesM, touchVariableM, touchVariablesM, treatM}
+use Rattle.counters.specs.Treat.{Supported, loseM, touchM, touchValuesM, touchVariableM, touchVariablesM, treatM}
 use Rattle.cells.specs.View.{LISTED, counterRow}
 
 -- ---- a loop makes one step more
@@ -65,21 +79,34 @@ module _ (sys : System) (i y w x v : ℕ) (m : Mem) where
 
 -- ---- a variable
 
+-- the row of the treated label's supports holds the values that had it as a support: a pair reads the same from either side
+pub supported : (b : List ℕ) (m : Mem) (y w x n s r : ℕ) → shareConstraint (planOf b) y x ≡ true → n ≡ sizeOf (planOf b) x
+    → s ≡ rowOf (sizeOf (planOf b) x) (supports (networkOf (planOf b)) y w x) → r ≡ counterRow m x y
+    → Supported (systemOf (planOf b)) m y w x n s r
+unfolding systemOf networkOf
+supported b m y w x n s r l k e c = record {
+  holds = λ v h.
+      ap (λ (t : ℕ). bit t v) (e ∙ supports-allowed b (sizeOf (planOf b) x) y w x l)
+      ∙ row-bit (sizeOf (planOf b) x) (pairAllowed (planOf b) y w x) v (omega arith)
+      ∙ allowed-symmetric (planOf b) y w x v;
+  counted = c;
+}
+
 module _ (sys : System) (i y w x : ℕ) (m : Mem) where
-  pub variable-touched : (n : Mem) (k : ℕ) → sys .owner x ≡ suc i → sys .net .linked x y ≡ true → k ≡ sys .net .size x
+  pub variable-touched : (n : Mem) (k : ℕ) → eqb (sys .owner x) (suc i) ≡ true → sys .net .linked x y ≡ true → k ≡ sys .net .size x
       → n ≡ touchValuesM sys i y w x k m → n ≡ touchVariableM sys i y w x m
   unfolding touchVariableM
   variable-touched n k o l s e =
       e ∙ ap (λ (k : ℕ). touchValuesM sys i y w x k m) s
-      ∙ sym (cond-true _ _ (eq-eqb (sys .owner x) (suc i) o) ∙ cond-true _ _ l)
+      ∙ sym (cond-true _ _ o ∙ cond-true _ _ l)
 
   pub not-linked : sys .net .linked x y ≡ false → m ≡ touchVariableM sys i y w x m
   unfolding touchVariableM
   not-linked l = second-fails (eqb (sys .owner x) (suc i)) (touchValuesM sys i y w x (sys .net .size x) m) m l
 
-  pub not-owned : (sys .owner x ≡ suc i → ⊥) → m ≡ touchVariableM sys i y w x m
+  pub not-owned : eqb (sys .owner x) (suc i) ≡ false → m ≡ touchVariableM sys i y w x m
   unfolding touchVariableM
-  not-owned o = sym (cond-false _ _ (ne-eqb (sys .owner x) (suc i) o))
+  not-owned o = sym (cond-false _ _ o)
 
 module _ (sys : System) (i y w : ℕ) (m m₁ m₂ : Mem) where
   pub value-more : (x v : ℕ) → m₁ ≡ touchValuesM sys i y w x v m → m₂ ≡ touchM sys i y w x v m₁
@@ -87,10 +114,48 @@ module _ (sys : System) (i y w : ℕ) (m m₁ m₂ : Mem) where
   unfolding touchValuesM
   value-more x v = one-more (λ n. touchValuesM sys i y w x n m) (touchM sys i y w x v) v m₁ m₂ refl
 
-  pub variable-more : (x : ℕ) → m₁ ≡ touchVariablesM sys i y w x m → m₂ ≡ touchVariableM sys i y w x m₁
-      → m₂ ≡ touchVariablesM sys i y w (x + 1) m
+-- ---- the variables of a row
+
+module _ (b : List ℕ) (i y w : ℕ) (m : Mem) where
+  abbrev touched-below : ℕ → Mem
+  touched-below n = touchVariablesM (systemOf (planOf b)) i y w n m
+
+  -- the variables of other rows leave all as it is
+  others-skipped : (k n : ℕ) → k ≤ n → ownCount b i k ≡ ownCount b i n → touched-below k ≡ touched-below n
+  unfolding touchVariablesM owns
+  others-skipped k zero h e =
+      let z : k ≡ 0 = omega arith in
+      ap touched-below z
+  others-skipped k (suc n) h e = ⊎-elim (λ q. ap touched-below q) (λ l. go l (others-skipped k n)) (eq-or-lt-of-le h)
+    where
+      go : k < suc n → (k ≤ n → ownCount b i k ≡ ownCount b i n → touched-below k ≡ touched-below n)
+          → touched-below k ≡ touched-below (suc n)
+      go l ih =
+          ⊎-elim (λ p. absurd (omega (arith, count-here b i n p, count-grows b i k n (omega arith))))
+          (λ p.
+          ih (omega arith) (e ∙ count-past b i n p)
+          ∙ not-owned (systemOf (planOf b)) i y w n (touched-below n) p)
+          (decided (owns b i n))
+
+  same-own : (k n : ℕ) → ownCount b i k ≡ ownCount b i n → touched-below k ≡ touched-below n
+  same-own k n e =
+      elim (decLt n k) [
+        | yes l ↦ sym (others-skipped n k (omega arith) (sym e))
+        | no h ↦ others-skipped k n (omega arith) e
+      ]
+
+  -- before the first own variable
+  pub own-start : (k : ℕ) → ownCount b i k ≡ 0 → m ≡ touched-below k
   unfolding touchVariablesM
-  variable-more x = one-more (λ n. touchVariablesM sys i y w n m) (touchVariableM sys i y w x) x m₁ m₂ refl
+  own-start k e = same-own 0 k (count-none b i ∙ sym e)
+
+  -- one own variable more
+  pub own-more : (m₁ m₂ : Mem) (j x : ℕ) → Owned b i j x → ((k : ℕ) → ownCount b i k ≡ j → m₁ ≡ touched-below k)
+      → m₂ ≡ touchVariableM (systemOf (planOf b)) i y w x m₁ → (k : ℕ) → ownCount b i k ≡ j + 1 → m₂ ≡ touched-below k
+  unfolding touchVariablesM
+  own-more m₁ m₂ j x o inv e k q =
+      e ∙ ap (touchVariableM (systemOf (planOf b)) i y w x) (inv x (o .behind))
+      ∙ same-own (suc x) k (omega (arith, count-here b i x (o .mine), o .behind))
 
 -- ---- the label at the head of the work list
 

@@ -1,13 +1,21 @@
 -- Treating a label in memory: the owner's variables that share a constraint with it, ascending, and their values.
-use Prim.Native.Nat.{ℕ, zero, suc, _+_, _-_, _/_, _%_}
+use Prim.Native.Nat.{ℕ, zero, suc, _+_, _-_, _/_, _%_, _<_}
 use mathlib.Core.Bool.{cond, _&&_}
 use mathlib.Core.Option.{Option, none, some}
+use mathlib.Core.Path.{_≡_}
 use lib.Dec.{ltb, eqb}
+use Rattle.base.specs.Row.{bit}
 use Rattle.disac4.specs.System.{System}
 use Rattle.cells.specs.Layout.{WORKERS, WORK, DOMAIN, COUNTERS, HEAD, TAIL}
 use Rattle.cells.specs.Lists.{deleteM}
 use Rattle.cells.specs.Memory.{Mem, store}
 use Rattle.cells.specs.View.{LISTED, counterRow}
+
+-- what is asked for once in a variable: `row` holds those of the first `n` values of `x` that had label `w` of `y` as a
+-- support, and their counters against `y` stand in row `at`
+pub record Supported (sys : System) (m : Mem) (y w x n row at : ℕ) : Type 0 where
+  pub holds : (v : ℕ) → v < n → bit row v ≡ sys .net .allows x v y w
+  pub counted : at ≡ counterRow m x y
 
 -- label `v` of `x` loses one from its count against `y`; at 0 it is deleted
 unfoldable pub loseM : ℕ → ℕ → ℕ → ℕ → Mem → Mem

@@ -1,31 +1,28 @@
 // Treating a label: which labels lose it as a support, and which of them are deleted.
 use cells::layout;
 use cells::lists;
-use format::read;
 use index::pairs;
 use index::parts;
 ghost use mathlib.Core.Bool.{true};
 ghost use mathlib.Core.Path.{_≡_};
-ghost use Prim.Native.Nat.{_<_, _≤_, _/_, _%_};
+ghost use Prim.Native.Nat.{ℕ, _<_, _≤_, _/_, _%_};
 ghost use lib.ListN.{length};
-ghost use Rattle.disac4.specs.System.{systemOf};
+ghost use Rattle.base.specs.Row.{bit};
+ghost use Rattle.disac4.specs.System.{System, systemOf};
 ghost use Rattle.plan.specs.Decode.{planOf};
 ghost use Rattle.format.specs.Format.{variableCount};
-ghost use Rattle.plan.specs.Network.{shareConstraint};
-ghost use Rattle.plan.specs.WellFormed.{sizeOf};
 ghost use Rattle.index.specs.Allowed.{Listed};
-ghost use Rattle.index.specs.Index.{Ready};
+ghost use Rattle.index.specs.Index.{owns, Ready};
 ghost use Rattle.cells.specs.Layout.{WORKERS, WORK, HEAD, TAIL};
 ghost use Rattle.cells.specs.Memory.{memOf, Acts};
-ghost use Rattle.counters.specs.Treat.{loseM, touchM, touchValuesM, touchVariableM, touchVariablesM, treatM};
-ghost use Rattle.cells.specs.View.{Numbered};
+ghost use Rattle.counters.specs.Treat.{Supported, loseM, touchM, touchValuesM, touchVariableM, touchVariablesM, treatM};
+ghost use Rattle.cells.specs.View.{counterRow};
 
-// Label v of x loses one from its count against y; at 0 row i deletes it.
-fn lose(cells: &mut [u16], i: usize, x: usize, v: usize, y: usize)
-    requires { ⌜ (24576 ≤ length (now cells)) × (i < 8) × (x < 32) × (v < 16) × (y < 32) × Numbered (memOf (now cells)) x y ⌝ }
-    ensures { λ _. ⌜ memOf (now (cells .exit)) ≡ loseM i x v y (memOf (now (cells .entry))) ⌝ }
+// Label v of x loses one from its count, in a row of counters; at 0 row i deletes it.
+fn lose(cells: &mut [u16], i: usize, x: usize, v: usize, row: usize)
+    requires { ⌜ (24576 ≤ length (now cells)) × (i < 8) × (x < 32) × (v < 16) × (row ≤ 256) ⌝ }
+    ensures { λ _. ⌜ ((y : ℕ) → row ≡ counterRow (memOf (now (cells .entry))) x y → memOf (now (cells .exit)) ≡ loseM i x v y (memOf (now (cells .entry)))) ⌝ }
 {
-    let row = parts::counter_row(cells, x, y);
     let count = layout::get(cells, layout::COUNTERS, row, v);
     if count <= 1 {
         layout::put(cells, layout::COUNTERS, row, v, 0);
@@ -35,53 +32,54 @@ fn lose(cells: &mut [u16], i: usize, x: usize, v: usize, y: usize)
     }
 }
 
-// Label v of x, if it is in its domain and had label w of y as a support.
-fn touch(b: &[u8], cells: &mut [u16], i: usize, y: usize, w: usize, x: usize, v: usize)
-    requires { ⌜ Ready (now b) (now cells) × (i < 8) × Listed (now b) y w × Listed (now b) x v × (shareConstraint (planOf (now b)) x y ≡ true) ⌝ }
-    ensures { λ _. ⌜ memOf (now (cells .exit)) ≡ touchM (systemOf (planOf (now (b .entry)))) i y w x v (memOf (now (cells .entry))) ⌝ }
+// Label v of x, if it had the treated one as a support and is in its domain.
+fn touch(cells: &mut [u16], i: usize, x: usize, v: usize, supported: usize, row: usize)
+    requires { ⌜ (24576 ≤ length (now cells)) × (i < 8) × (x < 32) × (v < 16) × (row ≤ 256) ⌝ }
+    ensures { λ _. ⌜ ((sys : System) (y w : ℕ) → bit supported v ≡ sys .net .allows x v y w → row ≡ counterRow (memOf (now (cells .entry))) x y → memOf (now (cells .exit)) ≡ touchM sys i y w x v (memOf (now (cells .entry)))) ⌝ }
 {
-    if layout::get(cells, layout::DOMAIN, x, v) == 65535 {
-        if pairs::pair_allowed(b, cells, x, v, y, w) {
-            lose(cells, i, x, v, y);
+    if (supported >> v) % 2 == 1 {
+        if layout::get(cells, layout::DOMAIN, x, v) == 65535 {
+            lose(cells, i, x, v, row);
         }
     }
 }
 
-// The first n values of x.
-fn touch_values(b: &[u8], cells: &mut [u16], i: usize, y: usize, w: usize, x: usize, n: usize)
-    requires { ⌜ Ready (now b) (now cells) × (i < 8) × Listed (now b) y w × (x < variableCount (now b)) × (n ≤ sizeOf (planOf (now b)) x) × (shareConstraint (planOf (now b)) x y ≡ true) ⌝ }
-    ensures { λ _. ⌜ memOf (now (cells .exit)) ≡ touchValuesM (systemOf (planOf (now (b .entry)))) i y w x n (memOf (now (cells .entry))) ⌝ }
+// The first n values of x: those that had the treated label as a support are in one row, their counters in another.
+fn touch_values(cells: &mut [u16], i: usize, x: usize, n: usize, supported: usize, row: usize)
+    requires { ⌜ (24576 ≤ length (now cells)) × (i < 8) × (x < 32) × (n ≤ 16) × (row ≤ 256) ⌝ }
+    ensures { λ _. ⌜ ((sys : System) (y w : ℕ) → Supported sys (memOf (now (cells .entry))) y w x n supported row → memOf (now (cells .exit)) ≡ touchValuesM sys i y w x n (memOf (now (cells .entry)))) ⌝ }
 {
     let mut v = 0;
     while v < n {
-        touch(b, cells, i, y, w, x, v);
+        touch(cells, i, x, v, supported, row);
         v += 1;
     }
 }
 
-// Variable x, if row i owns it and it shares a constraint with y.
+// Variable x of row i, if it shares a constraint with y.
 fn touch_variable(b: &[u8], cells: &mut [u16], i: usize, y: usize, w: usize, x: usize)
-    requires { ⌜ Ready (now b) (now cells) × (i < 8) × Listed (now b) y w × (x < variableCount (now b)) ⌝ }
+    requires { ⌜ Ready (now b) (now cells) × (i < 8) × Listed (now b) y w × (x < variableCount (now b)) × (owns (now b) i x ≡ true) ⌝ }
     ensures { λ _. ⌜ memOf (now (cells .exit)) ≡ touchVariableM (systemOf (planOf (now (b .entry)))) i y w x (memOf (now (cells .entry))) ⌝ }
 {
-    if parts::owner(b, cells, x) == i + 1 {
-        if pairs::linked(cells, x, y) {
-            let n = pairs::size(b, cells, x);
-            touch_values(b, cells, i, y, w, x, n);
-        }
+    if pairs::linked(cells, y, x) {
+        let n = pairs::size(b, cells, x);
+        let supported = pairs::support_row(b, cells, y, w, x);
+        let row = parts::counter_row(cells, x, y);
+        touch_values(cells, i, x, n, supported, row);
     }
 }
 
-// Every variable.
+// Every variable: those of other rows are not touched, so going through the row's own is enough.
 fn touch_variables(b: &[u8], cells: &mut [u16], i: usize, y: usize, w: usize)
     requires { ⌜ Ready (now b) (now cells) × (i < 8) × Listed (now b) y w ⌝ }
     ensures { λ _. ⌜ memOf (now (cells .exit)) ≡ touchVariablesM (systemOf (planOf (now (b .entry)))) i y w (systemOf (planOf (now (b .entry))) .net .variables) (memOf (now (cells .entry))) ⌝ }
 {
-    let n = read::variable_count(b);
-    let mut x = 0;
-    while x < n {
+    let n = layout::get(cells, layout::OWNED, 0, i);
+    let mut j = 0;
+    while j < n {
+        let x = layout::get(cells, layout::OWN, i, j);
         touch_variable(b, cells, i, y, w, x);
-        x += 1;
+        j += 1;
     }
 }
 

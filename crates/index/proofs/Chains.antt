@@ -15,9 +15,10 @@ use Rattle.base.proofs.Bools.{decided, and-left, and-right, and-intro, and-fals
 pub use Rattle.base.proofs.Bools.{and-true}
 use Rattle.base.proofs.Choice.{cond-true, cond-false}
 use Rattle.base.specs.Below.{allBelow, anyBelow}
-use Rattle.index.specs.Index.{over, chainBelow, Indexed, placesM, linkM, constraintStart, chainsM, indexM}
+use Rattle.index.proofs.Own.{rows-own, rows-count, own-keeps}
+use Rattle.index.specs.Index.{over, chainBelow, ownCount, Indexed, placesM, linkM, constraintStart, chainsM, ownM, indexM}
 use Rattle.cells.proofs.Stores.{store-apart}
-use Rattle.cells.specs.Layout.{HEADS, PLACES, NEXT}
+use Rattle.cells.specs.Layout.{HEADS, PLACES, NEXT, OWN, OWNED}
 use Rattle.cells.specs.Memory.{Mem, store}
 use Rattle.plan.proofs.InOrder.{InOrder}
 use Rattle.plan.proofs.Parts.{variables-read, constraints-read, constraint-read}
@@ -229,21 +230,30 @@ pub indexed : (b : List ℕ) → planFault b ≡ none → (m : Mem) → ((x y : 
 unfolding indexM
 indexed b none-found m empty =
     let n = sectionCount b in
+    let c = constraintCount b in
+    let l = chainsM b c (placesM b n m) in
     let empty′ : (x y : ℕ) → placesM b n m HEADS x y ≡ 0 = λ x y. places-heads b n m x y ∙ empty x y in
+    let kept : (r i j : ℕ) → r < OWN → ownM b 8 l r i j ≡ l r i j =
+    λ r i j h. own-keeps b l 8 r i j (λ e. omega arith) (λ e. omega arith) in
     record {
-      places = λ k h. chains-keep b (constraintCount b) (placesM b n m) 0 k ∙ places-at b n m k h;
-      heads = chains-heads b none-found (placesM b n m) empty′ (constraintCount b) (le-refl (constraintCount b));
-      nexts = chains-nexts b none-found (placesM b n m) empty′ (constraintCount b) (le-refl (constraintCount b));
+      places = λ k h. kept PLACES 0 k (omega arith) ∙ chains-keep b c (placesM b n m) 0 k ∙ places-at b n m k h;
+      heads = λ x y. kept HEADS x y (omega arith) ∙ chains-heads b none-found (placesM b n m) empty′ c (le-refl c) x y;
+      nexts = λ k h x y o.
+          kept NEXT 0 k (omega arith) ∙ chains-nexts b none-found (placesM b n m) empty′ c (le-refl c) k h x y o;
+      counts = rows-count b l 8;
+      own = rows-own b l 8;
     }
 
--- every region but the index's own three is as it was
-pub index-keeps : (b : List ℕ) (m : Mem) (r : ℕ) → (r < HEADS) ⊎ (NEXT < r) → (i j : ℕ) → indexM b m r i j ≡ m r i j
+-- every region but the index's own is as it was
+pub index-keeps : (b : List ℕ) (m : Mem) (r : ℕ) → (r < HEADS) ⊎ (OWNED < r) → (i j : ℕ) → indexM b m r i j ≡ m r i j
 unfolding indexM placesM linkM chainsM
 index-keeps b m r apart i j =
-    chains (constraintCount b) (placesM b (sectionCount b) m) ∙ places (sectionCount b)
+    own-keeps b (chainsM b (constraintCount b) (placesM b (sectionCount b) m)) 8 r i j (other OWN (omega arith) (omega arith))
+    (other OWNED (omega arith) (omega arith))
+    ∙ chains (constraintCount b) (placesM b (sectionCount b) m) ∙ places (sectionCount b)
   where
-    other : (s : ℕ) → HEADS ≤ s → s ≤ NEXT → r ≡ s → ⊥
-    other s l h e = ⊎-elim (λ (p : r < HEADS). omega arith) (λ (p : NEXT < r). omega arith) apart
+    other : (s : ℕ) → HEADS ≤ s → s ≤ OWNED → r ≡ s → ⊥
+    other s l h e = ⊎-elim (λ (p : r < HEADS). omega arith) (λ (p : OWNED < r). omega arith) apart
 
     places : (n : ℕ) → placesM b n m r i j ≡ m r i j
     places zero = refl
@@ -262,13 +272,14 @@ index-keeps b m r apart i j =
     chains (suc k) m =
         linked (chainsM b k m) (firstAt b (constraintStart b k) - 1) (secondAt b (constraintStart b k) - 1) k ∙ chains k m
 
--- the index stays where its three regions do
-pub indexed-kept : (b : List ℕ) (m n : Mem) → ((i j : ℕ) → n HEADS i j ≡ m HEADS i j) → ((i j : ℕ) → n PLACES i j ≡ m PLACES i j)
-    → ((i j : ℕ) → n NEXT i j ≡ m NEXT i j) → Indexed b m → Indexed b n
-indexed-kept b m n h p q i = record {
-  places = λ k l. p 0 k ∙ i .places k l;
-  heads = λ x y. h x y ∙ i .heads x y;
-  nexts = λ c l x y o. q 0 c ∙ i .nexts c l x y o;
+-- the index stays where its regions do
+pub indexed-kept : (b : List ℕ) (m n : Mem) → ((r i j : ℕ) → HEADS ≤ r → n r i j ≡ m r i j) → Indexed b m → Indexed b n
+indexed-kept b m n same x = record {
+  places = λ k l. same PLACES 0 k (omega arith) ∙ x .places k l;
+  heads = λ i j. same HEADS i j (omega arith) ∙ x .heads i j;
+  nexts = λ c l i j o. same NEXT 0 c (omega arith) ∙ x .nexts c l i j o;
+  counts = λ i l. same OWNED 0 i (omega arith) ∙ x .counts i l;
+  own = λ i l k h o. same OWN i (ownCount b i k) (omega arith) ∙ x .own i l k h o;
 }
 
 -- ---- the loops that write the index

@@ -1,9 +1,10 @@
 -- What an accepted plan says of its labels: they fit the regions, each variable has its owner, and linked ones are numbered.
-use Prim.Native.Nat.{ℕ, suc, _<_, _≤_}
+use Prim.Native.Nat.{ℕ, suc, _+_, _<_, _≤_}
 use mathlib.Core.Bool.{true}
 use mathlib.Core.List.{List}
 use mathlib.Core.Option.{none}
 use mathlib.Core.Path.{_≡_, refl, sym, _∙_, ap}
+use native.Mathlib.Numerals.{add-one}
 use native.Mathlib.Omega.{arith}
 use borrow.Author.Tests.{lt-ltb}
 use Rattle.base.proofs.Bools.{and-intro}
@@ -11,17 +12,18 @@ use Rattle.disac4.specs.System.{systemOf}
 use Rattle.network.specs.Network.{loaded}
 use Rattle.plan.proofs.Parts.{variables-read, variable-read, size-read}
 use Rattle.plan.proofs.WellFormed.{read-well-formed}
-use Rattle.plan.specs.Decode.{planFault, planOf, variableAt}
+use Rattle.plan.specs.Decode.{sectionCount, planFault, planOf, variableAt}
 use Rattle.format.specs.Format.{sectionStart, variableCount, ownerAt}
 use Rattle.plan.specs.Network.{shareConstraint, networkOf}
 use Rattle.plan.specs.Plan.{Variable}
 use Rattle.plan.specs.WellFormed.{WellFormed, sizeOf}
 use Rattle.index.proofs.Pairing.{paired}
-use Rattle.index.proofs.Permitted.{linked-inside}
-use Rattle.index.proofs.Places.{few-sections, few-values}
+use Rattle.index.proofs.Permitted.{Placed, linked-inside}
+use Rattle.index.proofs.Places.{few-sections, few-values, start-inside}
 use Rattle.index.specs.Allowed.{Listed}
-use Rattle.index.specs.Index.{Indexed}
-use Rattle.cells.specs.Memory.{Mem}
+use Rattle.index.specs.Index.{Indexed, Located, Ready}
+use Rattle.cells.specs.Layout.{PLACES}
+use Rattle.cells.specs.Memory.{Mem, memOf}
 use Rattle.cells.specs.View.{Numbered}
 
 -- the system's figures are those that the plan's bytes give
@@ -39,6 +41,19 @@ unfolding loaded
 listed-loaded b x v l =
     and-intro (lt-ltb x (systemOf (planOf b) .net .variables) (omega (arith, variables-are b)))
     (lt-ltb v (systemOf (planOf b) .net .size x) (omega (arith, size-is b x)))
+
+-- a plan that is indexed has its sections' places in the cells
+pub located : (b cells : List ℕ) → Ready b cells → Located b cells
+located b cells r = record { sound = r .sound; places = r .index .places; long = r .long }
+
+-- a variable's section starts at its place
+pub section-placed : (b cells : List ℕ) → Located b cells → (at x : ℕ) → at ≡ memOf cells PLACES 0 (x + 1) → x < variableCount b
+    → Placed b at (suc x)
+unfolding sectionCount
+section-placed b cells l at x e h =
+    let start : at ≡ sectionStart b (suc x) =
+    e ∙ ap (memOf cells PLACES 0) (add-one x) ∙ l .places (suc x) (omega arith) in
+    record { start = start; within = omega (arith, start-inside b (l .sound) (suc x) (omega arith)) }
 
 module _ (b : List ℕ) (sound : planFault b ≡ none) where
   pub label-small : (x v : ℕ) → Listed b x v → (x < 32) × (v < 16)

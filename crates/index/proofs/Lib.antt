@@ -1,6 +1,7 @@
 pub mod Chains
 pub mod CounterRows
 pub mod Labels
+pub mod Own
 pub mod Pairing
 pub mod Permitted
 pub mod Places

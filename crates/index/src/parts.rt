@@ -7,13 +7,13 @@ ghost use lib.ListN.{length};
 ghost use Rattle.disac4.specs.System.{systemOf};
 ghost use Rattle.plan.specs.Decode.{planOf};
 ghost use Rattle.format.specs.Format.{variableCount};
-ghost use Rattle.index.specs.Index.{Ready};
+ghost use Rattle.index.specs.Index.{Located};
 ghost use Rattle.cells.specs.Memory.{memOf};
 ghost use Rattle.cells.specs.View.{Numbered, counterRow};
 
 // The worker that owns variable x.
 pub fn owner(b: &[u8], cells: &[u16], x: usize) -> usize
-    requires { ⌜ Ready (now b) (now cells) × (x < variableCount (now b)) ⌝ }
+    requires { ⌜ Located (now b) (now cells) × (x < variableCount (now b)) ⌝ }
     ensures { λ r. ⌜ (r ≡ systemOf (planOf (now (b .entry))) .owner x) × (0 < r) × (r ≤ 8) ⌝ }
 {
     read::owner(b, layout::get(cells, layout::PLACES, 0, x + 1))

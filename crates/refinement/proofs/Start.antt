@@ -17,7 +17,7 @@ use Rattle.index.proofs.Pairing.{paired}
 use Rattle.refinement.proofs.Loading.{Blank, load-refines}
 use Rattle.index.specs.Index.{Indexed, indexM}
 use Rattle.refinement.specs.Inv.{Small, Inv}
-use Rattle.cells.specs.Layout.{HEADS, PLACES, NEXT, BEHIND}
+use Rattle.cells.specs.Layout.{HEADS, BEHIND}
 use Rattle.counters.proofs.Kept.{load-variables-kept}
 use Rattle.counters.specs.Load.{clearedM, loadM}
 use Rattle.cells.specs.Memory.{Mem}
@@ -67,11 +67,7 @@ module _ (b : List ℕ) (sound : planFault b ≡ none) where
     pub start-indexed : Indexed b (startM b m .mem)
     unfolding startM
     start-indexed =
-        indexed-kept b ground (loadM (systemAt b) ground)
-        (λ i j. load-static HEADS i j (omega arith))
-        (λ i j. load-static PLACES i j (omega arith))
-        (λ i j. load-static NEXT i j (omega arith))
-        ground-indexed
+        indexed-kept b ground (loadM (systemAt b) ground) load-static ground-indexed
 
     -- and the cells behind as they were
     pub start-behind : (i j : ℕ) → startM b m .mem BEHIND i j ≡ m BEHIND i j

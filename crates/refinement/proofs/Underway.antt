@@ -22,7 +22,7 @@ use Rattle.refinement.proofs.Start.{is-accepted, fits-regions, start-in
 use Rattle.refinement.proofs.Static.{play-static}
 use Rattle.index.specs.Index.{Ready}
 use Rattle.refinement.specs.Inv.{Inv}
-use Rattle.cells.specs.Layout.{HEADS, PLACES, NEXT, BEHIND}
+use Rattle.cells.specs.Layout.{HEADS, BEHIND}
 use Rattle.cells.specs.Memory.{Mem, memOf}
 use Rattle.refinement.specs.Run.{viewOf, playM, countM, startM, At, Going, Plays}
 use Rattle.controller.specs.Controller.{Machine, machine}
@@ -59,9 +59,7 @@ module _ (b : List ℕ) (sound : planFault b ≡ none) where
     under-ready long = record {
       sound = sound;
       index =
-          indexed-kept b (startM b m .mem) (memOf cells) (λ i j. same-since HEADS i j (omega arith))
-          (λ i j. same-since PLACES i j (omega arith)) (λ i j. same-since NEXT i j (omega arith))
-          (start-indexed b sound m);
+          indexed-kept b (startM b m .mem) (memOf cells) same-since (start-indexed b sound m);
       long = long;
     }
 

@@ -6,7 +6,7 @@ use denote.Ref.{now}
 use Rattle.disac4.specs.System.{systemOf}
 use Rattle.plan.specs.Decode.{planOf}
 use Rattle.counters.proofs.Kept.{ready-kept, count-kept, stored, same}
-use Rattle.index.proofs.Labels.{label-small, listed-loaded}
+use Rattle.index.proofs.Labels.{located, label-small, listed-loaded}
 use Rattle.counters.proofs.LoadLaws.{unsupported-some, unsupported-none, label-deleted, label-kept}
 use Rattle.cells.proofs.Ranges.{may-put}
 use Rattle.cells.specs.Layout.{DOMAIN}
@@ -34,9 +34,10 @@ owner-requires c κs =
     let n = c .before .before .before .before in
     let p = n .before .before .before .before in
     let s = p .before .before .before .before in (
-      ready-kept (now (s .args .b)) (now (s .args .cells)) _ (s .pre .0) (omega arith)
+      located (now (s .args .b)) _
+          (ready-kept (now (s .args .b)) (now (s .args .cells)) _ (s .pre .0) (omega arith)
           (n .count-supports .ensures .0 ∙ ap (countM _ (s .args .x) (s .args .v) _) (p .put .ensures))
-          (count-kept _ (s .args .x) (s .args .v) _ (stored DOMAIN (s .args .x) (s .args .v) LISTED (omega arith) same)),
+          (count-kept _ (s .args .x) (s .args .v) _ (stored DOMAIN (s .args .x) (s .args .v) LISTED (omega arith) same))),
       s .pre .1 .variable,
     )
 

@@ -7,9 +7,6 @@ use Rattle.counters.proofs.TreatLaws.{lost-last, lost-one}
 use Rattle.counters.proofs.treat.lose.Statement.{statement}
 use Rattle.counters.proofs.treat.lose.Tie as tie
 
-counter-row-requires : tie.Need-counter-row-requires
-counter-row-requires c κs = search needs
-
 get-requires : tie.Need-get-requires
 get-requires c κs = search needs
 
@@ -31,9 +28,9 @@ same-length c = search needs
 returns : tie.Need-returns
 returns c =
     let g = c .before .before .before .before .before .before .before .before .before in
-    let r = g .before .before in
-    let a = r .before .before .before .args in
-    lost-last (a .i) (a .x) (a .v) (a .y) _ _ _ _ (r .counter-row .ensures .0) (g .get .ensures .0) _
+    let a = g .before .before .before .args in
+    λ y e.
+    lost-last (a .i) (a .x) (a .v) y _ _ _ _ e (g .get .ensures .0) _
     (c .before .before .before .before .before .before .before .before .if1 .taken)
     (c .before .before .before .before .before .before .put .ensures) (c .before .before .delete .ensures)
 
@@ -43,16 +40,15 @@ same-length-2 c = search needs
 returns-2 : tie.Need-returns-2
 returns-2 c =
     let g = c .before .before .before .before .before in
-    let r = g .before .before in
-    let a = r .before .before .before .args in
-    lost-one (a .i) (a .x) (a .v) (a .y) _ _ _ _ (r .counter-row .ensures .0) (g .get .ensures .0)
-    (c .before .before .before .before .if1 .left) (c .before .before .put2 .ensures)
+    let a = g .before .before .before .args in
+    λ y e.
+    lost-one (a .i) (a .x) (a .v) y _ _ _ _ e (g .get .ensures .0) (c .before .before .before .before .if1 .left)
+    (c .before .before .put2 .ensures)
 
 pub lose-spec : {M : Type 1} → statement M
 lose-spec =
     tie.close
     (tie.spec
-    counter-row-requires
     get-requires
     put-requires
     delete-requires

@@ -1,41 +1,33 @@
 -- `counters::treat::touch_values` goes through the values of a variable. Assumes nothing.
-use Prim.Native.Nat.{_≤_, _-_}
-use mathlib.Core.Path.{_≡_, refl}
+use Prim.Native.Nat.{ℕ, _≤_, _-_}
+use mathlib.Core.Path.{_≡_, refl, sym, _∙_, ap}
 use native.Mathlib.Omega.{arith}
-use denote.Ref.{now}
 use lib.ListN.{length}
-use Rattle.disac4.specs.System.{systemOf}
-use Rattle.plan.specs.Decode.{planOf}
-use Rattle.counters.proofs.Kept.{ready-kept, touch-values-kept}
+use Rattle.disac4.specs.System.{System}
+use Rattle.counters.proofs.Kept.{row-heads, touch-values-kept}
 use Rattle.counters.proofs.TreatLaws.{value-more}
-use Rattle.cells.specs.Memory.{memOf}
-use Rattle.counters.specs.Treat.{touchValuesM}
+use Rattle.cells.specs.Layout.{HEADS}
+use Rattle.cells.specs.Memory.{Mem, memOf}
+use Rattle.cells.specs.View.{counterRow}
+use Rattle.counters.specs.Treat.{Supported, touchValuesM}
 use Rattle.counters.proofs.treat.touch_values.Statement.{statement}
 use Rattle.counters.proofs.treat.touch_values.Tie as tie
 
 abbrev Inv-loop : tie.InvT-loop
-Inv-loop b cells₀ i y w x n v₀ cells v =
+Inv-loop cells₀ i x n supported row v₀ cells v =
     (v ≤ n) × (length cells ≡ length cells₀)
-    × (memOf cells ≡ touchValuesM (systemOf (planOf b)) i y w x v (memOf cells₀))
+    × ((sys : System) (y w : ℕ) → Supported sys (memOf cells₀) y w x n supported row
+    → memOf cells ≡ touchValuesM sys i y w x v (memOf cells₀))
 
 abbrev μ-loop : tie.MeasureT-loop
-μ-loop b cells₀ i y w x n v₀ cells v = n - v
+μ-loop cells₀ i x n supported row v₀ cells v = n - v
 
 loop-holds : tie.Need-loop-holds Inv-loop μ-loop
 unfolding touchValuesM
-loop-holds c = (omega arith, refl, refl)
+loop-holds c = (omega arith, refl, λ sys y w s. refl)
 
 touch-requires : tie.Need-touch-requires Inv-loop μ-loop
-touch-requires c κs =
-    let l = c .before .before in
-    let s = l .before .before .before in (
-      ready-kept (now (s .args .b)) (now (s .args .cells)) (l .loop .cells) (s .pre .0) (l .loop .inv .1) (l .loop .inv .2)
-          (touch-values-kept _ (s .args .i) (s .args .y) (s .args .w) (s .args .x) (l .loop .v) _),
-      s .pre .1,
-      s .pre .2,
-      record { variable = s .pre .3; value = omega arith },
-      s .pre .5,
-    )
+touch-requires c κs = omega arith
 
 add-v : tie.Need-add-v Inv-loop μ-loop
 add-v c = omega arith
@@ -43,13 +35,23 @@ add-v c = omega arith
 loop-less : tie.Need-loop-less Inv-loop μ-loop
 loop-less c = omega arith
 
+-- the counters stay in their row
+row-stays : (sys : System) (i y w x v : ℕ) (m n : Mem) → n ≡ touchValuesM sys i y w x v m → counterRow n x y ≡ counterRow m x y
+row-stays sys i y w x v m n e =
+    ap (λ (n : Mem). counterRow n x y) e
+    ∙ row-heads m _ x y (touch-values-kept sys i y w x v m .static HEADS x y (omega arith))
+
 loop-again : tie.Need-loop-again Inv-loop μ-loop
 loop-again c =
     let l = c .before .before .before .before .before in
-    let a = l .before .before .before .args in (
+    let a = l .before .before .args in (
       omega arith,
       omega arith,
-      value-more _ (a .i) (a .y) (a .w) _ _ _ (a .x) (l .loop .v) (l .loop .inv .2) (c .before .before .touch .ensures),
+      λ sys y w s.
+          let e = l .loop .inv .2 sys y w s in
+          value-more sys (a .i) y w _ _ _ (a .x) (l .loop .v) e
+          (c .before .before .touch .ensures sys y w (s .holds (l .loop .v) (omega arith))
+          (s .counted ∙ sym (row-stays sys (a .i) y w (a .x) (l .loop .v) _ _ e))),
     )
 
 same-length : tie.Need-same-length Inv-loop μ-loop
@@ -57,8 +59,8 @@ same-length c = omega arith
 
 returns : tie.Need-returns Inv-loop μ-loop
 returns c =
-    let e : c .before .loop .v ≡ c .before .before .before .before .args .n = omega arith in
-    rw e at (c .before .loop .inv .2)
+    let e : c .before .loop .v ≡ c .before .before .before .args .n = omega arith in
+    λ sys y w s. rw e at (c .before .loop .inv .2 sys y w s)
 
 pub touch-values-spec : {M : Type 1} → statement M
 touch-values-spec =

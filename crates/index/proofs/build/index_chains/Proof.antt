@@ -43,18 +43,18 @@ module _ (c : tie.After-get Inv-loop μ-loop) where
   found : c .get .result ≡ constraintStart (now (s .args .b)) (l .loop .c)
   found =
       place-found (now (s .args .b)) (l .before .before .variable-count .result) (l .loop .c) (c .get .result)
-      (memOf (now (s .args .cells))) (memOf (l .loop .cells)) (s .pre .2) (l .loop .inv .3) (l .loop .inv .1) listed
+      (memOf (now (s .args .cells))) (memOf (l .loop .cells)) (s .pre .places) (l .loop .inv .3) (l .loop .inv .1) listed
       (c .get .ensures .0)
 
   inside : c .get .result ≤ length (now (s .args .b))
   unfolding sectionCount
   inside =
       let b = now (s .args .b) in
-      omega (arith, found, start-inside b (s .pre .0) (suc (variableCount b + l .loop .c)) (omega (arith, listed)))
+      omega (arith, found, start-inside b (s .pre .sound) (suc (variableCount b + l .loop .c)) (omega (arith, listed)))
 
   numbers : InOrder (now (s .args .b)) (c .get .result)
   numbers =
-      subst (InOrder (now (s .args .b))) (sym found) (in-order (now (s .args .b)) (s .pre .0) (l .loop .c) listed)
+      subst (InOrder (now (s .args .b))) (sym found) (in-order (now (s .args .b)) (s .pre .sound) (l .loop .c) listed)
 
 loop-holds : tie.Need-loop-holds Inv-loop μ-loop
 unfolding chainsM
@@ -64,27 +64,27 @@ add-get : tie.Need-add-get Inv-loop μ-loop
 add-get c =
     let l = c .before .before in
     let s = l .before .before .before .before .before in
-    let few = few-sections (now (s .args .b)) (s .pre .0) in
+    let few = few-sections (now (s .args .b)) (s .pre .sound) in
     omega (arith, l .loop .inv)
 
 add-get-2 : tie.Need-add-get-2 Inv-loop μ-loop
 add-get-2 c =
     let l = c .before .before in
     let s = l .before .before .before .before .before in
-    let few = few-sections (now (s .args .b)) (s .pre .0) in
+    let few = few-sections (now (s .args .b)) (s .pre .sound) in
     omega (arith, l .loop .inv)
 
 get-requires : tie.Need-get-requires Inv-loop μ-loop
 get-requires c κs =
     let l = c .before .before in
     let s = l .before .before .before .before .before in
-    let few = few-sections (now (s .args .b)) (s .pre .0) in
+    let few = few-sections (now (s .args .b)) (s .pre .sound) in
     record {
       known = refl;
       writable = omega arith;
       row = omega arith;
       col = omega (arith, l .loop .inv);
-      long = omega (arith, l .loop .inv, s .pre);
+      long = omega (arith, l .loop .inv, s .pre .long);
     }
 
 first-requires : tie.Need-first-requires Inv-loop μ-loop
@@ -103,12 +103,12 @@ link-requires : tie.Need-link-requires Inv-loop μ-loop
 link-requires c κs =
     let l = c .before .before .before .before .before .before in
     let s = l .before .before .before .before .before in
-    let few = few-sections (now (s .args .b)) (s .pre .0) in
+    let few = few-sections (now (s .args .b)) (s .pre .sound) in
     let order = numbers (c .before .before .before) in (
       omega (arith, c .before .first .ensures),
       omega (arith, c .second .ensures),
       omega (arith, l .loop .inv),
-      omega (arith, l .loop .inv, s .pre),
+      omega (arith, l .loop .inv, s .pre .long),
     )
 
 add-c : tie.Need-add-c Inv-loop μ-loop

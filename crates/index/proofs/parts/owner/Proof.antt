@@ -1,9 +1,11 @@
 -- `index::parts::owner` reads a variable's owner at the variable's place. Assumes nothing.
 use Prim.Native.Nat.{suc}
+use mathlib.Core.Path.{refl}
 use native.Mathlib.Omega.{arith}
 use denote.Ref.{now}
-use Rattle.index.proofs.Labels.{owner-there}
-use Rattle.index.proofs.Permitted.{Placed, variable-placed, variable-fits}
+use Rattle.cells.proofs.Ranges.{may-get}
+use Rattle.index.proofs.Labels.{section-placed, owner-there}
+use Rattle.index.proofs.Permitted.{Placed}
 use Rattle.index.proofs.Places.{few-sections}
 use Rattle.index.proofs.parts.owner.Statement.{statement}
 use Rattle.index.proofs.parts.owner.Tie as tie
@@ -14,13 +16,13 @@ add-get c = omega (arith, few-sections (now (c .before .before .args .b)) (c .be
 get-requires : tie.Need-get-requires
 get-requires c κs =
     let s = c .before .before in
-    variable-fits (now (s .args .b)) (now (s .args .cells)) (s .pre .0) (s .args .x) (s .pre .1)
+    may-get _ _ _ refl _ (omega (arith, s .pre .0 .long, few-sections (now (s .args .b)) (s .pre .0 .sound)))
 
 at : (c : tie.After-get)
     → Placed (now (c .before .before .before .args .b)) (c .get .result) (suc (c .before .before .before .args .x))
 at c =
     let s = c .before .before .before in
-    variable-placed (now (s .args .b)) (now (s .args .cells)) (s .pre .0) (c .get .result) (s .args .x) (c .get .ensures .0)
+    section-placed (now (s .args .b)) (now (s .args .cells)) (s .pre .0) (c .get .result) (s .args .x) (c .get .ensures .0)
     (s .pre .1)
 
 owner-requires : tie.Need-owner-requires
