@@ -4,3 +4,4 @@ pub mod Labels
 pub mod Pairing
 pub mod Permitted
 pub mod Places
+pub mod Rows
