@@ -114,6 +114,15 @@ row-of-bits (suc n) r h =
       row-of-bits n (r / 2) (half-small n r h),
     )
 
+-- a row of values from n on, counted from there: doubled, it has room for value n
+pub row-doubled : (n r : ℕ) (t : ℕ → Bool) → (2 * r + one (t n)) * 2 ^ n + rowOf n t ≡ r * 2 ^ suc n + rowOf (suc n) t
+unfolding rowOf
+row-doubled n r t = omega (arith, doubled (t n), ap (λ (k : ℕ). r * k) (two-pow-succ n))
+  where
+    doubled : (b : Bool) → (2 * r + one b) * 2 ^ n ≡ r * (2 * 2 ^ n) + cond b (2 ^ n) 0
+    doubled true = omega arith
+    doubled false = omega arith
+
 -- `2 ^ n - 1` is the row of all values below n
 pub row-full : (n : ℕ) → 2 ^ n - 1 ≡ rowOf n (λ w. true)
 unfolding rowOf

@@ -1,11 +1,11 @@
 -- The rows of values that the constraints of a chain permit, and the row that they leave together.
-use Prim.Native.Nat.{ℕ, suc, _+_, _-_, _^_, _<_}
+use Prim.Native.Nat.{ℕ, suc, _+_, _-_, _*_, _^_, _<_, _≤_}
 use mathlib.Core.Bool.{Bool, true, false, _&&_, _||_, not}
 use mathlib.Core.List.{List}
 use mathlib.Core.Logic.{⊎-elim}
 use mathlib.Core.Option.{none}
 use mathlib.Core.Path.{_≡_, refl, sym, _∙_, ap, ap₂, subst}
-use native.Mathlib.Nat.{add-comm}
+use native.Mathlib.Nat.{add-comm, mul-le-mul-right}
 use native.Mathlib.Omega.{arith}
 use borrow.Author.Tests.{ltb-true, ltb-false}
 use lib.Bits.{bitAnd, and-le-l}
@@ -13,16 +13,43 @@ use lib.Dec.{leb, ltb, eqb}
 use lib.Pow.{pow-pos}
 use Rattle.base.proofs.Bools.{decided, and-comm, or-comm}
 use Rattle.base.proofs.Choice.{cond-true, cond-false}
-use Rattle.base.proofs.Row.{bit-and, row-bit, row-ext, row-full, row-of-bits}
+use Rattle.base.proofs.Row.{bit-and, row-bit, row-doubled, row-ext, row-full, row-of-bits}
+use Rattle.base.specs.Below.{one}
 use Rattle.base.specs.Row.{bit, rowOf}
 use Rattle.format.specs.Format.{variableCount, constraintCount, kindAt, tableRowAt, limitAt, figureAt}
 use Rattle.index.proofs.Chains.{and-true, over-turned}
-use Rattle.index.proofs.Permitted.{acceptsAt, Placed, Along, along-start, along-next, Rest, rest-start, rest-next, permits-table, permits-limit, permitted}
+use Rattle.index.proofs.Permitted.{acceptsAt, Placed, Along, along-start, along-next, Rest, rest-start, rest-next, permits-table, permits-limit, permitted, row-low}
 use Rattle.index.specs.Allowed.{permitsAt, permitsFrom, limited, inColumn, Listed}
 use Rattle.index.specs.Index.{over, chainBelow}
 use Rattle.plan.specs.Decode.{planFault, planOf}
 use Rattle.plan.specs.Network.{unrecorded, withinLimit, permits, joins, accepts, pairAllowed}
 use Rattle.plan.specs.WellFormed.{constraintOf}
+
+-- ---- a row that is put together from its highest value down
+
+-- the row holds the values from `n` on that pass the test, counted from there; those below `n` make it whole
+pub record Upper (t : ℕ → Bool) (values row n : ℕ) : Type 0 where
+  pub low : n ≤ values
+  pub whole : row * 2 ^ n + rowOf n t ≡ rowOf values t
+
+module _ (t : ℕ → Bool) (values : ℕ) where
+  pub upper-start : Upper t values 0 values
+  upper-start = record { low = omega arith; whole = omega arith }
+
+  -- the value that is next
+  pub upper-here : (row n : ℕ) → (n ≡ 0 → ⊥) → Upper t values row n → Upper t values row (suc (n - 1))
+  upper-here row n h u = subst (Upper t values row) (omega arith) u
+
+  pub upper-next : (row n : ℕ) → Upper t values row (suc n) → (p : ℕ) → p ≡ one (t n) → Upper t values (2 * row + p) n
+  upper-next row n u p e =
+      rw e (record { low = omega (arith, u .low); whole = row-doubled n row t ∙ u .whole })
+
+  pub upper-small : (row n : ℕ) → values ≤ 16 → Upper t values row n → row < 65536
+  upper-small row n h u = omega (arith, u .whole, row-low values t h, mul-le-mul-right row (pow-pos n))
+
+  pub upper-all : (row n : ℕ) → n ≡ 0 → Upper t values row n → row ≡ rowOf values t
+  unfolding rowOf
+  upper-all row n e u = omega (arith, rw e at (u .whole))
 
 -- ---- the row of one constraint
 

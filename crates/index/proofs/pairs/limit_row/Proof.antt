@@ -1,37 +1,51 @@
--- `index::pairs::limit_row` gives the row of the values that a limit permits. Invariant: the row holds those among the
--- first w values. Assumes nothing.
-use Prim.Native.Nat.{_+_, _-_, _^_, _<_, _≤_}
+-- `index::pairs::limit_row` gives the row of the values that a limit permits. Invariant: the row holds those from w on,
+-- counted from there; the measure is w. Assumes nothing.
+use Prim.Native.Nat.{_+_, _-_, _*_}
 use denote.Ref.{now}
-use mathlib.Core.Bool.{Bool, cond}
-use mathlib.Core.Path.{_≡_, refl, _∙_, ap}
+use mathlib.Core.Path.{_∙_, ap}
 use native.Mathlib.Omega.{arith}
-use Rattle.base.specs.Row.{rowOf}
-use Rattle.index.proofs.Permitted.{row-more, row-low}
+use Rattle.base.specs.Below.{one}
+use Rattle.index.proofs.Rows.{Upper, upper-start, upper-here, upper-next, upper-small, upper-all}
 use Rattle.index.proofs.pairs.limit_row.Statement.{statement}
 use Rattle.index.proofs.pairs.limit_row.Tie as tie
 use Rattle.index.specs.Allowed.{limited}
 use Rattle.plan.specs.Network.{withinLimit}
 
 abbrev Inv-loop : tie.InvT-loop
-Inv-loop b limit f place values row₀ w₀ row w = (w ≤ values) × (row ≡ rowOf w (limited b limit f place))
+Inv-loop b limit f place values row₀ w₀ row w = Upper (limited b limit f place) values row w
 
 abbrev μ-loop : tie.MeasureT-loop
-μ-loop b limit f place values row₀ w₀ row w = values - w
+μ-loop b limit f place values row₀ w₀ row w = w
 
 loop-holds : tie.Need-loop-holds Inv-loop μ-loop
-unfolding rowOf
-loop-holds c = (omega arith, refl)
+loop-holds c =
+    let a = c .before .args in
+    upper-start (limited (now (a .b)) (a .limit) (a .f) (a .place)) (a .values)
+
+sub-w : tie.Need-sub-w Inv-loop μ-loop
+sub-w c = omega (arith, c .loop-test .taken)
+
+mul-row : tie.Need-mul-row Inv-loop μ-loop
+mul-row c =
+    let l = c .before in
+    let s = l .before .before in
+    let a = s .args in
+    omega (
+      arith,
+      upper-small (limited (now (a .b)) (a .limit) (a .f) (a .place)) (a .values) (l .loop .row) (l .loop .w) (s .pre .2)
+          (l .loop .inv),
+    )
 
 figure-requires : tie.Need-figure-requires Inv-loop μ-loop
-figure-requires c κs = omega (arith, c .before .before .before .pre, c .loop-test .taken)
+figure-requires c κs = omega (arith, c .before .before .before .pre, c .before .loop .inv .low)
 
 within-limit-requires : tie.Need-within-limit-requires Inv-loop μ-loop
 within-limit-requires c κs = omega (arith, c .before .before .before .before .pre, c .figure .ensures)
 
 part-requires : tie.Need-part-requires Inv-loop μ-loop
-part-requires c κs = omega (arith, c .before .before .before .before .before .pre, c .before .before .loop-test .taken)
+part-requires c κs = omega arith
 
--- the row with value w in it or not
+-- the row with the next value in it or not
 module _ (c : tie.After-part Inv-loop μ-loop) where
   abbrev l : tie.At-loop Inv-loop μ-loop
   l = c .before .before .before .before
@@ -39,43 +53,38 @@ module _ (c : tie.After-part Inv-loop μ-loop) where
   abbrev s : tie.Start Inv-loop μ-loop
   s = l .before .before
 
-  more : l .loop .row + c .part .result
-      ≡ rowOf (l .loop .w + 1) (limited (now (s .args .b)) (s .args .limit) (s .args .f) (s .args .place))
+  more : Upper (limited (now (s .args .b)) (s .args .limit) (s .args .f) (s .args .place)) (s .args .values)
+      (2 * l .loop .row + c .part .result) (l .loop .w - 1)
   unfolding limited
   more =
-      row-more (l .loop .w) (l .loop .row) (c .part .result)
-      (limited (now (s .args .b)) (s .args .limit) (s .args .f) (s .args .place)) (l .loop .inv .1)
+      let t = limited (now (s .args .b)) (s .args .limit) (s .args .f) (s .args .place) in
+      upper-next t (s .args .values) (l .loop .row) (l .loop .w - 1)
+      (upper-here t (s .args .values) (l .loop .row) (l .loop .w) (c .before .before .before .loop-test .taken) (l .loop .inv))
+      (c .part .result)
       (c .part .ensures
-      ∙ ap (λ (t : Bool). cond t (2 ^ l .loop .w) 0)
-      (c .before .within-limit .ensures ∙ ap (withinLimit (s .args .limit) (s .args .f)) (c .before .before .figure .ensures .0)))
-
-  low : l .loop .row + c .part .result < 65536
-  low =
-      omega (
-        arith,
-        more,
-        row-low (l .loop .w + 1) (limited (now (s .args .b)) (s .args .limit) (s .args .f) (s .args .place))
-            (omega (arith, s .pre, c .before .before .before .loop-test .taken)),
-      )
+      ∙ ap one (c .before .within-limit .ensures ∙ ap (withinLimit (s .args .limit) (s .args .f)) (c .before .before .figure .ensures .0)))
 
 add-row : tie.Need-add-row Inv-loop μ-loop
-add-row c = omega (arith, low c)
-
-add-w : tie.Need-add-w Inv-loop μ-loop
-add-w c = omega arith
+add-row c =
+    let a = s c .args in
+    omega (
+      arith,
+      upper-small (limited (now (a .b)) (a .limit) (a .f) (a .place)) (a .values) (2 * l c .loop .row + c .part .result)
+          (l c .loop .w - 1) (s c .pre .2) (more c),
+    )
 
 loop-less : tie.Need-loop-less Inv-loop μ-loop
-loop-less c = omega arith
+loop-less c = omega (arith, c .before .before .before .loop-test .taken)
 
 loop-again : tie.Need-loop-again Inv-loop μ-loop
-loop-again c = (omega arith, more c)
+loop-again c = more c
 
 returns : tie.Need-returns Inv-loop μ-loop
 returns c =
     let l = c .before in
-    let s = l .before .before in
-    let e : l .loop .w ≡ s .args .values = omega (arith, l .loop .inv .0, c .loop-test .left) in
-    rw e at (l .loop .inv .1)
+    let a = l .before .before .args in
+    upper-all (limited (now (a .b)) (a .limit) (a .f) (a .place)) (a .values) (l .loop .row) (l .loop .w)
+    (omega (arith, c .loop-test .left)) (l .loop .inv)
 
 pub limit-row-spec : {M : Type 1} → statement M
 limit-row-spec =
@@ -84,11 +93,12 @@ limit-row-spec =
     Inv-loop
     μ-loop
     loop-holds
+    sub-w
+    mul-row
     figure-requires
     within-limit-requires
     part-requires
     add-row
-    add-w
     loop-less
     loop-again
     returns)
