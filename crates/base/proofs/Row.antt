@@ -1,8 +1,8 @@
 -- Laws of rows of bits, at any width: which values a row holds, and how many.
 use Prim.Native.Nat.{ℕ, zero, suc, _+_, _-_, _*_, _/_, _%_, _^_, _<_, _≤_, min}
-use mathlib.Core.Bool.{Bool, true, false, cond}
+use mathlib.Core.Bool.{Bool, true, false, cond, _&&_}
 use mathlib.Core.Logic.{_⊎_, inl, inr, ⊎-elim}
-use mathlib.Core.Path.{_≡_, refl, sym, _∙_, ap}
+use mathlib.Core.Path.{_≡_, refl, sym, _∙_, ap, ap₂}
 use native.Mathlib.Nat.{not-suc-le-zero, le-of-suc-le-suc, two-pow-succ, pow-succ', div-one, div-div-eq-div-mul, div-eq-of-lt}
 use native.Mathlib.Omega.{arith}
 use borrow.Author.Tests.{eqb-true, eqb-false, eq-eqb, ne-eqb}
@@ -113,6 +113,43 @@ row-of-bits (suc n) r h =
       row-ext n (λ w. bit r (suc w)) (bit (r / 2)) (λ w p. bit-suc r w),
       row-of-bits n (r / 2) (half-small n r h),
     )
+
+-- a row of values from n on, counted from there: doubled, it has room for value n
+pub row-doubled : (n r : ℕ) (t : ℕ → Bool) → (2 * r + one (t n)) * 2 ^ n + rowOf n t ≡ r * 2 ^ suc n + rowOf (suc n) t
+unfolding rowOf
+row-doubled n r t = omega (arith, doubled (t n), ap (λ (k : ℕ). r * k) (two-pow-succ n))
+  where
+    doubled : (b : Bool) → (2 * r + one b) * 2 ^ n ≡ r * (2 * 2 ^ n) + cond b (2 ^ n) 0
+    doubled true = omega arith
+    doubled false = omega arith
+
+-- `2 ^ n - 1` is the row of all values below n
+pub row-full : (n : ℕ) → 2 ^ n - 1 ≡ rowOf n (λ w. true)
+unfolding rowOf
+row-full zero = refl
+row-full (suc n) = omega (arith, row-full n, two-pow-succ n, pow-pos n)
+
+and-halves : (r q : ℕ) → bitAnd r q ≡ one (isOdd r && isOdd q) + 2 * bitAnd (r / 2) (q / 2)
+and-halves r q = omega (arith, and-step r q, ap₂ min (odd-rest r) (odd-rest q), lower (isOdd r) (isOdd q))
+  where
+    lower : (a b : Bool) → min (one a) (one b) ≡ one (a && b)
+    lower true true = refl
+    lower true false = refl
+    lower false true = refl
+    lower false false = refl
+
+-- `r & q` holds the values that both rows hold
+pub bit-and : (r q w : ℕ) → bit (bitAnd r q) w ≡ bit r w && bit q w
+bit-and r q zero =
+    bit-zero (bitAnd r q)
+    ∙ odd-of (bitAnd r q) (bitAnd (r / 2) (q / 2)) (isOdd r && isOdd q) (and-halves r q)
+    ∙ sym (ap₂ _&&_ (bit-zero r) (bit-zero q))
+bit-and r q (suc w) =
+    bit-suc (bitAnd r q) w
+    ∙ ap (λ (k : ℕ). bit k w)
+    (half-of (bitAnd r q) (bitAnd (r / 2) (q / 2)) (isOdd r && isOdd q) (and-halves r q))
+    ∙ bit-and (r / 2) (q / 2) w
+    ∙ sym (ap₂ _&&_ (bit-suc r w) (bit-suc q w))
 
 -- ---- how many values a row holds
 

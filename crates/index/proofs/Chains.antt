@@ -31,7 +31,7 @@ use Rattle.plan.specs.WellFormed.{constraintOf, ConstraintFits}
 
 -- ---- chains
 
-over-turned : (b : List ℕ) (x y c : ℕ) → over b x y c ≡ over b y x c
+pub over-turned : (b : List ℕ) (x y c : ℕ) → over b x y c ≡ over b y x c
 unfolding over
 over-turned b x y c = or-comm (joins (constraintOf (planOf b) c) x y) (joins (constraintOf (planOf b) c) y x)
 

@@ -5,3 +5,4 @@ pub mod Own
 pub mod Pairing
 pub mod Permitted
 pub mod Places
+pub mod Rows

@@ -11,7 +11,7 @@ use lib.Dec.{eqb}
 use lib.ListN.{length, getD}
 use lib.Pow.{pow-mono}
 use Rattle.base.proofs.Below.{all-below, every-below, any-below, some-below, getD-list-below}
-use Rattle.base.proofs.Bools.{and-false-right, refuted, or-false-left, or-false-right, bool-ext}
+use Rattle.base.proofs.Bools.{and-comm, and-false-right, refuted, or-false-left, or-false-right, bool-ext}
 use Rattle.base.proofs.Choice.{cond-true, cond-false}
 use Rattle.base.proofs.Members.{all-at, at-all, any-at, at-any}
 use Rattle.base.proofs.Row.{row-ext, row-small, rowCount-small}
@@ -198,43 +198,56 @@ module _ (b cells : List ℕ) (ready : Ready b cells) where
 
 -- ---- the walk along a chain
 
--- the pair is allowed where the constraints of the chain from `n` on accept it
-pub record Along (b : List ℕ) (x v y w n : ℕ) : Type 0 where
+-- the walk has come to the constraint before `n`, or with 0 to the end
+pub record Along (b : List ℕ) (x y n : ℕ) : Type 0 where
   pub low : n ≤ constraintCount b
   pub settled : chainBelow b x y n ≡ n
-  pub same : pairAllowed (planOf b) x v y w ≡ allBelow n (acceptsAt b x v y w)
 
-module _ (b : List ℕ) (x v y w : ℕ) where
-  pub along-start : (n : ℕ) → n ≡ chainBelow b x y (constraintCount b) → Along b x v y w n
+module _ (b : List ℕ) (x y : ℕ) where
+  pub along-start : (n : ℕ) → n ≡ chainBelow b x y (constraintCount b) → Along b x y n
   along-start n e =
-      rw e
-      (record {
-        low = chain-low b x y (constraintCount b);
-        settled = chain-settled b x y (constraintCount b);
-        same = allowed-chain b x v y w;
-      })
+      rw e (record { low = chain-low b x y (constraintCount b); settled = chain-settled b x y (constraintCount b) })
 
   -- the constraint that the walk has come to
-  pub along-here : (n : ℕ) → (n ≡ 0 → ⊥) → Along b x v y w n → Along b x v y w (suc (n - 1))
-  along-here n h a = subst (Along b x v y w) (omega arith) a
+  pub along-here : (n : ℕ) → (n ≡ 0 → ⊥) → Along b x y n → Along b x y (suc (n - 1))
+  along-here n h a = subst (Along b x y) (omega arith) a
 
-  module _ (c : ℕ) (a : Along b x v y w (suc c)) where
+  module _ (c : ℕ) (a : Along b x y (suc c)) where
     pub along-over : over b x y c ≡ true
     along-over = chain-over b x y c (a .settled)
 
-    pub along-next : (n : ℕ) → acceptsAt b x v y w c ≡ true → n ≡ chainBelow b x y c → Along b x v y w n
-    along-next n p e =
-        rw e
-        (record {
-          low = omega (arith, a .low, chain-low b x y c);
-          settled = chain-settled b x y c;
-          same =
-              a .same ∙ and-true (allBelow c (acceptsAt b x v y w)) p
-              ∙ chain-all b x y (acceptsAt b x v y w) (accepts-apart b x v y w) c;
-        })
+    pub along-next : (n : ℕ) → n ≡ chainBelow b x y c → Along b x y n
+    along-next n e =
+        rw e (record { low = omega (arith, a .low, chain-low b x y c); settled = chain-settled b x y c })
 
-    pub along-stop : acceptsAt b x v y w c ≡ false → pairAllowed (planOf b) x v y w ≡ false
-    along-stop p = a .same ∙ and-false-right (allBelow c (acceptsAt b x v y w)) p
+-- the pair is allowed where the constraints behind the walk accept it, `t`, and those from `n` on do
+abbrev pub Rest : List ℕ → ℕ → ℕ → ℕ → ℕ → Bool → ℕ → Type 0
+Rest b x v y w t n = pairAllowed (planOf b) x v y w ≡ t && allBelow n (acceptsAt b x v y w)
+
+last-first : (t p q : Bool) → t && (p && q) ≡ (t && q) && p
+last-first true p q = and-comm p q
+last-first false p q = refl
+
+module _ (b : List ℕ) (x v y w : ℕ) where
+  pub rest-start : (n : ℕ) → n ≡ chainBelow b x y (constraintCount b) → Rest b x v y w true n
+  rest-start n e = rw e (allowed-chain b x v y w)
+
+  pub rest-here : (t : Bool) (n : ℕ) → (n ≡ 0 → ⊥) → Rest b x v y w t n → Rest b x v y w t (suc (n - 1))
+  rest-here t n h a =
+      let e : n ≡ suc (n - 1) = omega arith in
+      subst (Rest b x v y w t) e a
+
+  pub rest-next : (t : Bool) (c : ℕ) → Rest b x v y w t (suc c) → (r : Bool) → r ≡ t && acceptsAt b x v y w c
+      → (n : ℕ) → n ≡ chainBelow b x y c → Rest b x v y w r n
+  rest-next t c a r p n e =
+      a ∙ last-first t (allBelow c (acceptsAt b x v y w)) (acceptsAt b x v y w c)
+      ∙ ap₂ _&&_ (sym p)
+      (chain-all b x y (acceptsAt b x v y w) (accepts-apart b x v y w) c
+      ∙ ap (λ (k : ℕ). allBelow k (acceptsAt b x v y w)) (sym e))
+
+  pub rest-stop : (c : ℕ) → Rest b x v y w true (suc c) → acceptsAt b x v y w c ≡ false
+      → pairAllowed (planOf b) x v y w ≡ false
+  rest-stop c a p = a ∙ and-false-right (allBelow c (acceptsAt b x v y w)) p
 
 -- ---- what the code reads
 

@@ -16,6 +16,19 @@ permitsAt b at first v second w =
     cond (eqb (kindAt b at) 0) (bit (tableRowAt b at v) w)
     (withinLimit (limitAt b at) (figureAt b first v) (figureAt b second w))
 
+-- the limit permits the figure of value `w` of the variable at `place` with figure `f`
+unfoldable pub limited : List ℕ → ℕ → ℕ → ℕ → ℕ → Bool
+limited b limit f place w = withinLimit limit f (figureAt b place w)
+
+-- the table at `at` permits value `w` of its first variable with value `v` of its second
+unfoldable pub inColumn : List ℕ → ℕ → ℕ → ℕ → Bool
+inColumn b at v w = bit (tableRowAt b at w) v
+
+-- the constraint at `at` permits value `v` of the variable at `here`, its first where `leads`, with value `w` of the
+-- one at `there`
+unfoldable pub permitsFrom : List ℕ → ℕ → Bool → ℕ → ℕ → ℕ → ℕ → Bool
+permitsFrom b at leads here v there w = cond leads (permitsAt b at here v there w) (permitsAt b at there w here v)
+
 -- value `v` is one of variable `x` of the plan
 pub record Listed (b : List ℕ) (x v : ℕ) : Type 0 where
   pub variable : x < variableCount b

@@ -9,7 +9,7 @@ ghost use mathlib.Core.Path.{_≡_};
 ghost use Prim.Native.Nat.{ℕ, _^_, _<_, _≤_};
 ghost use lib.ListN.{length};
 ghost use Rattle.base.specs.Row.{bit, rowOf};
-ghost use Rattle.index.specs.Allowed.{permitsAt, Listed};
+ghost use Rattle.index.specs.Allowed.{permitsAt, permitsFrom, limited, inColumn, Listed};
 ghost use Rattle.index.specs.Index.{Indexed, Ready};
 ghost use Rattle.cells.specs.Memory.{memOf};
 ghost use Rattle.network.specs.Network.{supports, supportCount};
@@ -111,17 +111,81 @@ pub fn part(held: bool, w: usize) -> usize
     if held { power(w) } else { 0 }
 }
 
-// The row of the supports of value v of x against y, which shares a constraint with x.
+// The row of the values of the variable at `place` whose figures a limit permits with figure f; it has `values` of them.
+// From the last one down the row is doubled: that is quicker than to shift each bit to its place.
+fn limit_row(b: &[u8], limit: usize, f: usize, place: usize, values: usize) -> usize
+    requires { ⌜ (place ≤ length (now b)) × (f < 65536) × (values ≤ 16) ⌝ }
+    ensures { λ r. ⌜ r ≡ rowOf values (limited (now (b .entry)) limit f place) ⌝ }
+{
+    let mut row = 0;
+    let mut w = values;
+    while w != 0 {
+        w -= 1;
+        row = 2 * row + part(within_limit(limit, f, read::figure(b, place, w)), 0);
+    }
+    row
+}
+
+// The row of the values of a table's first variable whose rows hold value v of the second; it has `values` of them.
+// It is doubled in the same way.
+fn table_column(b: &[u8], at: usize, v: usize, values: usize) -> usize
+    requires { ⌜ (at ≤ length (now b)) × (v < 16) × (values ≤ 16) ⌝ }
+    ensures { λ r. ⌜ r ≡ rowOf values (inColumn (now (b .entry)) at v) ⌝ }
+{
+    let mut row = 0;
+    let mut w = values;
+    while w != 0 {
+        w -= 1;
+        row = 2 * row + part(holds(read::table_row(b, at, w), v), 0);
+    }
+    row
+}
+
+// The row of the values that the constraint at `at` permits with value v of the variable at `here`, which is its
+// first where `leads`; the other variable, at `there`, has `values` of them. A table's row for v is read at once.
+fn constraint_row(
+    b: &[u8],
+    at: usize,
+    leads: bool,
+    here: usize,
+    v: usize,
+    there: usize,
+    values: usize,
+) -> usize
+    requires { ⌜ (at ≤ length (now b)) × (here ≤ length (now b)) × (there ≤ length (now b)) × (v < 16) × (values ≤ 16) ⌝ }
+    ensures { λ r. ⌜ ((w : ℕ) → w < values → bit r w ≡ permitsFrom (now (b .entry)) at leads here v there w) ⌝ }
+{
+    if read::kind(b, at) != 0 {
+        return limit_row(
+            b,
+            read::limit(b, at),
+            read::figure(b, here, v),
+            there,
+            values,
+        );
+    }
+    if leads {
+        return read::table_row(b, at, v);
+    }
+    table_column(b, at, v, values)
+}
+
+// The row of the supports of value v of x against y, which shares a constraint with x: the values that each
+// constraint along their chain permits.
 pub fn support_row(b: &[u8], cells: &[u16], x: usize, v: usize, y: usize) -> usize
     requires { ⌜ Ready (now b) (now cells) × Listed (now b) x v × (shareConstraint (planOf (now b)) x y ≡ true) ⌝ }
     ensures { λ r. ⌜ r ≡ rowOf (sizeOf (planOf (now (b .entry))) y) (supports (networkOf (planOf (now (b .entry)))) x v y) ⌝ }
 {
+    let variables = read::variable_count(b);
+    let here = layout::get(cells, layout::PLACES, 0, x + 1);
+    let there = layout::get(cells, layout::PLACES, 0, y + 1);
     let values = size(b, cells, y);
-    let mut row = 0;
-    let mut w = 0;
-    while w < values {
-        row += part(pair_allowed(b, cells, x, v, y, w), w);
-        w += 1;
+    let mut row = power(values) - 1;
+    let mut next = layout::get(cells, layout::HEADS, x, y);
+    while next != 0 {
+        let at = layout::get(cells, layout::PLACES, 0, variables + next);
+        row = row & constraint_row(b, at, x < y, here, v, there, values);
+        next = layout::get(cells, layout::NEXT, 0, next - 1);
     }
     row
 }

@@ -7,7 +7,7 @@ use mathlib.Core.Bool.{true}
 use mathlib.Core.Path.{_≡_, sym, _∙_}
 use native.Mathlib.Omega.{arith}
 use Rattle.index.proofs.Chains.{chain-low}
-use Rattle.index.proofs.Permitted.{acceptsAt, Placed, placed, variable-placed, place-fits, variable-fits, head-fits, next-fits, Along, along-start, along-here, along-over, along-next, along-stop, value-small, permitted}
+use Rattle.index.proofs.Permitted.{acceptsAt, Placed, placed, variable-placed, place-fits, variable-fits, head-fits, next-fits, Along, along-start, along-here, along-over, along-next, Rest, rest-start, rest-here, rest-next, rest-stop, value-small, permitted}
 use Rattle.index.proofs.Places.{few-sections}
 use Rattle.index.proofs.pairs.chain_allows.Statement.{statement}
 use Rattle.index.proofs.pairs.chain_allows.Tie as tie
@@ -17,7 +17,7 @@ use Rattle.plan.specs.Decode.{sectionCount}
 use Rattle.format.specs.Format.{variableCount, constraintCount}
 
 abbrev Inv-loop : tie.InvT-loop
-Inv-loop b cells x v y w variables first second next₀ next = Along b x v y w next
+Inv-loop b cells x v y w variables first second next₀ next = Along b x y next × Rest b x v y w true next
 
 abbrev μ-loop : tie.MeasureT-loop
 μ-loop b cells x v y w variables first second next₀ next = next
@@ -52,14 +52,18 @@ get-requires-3 c κs =
 loop-holds : tie.Need-loop-holds Inv-loop μ-loop
 loop-holds c =
     let s = c .before .before .before .before .before .before in
-    along-start (now (s .args .b)) (s .args .x) (s .args .v) (s .args .y) (s .args .w) (c .get3 .result)
-    (c .get3 .ensures .0 ∙ s .pre .0 .index .heads (s .args .x) (s .args .y))
+    let b = now (s .args .b) in
+    let e : c .get3 .result ≡ chainBelow b (s .args .x) (s .args .y) (constraintCount b) =
+    c .get3 .ensures .0 ∙ s .pre .0 .index .heads (s .args .x) (s .args .y) in (
+      along-start b (s .args .x) (s .args .y) (c .get3 .result) e,
+      rest-start b (s .args .x) (s .args .v) (s .args .y) (s .args .w) (c .get3 .result) e,
+    )
 
 add-get-3 : tie.Need-add-get-3 Inv-loop μ-loop
 add-get-3 c =
     let l = c .before in
     let s = l .before .before .before .before .before .before .before in
-    omega (arith, few s, l .loop .inv .low, l .before .before .before .before .variable-count .ensures)
+    omega (arith, few s, l .loop .inv .0 .low, l .before .before .before .before .variable-count .ensures)
 
 get-requires-4 : tie.Need-get-requires-4 Inv-loop μ-loop
 unfolding sectionCount
@@ -68,7 +72,7 @@ get-requires-4 c κs =
     let s = l .before .before .before .before .before .before .before in
     let variables = l .before .before .before .before .variable-count in
     place-fits (now (s .args .b)) (now (s .args .cells)) (s .pre .0) (variables .result + l .loop .next)
-    (omega (arith, l .loop .inv .low, variables .ensures))
+    (omega (arith, l .loop .inv .0 .low, variables .ensures))
 
 -- the walk at the constraint that it has come to, and that constraint
 module _ (c : tie.After-get4 Inv-loop μ-loop) where
@@ -78,10 +82,13 @@ module _ (c : tie.After-get4 Inv-loop μ-loop) where
   abbrev s : tie.Start Inv-loop μ-loop
   s = l .before .before .before .before .before .before .before
 
-  here : Along (now (s .args .b)) (s .args .x) (s .args .v) (s .args .y) (s .args .w) (suc (l .loop .next - 1))
-  here =
-      along-here (now (s .args .b)) (s .args .x) (s .args .v) (s .args .y) (s .args .w) (l .loop .next)
-      (c .before .loop-test .taken) (l .loop .inv)
+  here : Along (now (s .args .b)) (s .args .x) (s .args .y) (suc (l .loop .next - 1))
+  here = along-here (now (s .args .b)) (s .args .x) (s .args .y) (l .loop .next) (c .before .loop-test .taken) (l .loop .inv .0)
+
+  rest : Rest (now (s .args .b)) (s .args .x) (s .args .v) (s .args .y) (s .args .w) true (suc (l .loop .next - 1))
+  rest =
+      rest-here (now (s .args .b)) (s .args .x) (s .args .v) (s .args .y) (s .args .w) true (l .loop .next)
+      (c .before .loop-test .taken) (l .loop .inv .1)
 
   here-placed : Placed (now (s .args .b)) (c .get4 .result) (suc (variableCount (now (s .args .b)) + (l .loop .next - 1)))
   unfolding sectionCount
@@ -102,7 +109,7 @@ module _ (c : tie.After-get4 Inv-loop μ-loop) where
       (l .before .before .get2 .ensures .0) (s .pre .2 .variable)
 
   here-over : over (now (s .args .b)) (s .args .x) (s .args .y) (l .loop .next - 1) ≡ true
-  here-over = along-over (now (s .args .b)) (s .args .x) (s .args .v) (s .args .y) (s .args .w) (l .loop .next - 1) here
+  here-over = along-over (now (s .args .b)) (s .args .x) (s .args .y) (l .loop .next - 1) here
 
 permits-requires : tie.Need-permits-requires Inv-loop μ-loop
 permits-requires c κs =
@@ -130,7 +137,7 @@ returns : tie.Need-returns Inv-loop μ-loop
 returns c =
     let g = c .before .before in
     let st = s g in
-    sym (along-stop (now (st .args .b)) (st .args .x) (st .args .v) (st .args .y) (st .args .w) (l g .loop .next - 1) (here g)
+    sym (rest-stop (now (st .args .b)) (st .args .x) (st .args .v) (st .args .y) (st .args .w) (l g .loop .next - 1) (rest g)
     (fails (judged (c .before)) (c .if1 .taken)))
 
 sub-get : tie.Need-sub-get Inv-loop μ-loop
@@ -166,14 +173,16 @@ loop-less c =
 loop-again : tie.Need-loop-again Inv-loop μ-loop
 loop-again c =
     let g = c .before .before .before in
-    let st = s g in
-    along-next (now (st .args .b)) (st .args .x) (st .args .v) (st .args .y) (st .args .w) (l g .loop .next - 1) (here g)
-    (c .get5 .result) (holds (judged (c .before .before)) (c .before .if1 .left)) (follows c)
+    let st = s g in (
+      along-next (now (st .args .b)) (st .args .x) (st .args .y) (l g .loop .next - 1) (here g) (c .get5 .result) (follows c),
+      rest-next (now (st .args .b)) (st .args .x) (st .args .v) (st .args .y) (st .args .w) true (l g .loop .next - 1) (rest g)
+          true (sym (holds (judged (c .before .before)) (c .before .if1 .left))) (c .get5 .result) (follows c),
+    )
 
 returns-2 : tie.Need-returns-2 Inv-loop μ-loop
 returns-2 c =
     let n : c .before .loop .next ≡ 0 = omega (arith, c .loop-test .left) in
-    sym (rw n at (c .before .loop .inv .same))
+    sym (rw n at (c .before .loop .inv .1))
 
 pub chain-allows-spec : {M : Type 1} → statement M
 chain-allows-spec =
