@@ -4,14 +4,14 @@ use mathlib.Core.Bool.{Bool, true, false, cond, _&&_, _||_, not}
 use mathlib.Core.List.{List}
 use mathlib.Core.Logic.{_⊎_, inl, inr}
 use mathlib.Core.Option.{none}
-use mathlib.Core.Path.{_≡_, refl, sym, _∙_, ap, ap₂, subst}
+use mathlib.Core.Path.{_≡_, refl, sym, _∙_, ap, ap₂}
 use native.Mathlib.Numerals.{add-one}
 use native.Mathlib.Omega.{arith}
 use lib.Dec.{eqb}
 use lib.ListN.{length, getD}
 use lib.Pow.{pow-mono}
 use Rattle.base.proofs.Below.{all-below, every-below, any-below, some-below, getD-list-below}
-use Rattle.base.proofs.Bools.{and-comm, and-false-right, refuted, or-false-left, or-false-right, bool-ext}
+use Rattle.base.proofs.Bools.{and-comm, refuted, or-false-left, or-false-right, bool-ext}
 use Rattle.base.proofs.Choice.{cond-true, cond-false}
 use Rattle.base.proofs.Members.{all-at, at-all, any-at, at-any}
 use Rattle.base.proofs.Row.{row-ext, row-small, rowCount-small}
@@ -208,10 +208,6 @@ module _ (b : List ℕ) (x y : ℕ) where
   along-start n e =
       rw e (record { low = chain-low b x y (constraintCount b); settled = chain-settled b x y (constraintCount b) })
 
-  -- the constraint that the walk has come to
-  pub along-here : (n : ℕ) → (n ≡ 0 → ⊥) → Along b x y n → Along b x y (suc (n - 1))
-  along-here n h a = subst (Along b x y) (omega arith) a
-
   module _ (c : ℕ) (a : Along b x y (suc c)) where
     pub along-over : over b x y c ≡ true
     along-over = chain-over b x y c (a .settled)
@@ -232,11 +228,6 @@ module _ (b : List ℕ) (x v y w : ℕ) where
   pub rest-start : (n : ℕ) → n ≡ chainBelow b x y (constraintCount b) → Rest b x v y w true n
   rest-start n e = rw e (allowed-chain b x v y w)
 
-  pub rest-here : (t : Bool) (n : ℕ) → (n ≡ 0 → ⊥) → Rest b x v y w t n → Rest b x v y w t (suc (n - 1))
-  rest-here t n h a =
-      let e : n ≡ suc (n - 1) = omega arith in
-      subst (Rest b x v y w t) e a
-
   pub rest-next : (t : Bool) (c : ℕ) → Rest b x v y w t (suc c) → (r : Bool) → r ≡ t && acceptsAt b x v y w c
       → (n : ℕ) → n ≡ chainBelow b x y c → Rest b x v y w r n
   rest-next t c a r p n e =
@@ -244,10 +235,6 @@ module _ (b : List ℕ) (x v y w : ℕ) where
       ∙ ap₂ _&&_ (sym p)
       (chain-all b x y (acceptsAt b x v y w) (accepts-apart b x v y w) c
       ∙ ap (λ (k : ℕ). allBelow k (acceptsAt b x v y w)) (sym e))
-
-  pub rest-stop : (c : ℕ) → Rest b x v y w true (suc c) → acceptsAt b x v y w c ≡ false
-      → pairAllowed (planOf b) x v y w ≡ false
-  rest-stop c a p = a ∙ and-false-right (allBelow c (acceptsAt b x v y w)) p
 
 -- ---- what the code reads
 

@@ -9,13 +9,13 @@ ghost use mathlib.Core.Path.{_≡_};
 ghost use Prim.Native.Nat.{ℕ, _^_, _<_, _≤_};
 ghost use lib.ListN.{length};
 ghost use Rattle.base.specs.Row.{bit, rowOf};
-ghost use Rattle.index.specs.Allowed.{permitsAt, permitsFrom, limited, inColumn, Listed};
+ghost use Rattle.index.specs.Allowed.{permitsFrom, limited, inColumn, Listed};
 ghost use Rattle.index.specs.Index.{Indexed, Ready};
 ghost use Rattle.cells.specs.Memory.{memOf};
 ghost use Rattle.network.specs.Network.{supports, supportCount};
 ghost use Rattle.plan.specs.Decode.{planOf};
 ghost use Rattle.format.specs.Format.{variableCount};
-ghost use Rattle.plan.specs.Network.{withinLimit, pairAllowed, shareConstraint, networkOf};
+ghost use Rattle.plan.specs.Network.{withinLimit, shareConstraint, networkOf};
 ghost use Rattle.plan.specs.WellFormed.{sizeOf};
 
 // Whether two variables share a constraint of the plan that the cells index.
@@ -46,53 +46,6 @@ fn within_limit(limit: usize, f: usize, g: usize) -> bool
         return true;
     }
     f + g <= limit
-}
-
-// Whether the constraint at `at` permits value v of its first variable, at `first`, with value w of its
-// second, at `second`.
-fn permits(b: &[u8], at: usize, first: usize, v: usize, second: usize, w: usize) -> bool
-    requires { ⌜ (at ≤ length (now b)) × (first ≤ length (now b)) × (second ≤ length (now b)) × (v < 16) × (w < 16) ⌝ }
-    ensures { λ r. ⌜ r ≡ permitsAt (now (b .entry)) at first v second w ⌝ }
-{
-    if read::kind(b, at) == 0 {
-        return holds(read::table_row(b, at, v), w);
-    }
-    within_limit(
-        read::limit(b, at),
-        read::figure(b, first, v),
-        read::figure(b, second, w),
-    )
-}
-
-// Whether every constraint along the chain of x and y permits the pair; x comes first in them.
-fn chain_allows(b: &[u8], cells: &[u16], x: usize, v: usize, y: usize, w: usize) -> bool
-    requires { ⌜ Ready (now b) (now cells) × Listed (now b) x v × Listed (now b) y w × (x ≤ y) ⌝ }
-    ensures { λ r. ⌜ r ≡ pairAllowed (planOf (now (b .entry))) x v y w ⌝ }
-{
-    let variables = read::variable_count(b);
-    let first = layout::get(cells, layout::PLACES, 0, x + 1);
-    let second = layout::get(cells, layout::PLACES, 0, y + 1);
-    let mut next = layout::get(cells, layout::HEADS, x, y);
-    while next != 0 {
-        let at = layout::get(cells, layout::PLACES, 0, variables + next);
-        if !permits(b, at, first, v, second, w) {
-            return false;
-        }
-        next = layout::get(cells, layout::NEXT, 0, next - 1);
-    }
-    true
-}
-
-// Whether value v of x may stand with value w of y: every constraint over the two permits it.
-pub fn pair_allowed(b: &[u8], cells: &[u16], x: usize, v: usize, y: usize, w: usize) -> bool
-    requires { ⌜ Ready (now b) (now cells) × Listed (now b) x v × Listed (now b) y w ⌝ }
-    ensures { λ r. ⌜ r ≡ pairAllowed (planOf (now (b .entry))) x v y w ⌝ }
-{
-    if x < y {
-        chain_allows(b, cells, x, v, y, w)
-    } else {
-        chain_allows(b, cells, y, w, x, v)
-    }
 }
 
 // How many values a variable has.
