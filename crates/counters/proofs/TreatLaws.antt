@@ -9,12 +9,12 @@ use native.Mathlib.Decide.{decLt}
 use native.Mathlib.Nat.{eq-or-lt-of-le}
 use native.Mathlib.Numerals.{add-one}
 use native.Mathlib.Omega.{arith}
-use borrow.Author.Tests.{lt-ltb, le-ltb, eq-eqb, ne-eqb}
+use borrow.Author.Tests.{lt-ltb, le-ltb, eq-eqb, ne-eqb, eqb-true}
 use lib.Dec.{eqb}
 use Rattle.base.proofs.Bools.{decided}
 use Rattle.base.proofs.Choice.{cond-true, cond-false}
 use Rattle.base.proofs.Row.{row-bit}
-use Rattle.base.specs.Row.{bit, rowOf}
+use Rattle.base.specs.Row.{isOdd, bit, rowOf}
 use Rattle.disac4.specs.System.{System, systemOf}
 use Rattle.network.specs.Network.{supports}
 use Rattle.plan.proofs.Pairs.{allowed-symmetric}
@@ -64,18 +64,29 @@ second-fails true n m e = sym (cond-false n m e)
 second-fails false n m e = refl
 
 module _ (sys : System) (i y w x v : ℕ) (m : Mem) where
-  pub touched : (n : Mem) → m DOMAIN x v ≡ LISTED → sys .net .allows x v y w ≡ true → n ≡ loseM i x v y m
+  touched : (n : Mem) → m DOMAIN x v ≡ LISTED → sys .net .allows x v y w ≡ true → n ≡ loseM i x v y m
       → n ≡ touchM sys i y w x v m
   unfolding touchM
   touched n d a e = e ∙ sym (cond-true _ _ (eq-eqb (m DOMAIN x v) LISTED d) ∙ cond-true _ _ a)
 
-  pub not-allowed : sys .net .allows x v y w ≡ false → m ≡ touchM sys i y w x v m
+  not-allowed : sys .net .allows x v y w ≡ false → m ≡ touchM sys i y w x v m
   unfolding touchM
   not-allowed a = second-fails (eqb (m DOMAIN x v) LISTED) (loseM i x v y m) m a
 
-  pub not-listed : (m DOMAIN x v ≡ LISTED → ⊥) → m ≡ touchM sys i y w x v m
+  not-listed : (m DOMAIN x v ≡ LISTED → ⊥) → m ≡ touchM sys i y w x v m
   unfolding touchM
   not-listed d = sym (cond-false _ _ (ne-eqb (m DOMAIN x v) LISTED d))
+
+-- whether a label had the treated one as a support, and its domain cell: one test on their sum tells both
+module _ (sys : System) (i y w x v t d : ℕ) (m : Mem) (cell : d ≡ m DOMAIN x v) (small : d < 65536)
+    (odd : isOdd t ≡ sys .net .allows x v y w) where
+  pub sum-touched : (n : Mem) → t % 2 + d ≡ 65536 → n ≡ loseM i x v y m → n ≡ touchM sys i y w x v m
+  sum-touched n e = touched sys i y w x v m n (omega arith) (sym odd ∙ eq-eqb (t % 2) 1 (omega arith))
+
+  pub sum-passed : (t % 2 + d ≡ 65536 → ⊥) → m ≡ touchM sys i y w x v m
+  sum-passed e =
+      ⊎-elim (λ p. not-listed sys i y w x v m (λ l. e (omega (arith, eqb-true (t % 2) 1 p))))
+      (λ p. not-allowed sys i y w x v m (sym odd ∙ p)) (decided (isOdd t))
 
 -- ---- a variable
 

@@ -32,15 +32,15 @@ fn lose(cells: &mut [u16], i: usize, x: usize, v: usize, row: usize)
     }
 }
 
-// Label v of x, if it had the treated one as a support and is in its domain.
+// Label v of x, if it had the treated one as a support and is in its domain. Its bit and its domain cell sum to 65,536
+// only then: one test, since two that go either way would cost more.
 fn touch(cells: &mut [u16], i: usize, x: usize, v: usize, supported: usize, row: usize)
     requires { ⌜ (24576 ≤ length (now cells)) × (i < 8) × (x < 32) × (v < 16) × (row ≤ 256) ⌝ }
     ensures { λ _. ⌜ ((sys : System) (y w : ℕ) → bit supported v ≡ sys .net .allows x v y w → row ≡ counterRow (memOf (now (cells .entry))) x y → memOf (now (cells .exit)) ≡ touchM sys i y w x v (memOf (now (cells .entry)))) ⌝ }
 {
-    if (supported >> v) % 2 == 1 {
-        if layout::get(cells, layout::DOMAIN, x, v) == 65535 {
-            lose(cells, i, x, v, row);
-        }
+    let listed = layout::get(cells, layout::DOMAIN, x, v);
+    if (supported >> v) % 2 + listed == 65536 {
+        lose(cells, i, x, v, row);
     }
 }
 
