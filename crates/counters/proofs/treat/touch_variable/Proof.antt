@@ -1,5 +1,5 @@
 -- `counters::treat::touch_variable` goes through a variable of the owner that is linked with the treated one. Assumes nothing.
-use Prim.Native.Nat.{ℕ, _<_}
+use Prim.Native.Nat.{ℕ}
 use borrow.Author.Needs.{needs}
 use mathlib.Core.Bool.{Bool, true}
 use mathlib.Core.List.{List}
