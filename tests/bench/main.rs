@@ -22,7 +22,7 @@ use tinshrew_tests::subject::{self, Subject};
 const WORK: usize = 24_576;
 const LISTS: usize = 32;
 const LEAST_RUNS: usize = 15;
-const LEAST_TIME: Duration = Duration::from_millis(400);
+const LEAST_TIME: Duration = Duration::from_millis(1500);
 
 struct Buffers {
     work: Vec<u16>,
@@ -38,18 +38,32 @@ impl Buffers {
     }
 }
 
-/// The median time of a call, each time with buffers full of garbage.
-fn time(buffers: &mut Buffers, mut call: impl FnMut(&mut [u16], &mut [u16])) -> f64 {
-    let mut times = Vec::new();
+/// The median times of calls that take turns, each time with buffers full of garbage, so that a busy machine slows all of
+/// them alike; and the median of how long the first took against each.
+fn time(buffers: &mut Buffers, calls: &mut [&mut dyn FnMut(&mut [u16], &mut [u16])]) -> Vec<(f64, f64)> {
+    let mut times = vec![Vec::new(); calls.len()];
     let begin = Instant::now();
-    while times.len() < LEAST_RUNS || begin.elapsed() < LEAST_TIME {
-        buffers.fill();
-        let start = Instant::now();
-        call(black_box(&mut buffers.work), black_box(&mut buffers.lists));
-        times.push(start.elapsed().as_secs_f64());
+    while times[0].len() < LEAST_RUNS || begin.elapsed() < LEAST_TIME {
+        for (call, times) in calls.iter_mut().zip(&mut times) {
+            buffers.fill();
+            let start = Instant::now();
+            call(black_box(&mut buffers.work), black_box(&mut buffers.lists));
+            times.push(start.elapsed().as_secs_f64() * 1e6);
+        }
     }
-    times.sort_by(f64::total_cmp);
-    times[times.len() / 2] * 1e6
+    let first = times[0].clone();
+    times
+        .into_iter()
+        .map(|own| {
+            let ratios = first.iter().zip(&own).map(|(a, b)| a / b).collect();
+            (median(own), median(ratios))
+        })
+        .collect()
+}
+
+fn median(mut numbers: Vec<f64>) -> f64 {
+    numbers.sort_by(f64::total_cmp);
+    numbers[numbers.len() / 2]
 }
 
 fn call(
@@ -102,15 +116,22 @@ fn measure(subject: &Subject, what: &str, plan: &[u8], turns: Option<&[u8]>) {
     let loaded = fast::check_plan(Sound, plan).map_or(0, |numbers| numbers[3]);
     let status = ["open", "closed", "bare"][found[1]];
     println!("{what}: {status}, {} strikes, {} changing turns", loaded - listed, found[2]);
-    let theirs = time(&mut buffers, |work, lists| {
-        black_box(call(subject, black_box(plan), turns, work, lists));
-    });
-    println!("  {:32} {theirs:12.1} us", subject.name);
-    for (name, clear) in [("Rust", false), ("Rust, work cells cleared", true)] {
-        let ours = time(&mut buffers, |work, lists| {
-            black_box(rust(black_box(plan), turns, work, lists, clear));
-        });
-        println!("  {name:32} {ours:12.1} us   ratio {:8.2}", theirs / ours);
+    let times = time(
+        &mut buffers,
+        &mut [
+            &mut |work, lists| {
+                black_box(call(subject, black_box(plan), turns, work, lists));
+            },
+            &mut |work, lists| {
+                black_box(rust(black_box(plan), turns, work, lists, false));
+            },
+            &mut |work, lists| {
+                black_box(rust(black_box(plan), turns, work, lists, true));
+            },
+        ],
+    );
+    for (name, (time, ratio)) in [subject.name, "Rust", "Rust, work cells cleared"].iter().zip(times) {
+        println!("  {name:32} {time:12.1} us   ratio {ratio:8.2}");
     }
 }
 
