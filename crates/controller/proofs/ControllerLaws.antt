@@ -53,12 +53,6 @@ module _ (marks i : ℕ) (small : marks < 256) where
       let e = ne-eqb (marks / 2 ^ i % 2) 1 h in
       (rw (e, shifted i (omega arith)), rw (shifted i (omega arith)) (mark-room 8 marks i l small e))
 
--- a row with a mark more stays a row of 8
-with-mark-small : (marks i : ℕ) → marks < 256 → i < 8 → withMark marks i < 256
-unfolding withMark
-with-mark-small marks i h l =
-    ⊎-elim (λ e. rw e h) (λ e. rw e (mark-room 8 marks i l h e)) (decided (bit marks i))
-
 -- ---- the tally
 
 pub marked-as : (p i r : ℕ) (t : Tally) → r ≡ withMark (t .marks) i → p ≤ 8
@@ -96,17 +90,6 @@ module _ (p i c : ℕ) (t : Tally) where
           (cond-false (countedT t) _ (lt-leb 1024 c h₁)
           ∙ cond-true _ t (not-false (t .polling) h₂)
           ∙ cond-true (markedT p i t) t (eq-eqb c (t .timestamp .0) h))
-
--- the marks stay a row of 8
-pub told-small : (p i c : ℕ) (t : Tally) → t .marks < 256 → i < 8 → toldT p i c t .marks < 256
-unfolding toldT countedT markedT
-told-small p i c t h l = go (leb 1024 c) (t .polling) (eqb c (t .timestamp .0))
-  where
-    go : (a b d : Bool) → cond a (countedT t) (cond b (cond d (markedT p i t) t) t) .marks < 256
-    go true b d = h
-    go false true true = with-mark-small (t .marks) i h l
-    go false true false = h
-    go false false d = h
 
 -- ---- an action of the controller is idle, or acts
 

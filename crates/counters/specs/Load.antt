@@ -1,4 +1,4 @@
--- Loading in memory: all cells 0, the plan's index, then for each label its domain cell, its counters, and its deletion
+-- Loading in memory, where the plan's index stands already: for each label its domain cell, its counters, and its deletion
 -- where a count is 0.
 use Prim.Native.Nat.{ℕ, zero, suc, _-_}
 use mathlib.Core.Bool.{Bool, cond, _&&_}

@@ -46,6 +46,7 @@ module _ (sys : System) (sound : Sound sys) (ts : List Turn) where
           is-read = quiet-read sys sound ts quiet x v gone;
           is-treated = quiet-treated sys sound ts quiet x v gone;
         };
+    counted = changes-exactly sys (sound .few);
     bounded = changes-bounded sys sound ts;
     goes-on = λ running.
         let p = progress sound ts running in

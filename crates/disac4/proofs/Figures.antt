@@ -171,13 +171,3 @@ pub timestamp-of-run : (sys : System) (ts : List Turn)
     → play sys (load sys) ts .controller .timestamp ≡ changesWhere sys isPoll (load sys) ts
 unfolding load
 timestamp-of-run sys ts = polls-add sys ts (load sys) ∙ omega arith
-
--- every poll on its way or held has a number up to the polls, and wants at most the sends
-pub poll-bound : {sys : System} → Sound sys → (ts : List Turn) (q : Poll)
-    → Timely (play sys (load sys) ts .controller .timestamp) (play sys (load sys) ts .controller .pollOpen)
-    (play sys (load sys) ts .listCounter 0) q
-    → (q .number .0 ≤ changesWhere sys isPoll (load sys) ts) × (q .wanted .0 ≤ changesWhere sys isSend (load sys) ts)
-poll-bound {sys} sound ts q t = (
-  omega (arith, t .bound, timestamp-of-run sys ts),
-  omega (arith, t .within, list-counter-bound sound ts 0 (omega arith)),
-)

@@ -33,12 +33,6 @@ overwrite-back new cells i h =
     subst (λ (j : ℕ). getD (new ++ drop (length new) cells) j 0 ≡ getD cells j 0) (d .1)
     (getD-append-add new (drop (length new) cells) (d .0) 0 ∙ getD-drop (length new) cells (d .0) 0)
 
--- and their number stays
-pub overwrite-length : (new cells : List ℕ) → length new ≤ length cells → length (overwrite new cells) ≡ length cells
-unfolding overwrite
-overwrite-length new cells h =
-    omega (arith, length-append new (drop (length new) cells), length-drop (length new) cells)
-
 -- ---- the two ways in which a call ends
 
 -- a declined call changes no lent cell

@@ -3,6 +3,7 @@
 use Prim.Native.Nat.{ℕ, _<_, _≤_}
 use mathlib.Core.Bool.{Bool, true, false}
 use mathlib.Core.List.{List, _++_}
+use mathlib.Core.Logic.{_↔_}
 use mathlib.Core.Path.{_≡_}
 use Rattle.base.specs.Choice.{allOf}
 use Rattle.network.specs.Chain.{Apart, ConsistentOn}
@@ -13,8 +14,9 @@ use Rattle.disac4.specs.Event.{events, unsent, unread, untreated, delete
 use Rattle.disac4.specs.Loading.{load}
 use Rattle.disac4.specs.Report.{final}
 use Rattle.disac4.specs.Round.{round, roundTurns, roundRunTurns}
+use Rattle.disac4.specs.State.{State}
 use Rattle.disac4.specs.System.{System, boundOf}
-use Rattle.disac4.specs.Turn.{Turn, allowed, after, changesWhere}
+use Rattle.disac4.specs.Turn.{Turn, allowed, after, changes, changesWhere}
 
 -- after these turns the plan is closed; bare is closed too
 unfoldable pub closedAfter : System → List Turn → Bool
@@ -32,6 +34,8 @@ pub record Demand3 (sys : System) (ts : List Turn) : Type 0 where
   pub keeps-largest : (d : Domains) → Largest (sys .net) d → Within d (final sys ts .domain)
   -- a closed plan has no deletion unsent, unread or untreated
   pub all-done : closedAfter sys ts ≡ true → (x v : ℕ) → deleted sys (final sys ts) x v ≡ true → Done sys ts x v
+  -- a turn is counted exactly if the state after it differs from the state before
+  pub counted : (st : State) (t : Turn) → (changes sys st t ≡ true) ↔ (after sys st t ≡ st → ⊥)
   -- at most 5pL + 2L + 3p + 1 turns changed something
   pub bounded : changesWhere sys (λ t. true) (load sys) ts ≤ boundOf sys
   -- while the plan is open some allowed turn changes something

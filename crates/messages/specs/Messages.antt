@@ -1,5 +1,5 @@
 -- Send, answer and the reads of a worker in memory: the memory after, or nothing where the action is idle. A test against a
--- region's size stands for room that `proofs` show is never lacking.
+-- region's size stands for room that the refinement shows is never lacking.
 use Prim.Native.Nat.{ℕ, _+_, _-_}
 use mathlib.Core.Bool.{Bool, false, cond}
 use mathlib.Core.Option.{Option, none, some}

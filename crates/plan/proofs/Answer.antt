@@ -39,28 +39,6 @@ pub figures : (b : List ℕ) (plan : Plan) → decode b ≡ accepted plan
 unfolding planCheck figuresOf
 figures b plan e = ap checkedAs e
 
--- the same, as the bytes give them
-pub figures-read : (b : List ℕ) → planFault b ≡ none
-    → planCheck b
-    ≡ Accepted
-    (record {
-      workers = workerCount b;
-      variables = variableCount b;
-      constraints = constraintCount b;
-      labels = sumBelow (variableCount b) (λ x. sizeAt b (suc x));
-    })
-unfolding planCheck decode figuresOf planOf
-figures-read b e =
-    ap (λ (o : Option Decline). checkedAs (decodedAs (planOf b) o)) e
-    ∙ (λ i.
-    Accepted
-    (record {
-      workers = workerCount b;
-      variables = variables-read b i;
-      constraints = constraints-read b i;
-      labels = labels-read b i;
-    }))
-
 -- figures that are read part by part
 pub figures-built : (b : List ℕ) (f : Figures) → f .workers ≡ workerCount b → f .variables ≡ variableCount b
     → f .constraints ≡ constraintCount b → f .labels ≡ labelCount (networkOf (planOf b)) → f ≡ figuresOf (planOf b)
@@ -71,34 +49,3 @@ figures-built b f p q r s = λ i. record {
   constraints = (r ∙ sym (constraints-read b)) i;
   labels = s i;
 }
-
--- the check declines as decoding does
-pub check-declined : (b : List ℕ) (d : Decline) → planCheck b ≡ Declined d → decode b ≡ declined d
-unfolding planCheck
-check-declined b d e = go (decode b) refl
-  where
-    go : (o : Decoded) → decode b ≡ o → decode b ≡ declined d
-    go (accepted plan) p =
-        let q : Accepted (figuresOf plan) ≡ Declined d = ap checkedAs (sym p) ∙ e in
-        let z : _≡_ {A = ℕ} 0 1 = cc in
-        absurd (omega arith)
-    go (declined c) p =
-        let q : Declined c ≡ Declined d = ap checkedAs (sym p) ∙ e in
-        let r : c ≡ d = cc in
-        p ∙ ap {B = Decoded} declined r
-
--- the check accepts only what decoding accepts
-pub check-accepted : (b : List ℕ) (f : Figures) → planCheck b ≡ Accepted f → (decode b ≡ accepted (planOf b)) × (f ≡ figuresOf (planOf b))
-unfolding planCheck decode
-check-accepted b f e = go (planFault b) refl
-  where
-    go : (o : Option Decline) → planFault b ≡ o
-        → (decodedAs (planOf b) (planFault b) ≡ accepted (planOf b)) × (f ≡ figuresOf (planOf b))
-    go none p =
-        let q : Accepted (figuresOf (planOf b)) ≡ Accepted f =
-        ap (λ (o : Option Decline). checkedAs (decodedAs (planOf b) o)) (sym p) ∙ e in
-        (ap (decodedAs (planOf b)) p, cc)
-    go (some d) p =
-        let q : Declined d ≡ Accepted f = ap (λ (o : Option Decline). checkedAs (decodedAs (planOf b) o)) (sym p) ∙ e in
-        let z : _≡_ {A = ℕ} 0 1 = cc in
-        absurd (omega arith)

@@ -58,13 +58,6 @@ linked-by plan x y e =
           (or-cases (joins (constraintOf plan (r .0)) x y) (joins (constraintOf plan (r .0)) y x) (r .2)),
     )
 
--- a constraint links its two variables
-pub over-links : (plan : Plan) (c x y : ℕ) → Over plan c x y → shareConstraint plan x y ≡ true
-unfolding shareConstraint constraintOf
-over-links plan c x y o =
-    at-any (λ c. joins c x y || joins c y x) (plan .constraints) noConstraint c (o .listed)
-    (or-left (joins (constraintOf plan c) y x) (of-joins (constraintOf plan c) x y (o .first-is) (o .second-is)))
-
 -- a constraint's variables are two of a well-formed plan's, the first before the second
 pub over-in-range : (plan : Plan) → WellFormed plan → (c x y : ℕ) → Over plan c x y → (x < y) × (y < length (plan .variables))
 over-in-range plan fits c x y o =
@@ -78,7 +71,3 @@ linked-in-range plan fits x y e =
     let r : (c : ℕ) × (Over plan c x y ⊎ Over plan c y x) = linked-by plan x y e in
     ⊎-elim (λ o. omega (arith, over-in-range plan fits (r .0) x y o))
     (λ o. omega (arith, over-in-range plan fits (r .0) y x o)) (r .1)
-
--- no variable is linked to itself
-pub linked-irreflexive : (plan : Plan) → WellFormed plan → (x : ℕ) → shareConstraint plan x x ≡ true → ⊥
-linked-irreflexive plan fits x e = linked-in-range plan fits x x e .2 refl

@@ -1,4 +1,4 @@
--- One turn in memory, and a run of turns.
+-- One turn in memory.
 use Prim.Native.Nat.{ℕ, _-_}
 use mathlib.Core.Bool.{cond, _||_, not}
 use mathlib.Core.Option.{Option, none, some, Option·getD}
