@@ -8,7 +8,7 @@ use native.Mathlib.Omega.{arith}
 use borrow.Author.Tests.{eqb-true, eqb-false, eq-eqb, ne-eqb}
 use lib.Dec.{eqb}
 use lib.Bits.{bitAnd, and-step, and-self}
-use lib.Pow.{pow-mono, pow-pos}
+use lib.Pow.{pow-mono, pow-pos, shr-shr, high}
 use Rattle.base.proofs.Bools.{decided}
 use Rattle.base.proofs.Choice.{cond-true, cond-false}
 use Rattle.base.proofs.Sums.{sum-ext, sum-times, sum-first, count-ext, count-le}
@@ -58,6 +58,28 @@ row-half n t = half-of (rowOf (suc n) t) (rowOf n (λ w. t (suc w))) (t 0) (row-
 
 half-small : (n r : ℕ) → r < 2 ^ suc n → r / 2 < 2 ^ n
 half-small n r h = omega (arith, two-pow-succ n)
+
+-- ---- a row in two parts, the lower one of n values
+
+-- the values below n are in the lower part
+pub bit-low : (n upper lower v : ℕ) → v < n → bit (upper * 2 ^ n + lower) v ≡ bit lower v
+bit-low zero upper lower v h = absurd (not-suc-le-zero h)
+bit-low (suc n) upper lower zero h =
+    let e : (upper * 2 ^ suc n + lower) % 2 ≡ lower % 2 = omega (arith, ap (λ (k : ℕ). upper * k) (two-pow-succ n)) in
+    bit-zero (upper * 2 ^ suc n + lower) ∙ ap (λ (k : ℕ). eqb k 1) e ∙ sym (bit-zero lower)
+bit-low (suc n) upper lower (suc v) h =
+    let e : (upper * 2 ^ suc n + lower) / 2 ≡ upper * 2 ^ n + lower / 2 =
+    omega (arith, ap (λ (k : ℕ). upper * k) (two-pow-succ n)) in
+    bit-suc (upper * 2 ^ suc n + lower) v
+    ∙ ap (λ (k : ℕ). bit k v) e
+    ∙ bit-low n upper (lower / 2) v (le-of-suc-le-suc h)
+    ∙ sym (bit-suc lower v)
+
+-- the others, moved down by n, are in the upper part
+pub bit-high : (n upper lower v : ℕ) → lower < 2 ^ n → bit (upper * 2 ^ n + lower) (n + v) ≡ bit upper v
+unfolding bit
+bit-high n upper lower v h =
+    ap isOdd (sym (shr-shr (upper * 2 ^ n + lower) n v)) ∙ ap (λ (k : ℕ). isOdd (k / 2 ^ v)) (high upper n h)
 
 -- ---- which values a row holds
 

@@ -48,6 +48,10 @@ kindAt b at = byteAt b (at + 2 + 2)
 abbrev pub tableRowAt : List ℕ → ℕ → ℕ → ℕ
 tableRowAt b at v = wordAt b (at + 5 + 2 * v)
 
+-- a byte of such a row: half 0 is its high byte, and half 1 its low one
+abbrev pub tableByteAt : List ℕ → ℕ → ℕ → ℕ → ℕ
+tableByteAt b at v half = byteAt b (at + 5 + 2 * v + half)
+
 abbrev pub limitAt : List ℕ → ℕ → ℕ
 limitAt b at = wordAt b (at + 5)
 

@@ -4,7 +4,7 @@ use crate::reader::word_at;
 ghost use mathlib.Core.Path.{_≡_};
 ghost use Prim.Native.Nat.{_<_, _≤_};
 ghost use lib.ListN.{length};
-ghost use Rattle.format.specs.Format.{behind as behindOf, workerCount, variableCount, constraintCount, ownerAt, valueCountAt, codeAt, figureAt, firstAt, secondAt, kindAt, tableRowAt, limitAt};
+ghost use Rattle.format.specs.Format.{behind as behindOf, workerCount, variableCount, constraintCount, ownerAt, valueCountAt, codeAt, figureAt, firstAt, secondAt, kindAt, tableRowAt, tableByteAt, limitAt};
 
 // The place behind the section at `at`.
 pub fn behind(b: &[u8], at: usize) -> usize
@@ -97,6 +97,14 @@ pub fn table_row(b: &[u8], at: usize, v: usize) -> usize
     ensures { λ r. ⌜ (r ≡ tableRowAt (now (b .entry)) at v) × (r < 65536) ⌝ }
 {
     word_at(b, at + 5 + 2 * v)
+}
+
+// One byte of such a row: half 0 is its high byte, and half 1 its low one.
+pub fn table_byte(b: &[u8], at: usize, w: usize, half: usize) -> usize
+    requires { ⌜ (at ≤ length (now b)) × (w < 256) × (half < 2) ⌝ }
+    ensures { λ r. ⌜ (r ≡ tableByteAt (now (b .entry)) at w half) × (r < 256) ⌝ }
+{
+    byte_at(b, at + 5 + 2 * w + half)
 }
 
 // A sodium rule's limit.

@@ -1,5 +1,5 @@
 -- The rows of values that the constraints of a chain permit, and the row that they leave together.
-use Prim.Native.Nat.{ℕ, suc, _+_, _-_, _*_, _^_, _<_, _≤_}
+use Prim.Native.Nat.{ℕ, suc, _+_, _-_, _*_, _/_, _%_, _^_, _<_, _≤_}
 use mathlib.Core.Bool.{Bool, true, false, _&&_, _||_, not}
 use mathlib.Core.List.{List}
 use mathlib.Core.Logic.{⊎-elim}
@@ -13,14 +13,16 @@ use lib.Dec.{leb, ltb, eqb}
 use lib.Pow.{pow-pos}
 use Rattle.base.proofs.Bools.{decided, and-comm, or-comm}
 use Rattle.base.proofs.Choice.{cond-true, cond-false}
-use Rattle.base.proofs.Row.{bit-and, row-bit, row-doubled, row-ext, row-full, row-of-bits}
+use Rattle.base.proofs.Row.{bit-and, bit-low, bit-high, row-bit, row-doubled, row-ext, row-full, row-of-bits}
 use Rattle.base.specs.Below.{one}
+use Rattle.base.specs.Bytes.{byteAt, wordAt}
 use Rattle.base.specs.Row.{bit, rowOf}
-use Rattle.format.specs.Format.{variableCount, constraintCount, kindAt, tableRowAt, limitAt, figureAt}
+use Rattle.format.specs.Format.{variableCount, constraintCount, kindAt, tableRowAt, tableByteAt, limitAt, figureAt}
 use Rattle.index.proofs.Chains.{and-true, over-turned}
 use Rattle.index.proofs.Permitted.{acceptsAt, Placed, Along, along-start, along-next, Rest, rest-start, rest-next, permits-table, permits-limit, permitted, row-low}
 use Rattle.index.specs.Allowed.{permitsAt, permitsFrom, limited, inColumn, Listed}
 use Rattle.index.specs.Index.{over, chainBelow}
+use Rattle.plan.proofs.Limits.{unrecorded-allows}
 use Rattle.plan.specs.Decode.{planFault, planOf}
 use Rattle.plan.specs.Network.{unrecorded, withinLimit, permits, joins, accepts, pairAllowed}
 use Rattle.plan.specs.WellFormed.{constraintOf}
@@ -59,6 +61,14 @@ unfolding withinLimit
 limit-turned limit f g =
     ap₂ _||_ (or-comm (unrecorded f) (unrecorded g)) (ap (λ (k : ℕ). leb k limit) (add-comm f g))
 
+-- with a figure that is not recorded, a limit permits all values
+pub limit-free : (b : List ℕ) (limit place n p f : ℕ) → f ≡ 65535 → p ≡ 2 ^ n → p - 1 ≡ rowOf n (limited b limit f place)
+unfolding limited
+limit-free b limit place n p f e q =
+    rw (e, q)
+    (row-full n
+    ∙ row-ext n (λ w. true) (limited b limit 65535 place) (λ w h. sym (unrecorded-allows limit (figureAt b place w) .0)))
+
 module _ (b : List ℕ) (at here v there : ℕ) where
   -- a limit's row, from either variable
   pub limit-bits : eqb (kindAt b at) 0 ≡ false → (leads : Bool) (limit f n r : ℕ) → limit ≡ limitAt b at → f ≡ figureAt b here v
@@ -88,6 +98,30 @@ module _ (b : List ℕ) (at here v there : ℕ) where
     column-bits n r e w h =
         permits-table b at there w here v (bit r w) p (tableRowAt b at w) refl
         (ap (λ (k : ℕ). bit k w) e ∙ row-bit n (inColumn b at v) w h)
+
+-- ---- a table's column, by one byte of each row
+
+-- values below 8 stand in the low byte, the others in the high one
+pub column-byte : (b : List ℕ) → ((i : ℕ) → byteAt b i < 256) → (at v : ℕ) → v < 16 → (w : ℕ)
+    → bit (tableByteAt b at w (1 - v / 8)) (v % 8) ≡ inColumn b at v w
+unfolding inColumn wordAt
+column-byte b bytes at v h w =
+    ⊎-elim
+    (λ l.
+    let below : v < 8 = ltb-true v 8 l in
+    let e : 1 - v / 8 ≡ 1 = omega arith in
+    let f : v % 8 ≡ v = omega arith in
+    ap₂ (λ (half k : ℕ). bit (tableByteAt b at w half) k) e f
+    ∙ sym (bit-low 8 (byteAt b (at + 5 + 2 * w)) (byteAt b (at + 5 + 2 * w + 1)) v below))
+    (λ l.
+    let past : 8 ≤ v = ltb-false v 8 l in
+    let e : at + 5 + 2 * w + (1 - v / 8) ≡ at + 5 + 2 * w = omega arith in
+    let f : v ≡ 8 + v % 8 = omega arith in
+    ap (λ (i : ℕ). bit (byteAt b i) (v % 8)) e
+    ∙ sym
+    (ap (bit (tableRowAt b at w)) f
+    ∙ bit-high 8 (byteAt b (at + 5 + 2 * w)) (byteAt b (at + 5 + 2 * w + 1)) (v % 8) (bytes (at + 5 + 2 * w + 1))))
+    (decided (ltb v 8))
 
 -- ---- a constraint of the chain, from either of its variables
 

@@ -34,14 +34,11 @@ fn holds(row: usize, w: usize) -> bool
     (row >> w) % 2 == 1
 }
 
-// A limit on the sum of two figures; 65,535 is no recorded figure, and then nothing is judged.
-fn within_limit(limit: usize, f: usize, g: usize) -> bool
-    requires { ⌜ (f < 65536) × (g < 65536) ⌝ }
+// Whether a limit permits figure g with the recorded figure f; 65,535 is no recorded figure, and then nothing is judged.
+fn permits_figure(limit: usize, f: usize, g: usize) -> bool
+    requires { ⌜ (f < 65535) × (g < 65536) ⌝ }
     ensures { λ r. ⌜ r ≡ withinLimit limit f g ⌝ }
 {
-    if f == 65535 {
-        return true;
-    }
     if g == 65535 {
         return true;
     }
@@ -65,31 +62,37 @@ pub fn part(held: bool, w: usize) -> usize
 }
 
 // The row of the values of the variable at `place` whose figures a limit permits with figure f; it has `values` of them.
-// From the last one down the row is doubled: that is quicker than to shift each bit to its place.
+// A figure that is not recorded goes with all of them. From the last one down the row is doubled: that is quicker than
+// to shift each bit to its place.
 fn limit_row(b: &[u8], limit: usize, f: usize, place: usize, values: usize) -> usize
     requires { ⌜ (place ≤ length (now b)) × (f < 65536) × (values ≤ 16) ⌝ }
     ensures { λ r. ⌜ r ≡ rowOf values (limited (now (b .entry)) limit f place) ⌝ }
 {
+    if f == 65535 {
+        return power(values) - 1;
+    }
     let mut row = 0;
     let mut w = values;
     while w != 0 {
         w -= 1;
-        row = 2 * row + part(within_limit(limit, f, read::figure(b, place, w)), 0);
+        row = 2 * row + part(permits_figure(limit, f, read::figure(b, place, w)), 0);
     }
     row
 }
 
 // The row of the values of a table's first variable whose rows hold value v of the second; it has `values` of them.
-// It is doubled in the same way.
+// It is doubled in the same way. Value v stands in one byte of each row, so the other is not read.
 fn table_column(b: &[u8], at: usize, v: usize, values: usize) -> usize
     requires { ⌜ (at ≤ length (now b)) × (v < 16) × (values ≤ 16) ⌝ }
     ensures { λ r. ⌜ r ≡ rowOf values (inColumn (now (b .entry)) at v) ⌝ }
 {
+    let half = 1 - v / 8;
+    let k = v % 8;
     let mut row = 0;
     let mut w = values;
     while w != 0 {
         w -= 1;
-        row = 2 * row + part(holds(read::table_row(b, at, w), v), 0);
+        row = 2 * row + part(holds(read::table_byte(b, at, w, half), k), 0);
     }
     row
 }

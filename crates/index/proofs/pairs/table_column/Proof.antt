@@ -1,21 +1,25 @@
 -- `index::pairs::table_column` gives the row of the values whose rows in a table hold a value. Invariant: the row holds
 -- those from w on, counted from there; the measure is w. Assumes nothing.
-use Prim.Native.Nat.{ℕ, _+_, _-_, _*_}
+use Prim.Native.Nat.{ℕ, _+_, _-_, _*_, _%_}
 use denote.Ref.{now}
 use mathlib.Core.Path.{_∙_, ap}
 use native.Mathlib.Omega.{arith}
 use Rattle.base.specs.Below.{one}
+use Rattle.base.specs.Bytes.{byteAt}
 use Rattle.base.specs.Row.{bit}
-use Rattle.index.proofs.Rows.{Upper, upper-start, upper-here, upper-next, upper-small, upper-all}
+use Rattle.index.proofs.Rows.{Upper, upper-start, upper-here, upper-next, upper-small, upper-all, column-byte}
 use Rattle.index.proofs.pairs.table_column.Statement.{statement}
 use Rattle.index.proofs.pairs.table_column.Tie as tie
 use Rattle.index.specs.Allowed.{inColumn}
 
 abbrev Inv-loop : tie.InvT-loop
-Inv-loop b at v values row₀ w₀ row w = Upper (inColumn b at v) values row w
+Inv-loop b at v values half k row₀ w₀ row w = Upper (inColumn b at v) values row w
 
 abbrev μ-loop : tie.MeasureT-loop
-μ-loop b at v values row₀ w₀ row w = w
+μ-loop b at v values half k row₀ w₀ row w = w
+
+sub-half : tie.Need-sub-half Inv-loop μ-loop
+sub-half c = omega (arith, c .before .pre .1)
 
 loop-holds : tie.Need-loop-holds Inv-loop μ-loop
 loop-holds c =
@@ -36,8 +40,8 @@ mul-row c =
           (l .loop .inv),
     )
 
-table-row-requires : tie.Need-table-row-requires Inv-loop μ-loop
-table-row-requires c κs = omega (arith, c .before .before .before .pre, c .before .loop .inv .low)
+table-byte-requires : tie.Need-table-byte-requires Inv-loop μ-loop
+table-byte-requires c κs = omega (arith, c .before .before .before .pre, c .before .loop .inv .low)
 
 holds-requires : tie.Need-holds-requires Inv-loop μ-loop
 holds-requires c κs = omega (arith, c .before .before .before .before .pre)
@@ -55,14 +59,18 @@ module _ (c : tie.After-part Inv-loop μ-loop) where
 
   more : Upper (inColumn (now (s .args .b)) (s .args .at) (s .args .v)) (s .args .values)
       (2 * l .loop .row + c .part .result) (l .loop .w - 1)
-  unfolding inColumn
+  unfolding byteAt
   more =
       let t = inColumn (now (s .args .b)) (s .args .at) (s .args .v) in
       upper-next t (s .args .values) (l .loop .row) (l .loop .w - 1)
       (upper-here t (s .args .values) (l .loop .row) (l .loop .w) (c .before .before .before .loop-test .taken) (l .loop .inv))
       (c .part .result)
       (c .part .ensures
-      ∙ ap one (c .before .holds .ensures ∙ ap (λ (r : ℕ). bit r (s .args .v)) (c .before .before .table-row .ensures .0)))
+      ∙ ap one
+      (c .before .holds .ensures
+      ∙ ap (λ (r : ℕ). bit r (s .args .v % 8)) (c .before .before .table-byte .ensures .0)
+      ∙ column-byte (now (s .args .b)) (λ i. l .before .shared-slice-known .given i .fits) (s .args .at) (s .args .v)
+      (s .pre .1) (l .loop .w - 1)))
 
 add-row : tie.Need-add-row Inv-loop μ-loop
 add-row c =
@@ -92,10 +100,11 @@ table-column-spec =
     (tie.spec
     Inv-loop
     μ-loop
+    sub-half
     loop-holds
     sub-w
     mul-row
-    table-row-requires
+    table-byte-requires
     holds-requires
     part-requires
     add-row
