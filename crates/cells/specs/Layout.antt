@@ -55,13 +55,13 @@ PLACES = 10
 abbrev pub NEXT : ℕ
 NEXT = 11
 
--- the variables that each worker owns, ascending
-abbrev pub OWN : ℕ
-OWN = 12
+-- one more than the first variable of a worker that is linked with another one (column), 0 for none
+abbrev pub FIRST : ℕ
+FIRST = 12
 
--- how many they are, by the worker's row
-abbrev pub OWNED : ℕ
-OWNED = 13
+-- one more than the next variable of the same worker that is linked with another one (column), 0 for none
+abbrev pub FOLLOW : ℕ
+FOLLOW = 13
 
 -- the cells behind the needed ones, which no run touches
 abbrev pub BEHIND : ℕ
@@ -122,8 +122,8 @@ regions =
     ∷ region HEADS 21912 32 32
     ∷ region PLACES 22936 1 176
     ∷ region NEXT 23112 1 128
-    ∷ region OWN 23240 8 32
-    ∷ region OWNED 23496 1 8
+    ∷ region FIRST 23240 8 32
+    ∷ region FOLLOW 23496 32 32
     ∷ []
 
 abbrev pub regionAt : ℕ → Region

@@ -89,18 +89,18 @@ pub const NEXT: Region = Region {
     cols: 128,
 };
 
-pub const OWN: Region = Region {
+pub const FIRST: Region = Region {
     id: 12,
     base: 23240,
     rows: 8,
     cols: 32,
 };
 
-pub const OWNED: Region = Region {
+pub const FOLLOW: Region = Region {
     id: 13,
     base: 23496,
-    rows: 1,
-    cols: 8,
+    rows: 32,
+    cols: 32,
 };
 
 // The columns of a worker's row.

@@ -5,13 +5,11 @@ use mathlib.Core.List.{List}
 use mathlib.Core.Logic.{⊎-elim}
 use mathlib.Core.Option.{none, some}
 use mathlib.Core.Path.{_≡_, refl, sym, _∙_, ap}
-use native.Mathlib.Decide.{decLt}
-use native.Mathlib.Nat.{eq-or-lt-of-le}
 use native.Mathlib.Numerals.{add-one}
 use native.Mathlib.Omega.{arith}
 use borrow.Author.Tests.{lt-ltb, le-ltb, eq-eqb, ne-eqb, eqb-true}
 use lib.Dec.{eqb}
-use Rattle.base.proofs.Bools.{decided}
+use Rattle.base.proofs.Bools.{decided, and-false}
 use Rattle.base.proofs.Choice.{cond-true, cond-false}
 use Rattle.base.proofs.Row.{row-bit}
 use Rattle.base.specs.Row.{isOdd, bit, rowOf}
@@ -19,12 +17,14 @@ use Rattle.disac4.specs.System.{System, systemOf}
 use Rattle.network.specs.Network.{supports}
 use Rattle.plan.proofs.Pairs.{allowed-symmetric}
 use Rattle.plan.specs.Decode.{planOf}
+use Rattle.format.specs.Format.{variableCount}
 use Rattle.plan.specs.Network.{pairAllowed, shareConstraint, networkOf}
 use Rattle.plan.specs.WellFormed.{sizeOf}
+use Rattle.index.proofs.Labels.{own-linked}
 use Rattle.index.proofs.Permitted.{supports-allowed}
-use Rattle.index.proofs.Own.{Owned, count-none, count-here, count-past, count-grows}
+use Rattle.index.proofs.Own.{next-none, next-here, next-past, next-above}
 use Rattle.index.specs.Allowed.{Listed}
-use Rattle.index.specs.Index.{owns, ownCount}
+use Rattle.index.specs.Index.{owns, ownLinked, nextOwn}
 use Rattle.cells.specs.Layout.{WORKERS, WORK, DOMAIN, COUNTERS, HEAD, TAIL}
 use Rattle.cells.specs.Lists.{deleteM}
 use Rattle.cells.specs.Memory.{Mem, store}
@@ -125,48 +125,94 @@ module _ (sys : System) (i y w : ℕ) (m m₁ m₂ : Mem) where
   unfolding touchValuesM
   value-more x v = one-more (λ n. touchValuesM sys i y w x n m) (touchM sys i y w x v) v m₁ m₂ refl
 
--- ---- the variables of a row
+-- ---- the chain of a row's variables
+
+-- where the chain goes on with `next`: every variable before it is done, and all are at its end
+pub record Reached (b : List ℕ) (i y w : ℕ) (start m : Mem) (next : ℕ) : Type 0 where
+  pub done : next ≡ 0 → m ≡ touchVariablesM (systemOf (planOf b)) i y w (variableCount b) start
+  pub before : (x : ℕ) → next ≡ suc x → m ≡ touchVariablesM (systemOf (planOf b)) i y w x start
+  pub inside : (x : ℕ) → next ≡ suc x → x < variableCount b
+  pub mine : (x : ℕ) → next ≡ suc x → ownLinked b i y x ≡ true
 
 module _ (b : List ℕ) (i y w : ℕ) (m : Mem) where
   abbrev touched-below : ℕ → Mem
   touched-below n = touchVariablesM (systemOf (planOf b)) i y w n m
 
-  -- the variables of other rows leave all as it is
-  others-skipped : (k n : ℕ) → k ≤ n → ownCount b i k ≡ ownCount b i n → touched-below k ≡ touched-below n
-  unfolding touchVariablesM owns
-  others-skipped k zero h e =
-      let z : k ≡ 0 = omega arith in
-      ap touched-below z
-  others-skipped k (suc n) h e = ⊎-elim (λ q. ap touched-below q) (λ l. go l (others-skipped k n)) (eq-or-lt-of-le h)
+  -- a variable that is not in the chain leaves all as it is
+  passed : (x : ℕ) → ownLinked b i y x ≡ false → touched-below x ≡ touched-below (suc x)
+  unfolding touchVariablesM systemOf networkOf owns
+  passed x p =
+      ⊎-elim (not-owned (systemOf (planOf b)) i y w x (touched-below x))
+      (not-linked (systemOf (planOf b)) i y w x (touched-below x))
+      (and-false (owns b i x) (shareConstraint (planOf b) x y) (sym (own-linked b i y x) ∙ p))
+
+  -- before the last `n` variables, the chain goes on with the next of them
+  pub reached : (m₁ : Mem) (n : ℕ) → n ≤ variableCount b → m₁ ≡ touched-below (variableCount b - n)
+      → Reached b i y w m m₁ (nextOwn b i y n)
+  reached m₁ zero h e = record {
+    done = λ p. let all : variableCount b - 0 ≡ variableCount b = omega arith in e ∙ ap touched-below all;
+    before = λ x p. absurd (omega (arith, next-none b i y));
+    inside = λ x p. absurd (omega (arith, next-none b i y));
+    mine = λ x p. absurd (omega (arith, next-none b i y));
+  }
+  reached m₁ (suc n) h e = ⊎-elim here (λ p. there p (reached m₁ n (omega arith))) (decided (ownLinked b i y z))
     where
-      go : k < suc n → (k ≤ n → ownCount b i k ≡ ownCount b i n → touched-below k ≡ touched-below n)
-          → touched-below k ≡ touched-below (suc n)
-      go l ih =
-          ⊎-elim (λ p. absurd (omega (arith, count-here b i n p, count-grows b i k n (omega arith))))
-          (λ p.
-          ih (omega arith) (e ∙ count-past b i n p)
-          ∙ not-owned (systemOf (planOf b)) i y w n (touched-below n) p)
-          (decided (owns b i n))
+      z : ℕ
+      z = variableCount b - suc n
 
-  same-own : (k n : ℕ) → ownCount b i k ≡ ownCount b i n → touched-below k ≡ touched-below n
-  same-own k n e =
-      elim (decLt n k) [
-        | yes l ↦ sym (others-skipped n k (omega arith) (sym e))
-        | no h ↦ others-skipped k n (omega arith) e
-      ]
+      here : ownLinked b i y z ≡ true → Reached b i y w m m₁ (nextOwn b i y (suc n))
+      here p =
+          let same : (x : ℕ) → nextOwn b i y (suc n) ≡ suc x → z ≡ x = λ x q. omega (arith, next-here b i y n p) in
+          record {
+            done = λ q. absurd (omega (arith, next-here b i y n p));
+            before = λ x q. e ∙ ap touched-below (same x q);
+            inside = λ x q. omega (arith, same x q);
+            mine = λ x q. ap (ownLinked b i y) (sym (same x q)) ∙ p;
+          }
 
-  -- before the first own variable
-  pub own-start : (k : ℕ) → ownCount b i k ≡ 0 → m ≡ touched-below k
+      there : ownLinked b i y z ≡ false
+          → (m₁ ≡ touched-below (variableCount b - n) → Reached b i y w m m₁ (nextOwn b i y n))
+          → Reached b i y w m m₁ (nextOwn b i y (suc n))
+      there p ih =
+          let one : suc z ≡ variableCount b - n = omega arith in
+          rw (next-past b i y n p) (ih (e ∙ passed z p ∙ ap touched-below one))
+
+  -- at the chain's start nothing is done
+  pub reached-start : (next : ℕ) → next ≡ nextOwn b i y (variableCount b) → Reached b i y w m m next
   unfolding touchVariablesM
-  own-start k e = same-own 0 k (count-none b i ∙ sym e)
+  reached-start next q =
+      let none-done : 0 ≡ variableCount b - variableCount b = omega arith in
+      rw q (reached m (variableCount b) (omega arith) (ap touched-below none-done))
 
-  -- one own variable more
-  pub own-more : (m₁ m₂ : Mem) (j x : ℕ) → Owned b i j x → ((k : ℕ) → ownCount b i k ≡ j → m₁ ≡ touched-below k)
-      → m₂ ≡ touchVariableM (systemOf (planOf b)) i y w x m₁ → (k : ℕ) → ownCount b i k ≡ j + 1 → m₂ ≡ touched-below k
+  -- one variable of the chain more
+  pub reached-next : (m₁ m₂ : Mem) (x next : ℕ) → x < variableCount b → m₁ ≡ touched-below x
+      → m₂ ≡ touchVariableM (systemOf (planOf b)) i y w x m₁ → next ≡ nextOwn b i y (variableCount b - suc x)
+      → Reached b i y w m m₂ next
   unfolding touchVariablesM
-  own-more m₁ m₂ j x o inv e k q =
-      e ∙ ap (touchVariableM (systemOf (planOf b)) i y w x) (inv x (o .behind))
-      ∙ same-own (suc x) k (omega (arith, count-here b i x (o .mine), o .behind))
+  reached-next m₁ m₂ x next h e p q =
+      let more : suc x ≡ variableCount b - (variableCount b - suc x) = omega arith in
+      rw q
+      (reached m₂ (variableCount b - suc x) (omega arith)
+      (p ∙ ap (touchVariableM (systemOf (planOf b)) i y w x) e ∙ ap touched-below more))
+
+-- how many variables are left from the chain's next one on
+abbrev pub left : ℕ → ℕ → ℕ
+left n zero = 0
+left n (suc x) = n - x
+
+-- they become fewer: the chain goes upwards
+pub left-falls : (b : List ℕ) (i y x next : ℕ) → x < variableCount b → next ≡ nextOwn b i y (variableCount b - suc x)
+    → left (variableCount b) next < variableCount b - x
+left-falls b i y x next h e =
+    ⊎-elim (λ p. end (e ∙ p)) (λ p. on (omega (arith, e))) (next-above b i y (variableCount b - suc x))
+  where
+    end : next ≡ 0 → left (variableCount b) next < variableCount b - x
+    end p = omega (arith, ap (left (variableCount b)) p)
+
+    on : suc x < next → left (variableCount b) next < variableCount b - x
+    on p =
+        let q : next ≡ suc (next - 1) = omega arith in
+        omega (arith, ap (left (variableCount b)) q)
 
 -- ---- the label at the head of the work list
 

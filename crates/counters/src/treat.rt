@@ -10,9 +10,8 @@ ghost use lib.ListN.{length};
 ghost use Rattle.base.specs.Row.{bit};
 ghost use Rattle.disac4.specs.System.{System, systemOf};
 ghost use Rattle.plan.specs.Decode.{planOf};
-ghost use Rattle.format.specs.Format.{variableCount};
 ghost use Rattle.index.specs.Allowed.{Listed};
-ghost use Rattle.index.specs.Index.{owns, Ready};
+ghost use Rattle.index.specs.Index.{ownLinked, Ready};
 ghost use Rattle.cells.specs.Layout.{WORKERS, WORK, HEAD, TAIL};
 ghost use Rattle.cells.specs.Memory.{memOf, Acts};
 ghost use Rattle.counters.specs.Treat.{Supported, loseM, touchM, touchValuesM, touchVariableM, touchVariablesM, treatM};
@@ -56,30 +55,26 @@ fn touch_values(cells: &mut [u16], i: usize, x: usize, n: usize, supported: usiz
     }
 }
 
-// Variable x of row i, if it shares a constraint with y.
+// Variable x of row i, which shares a constraint with y.
 fn touch_variable(b: &[u8], cells: &mut [u16], i: usize, y: usize, w: usize, x: usize)
-    requires { ⌜ Ready (now b) (now cells) × (i < 8) × Listed (now b) y w × (x < variableCount (now b)) × (owns (now b) i x ≡ true) ⌝ }
+    requires { ⌜ Ready (now b) (now cells) × (i < 8) × Listed (now b) y w × (ownLinked (now b) i y x ≡ true) ⌝ }
     ensures { λ _. ⌜ memOf (now (cells .exit)) ≡ touchVariableM (systemOf (planOf (now (b .entry)))) i y w x (memOf (now (cells .entry))) ⌝ }
 {
-    if pairs::linked(cells, y, x) {
-        let n = pairs::size(b, cells, x);
-        let supported = pairs::support_row(b, cells, y, w, x);
-        let row = parts::counter_row(cells, x, y);
-        touch_values(cells, i, x, n, supported, row);
-    }
+    let n = pairs::size(b, cells, x);
+    let supported = pairs::support_row(b, cells, y, w, x);
+    let row = parts::counter_row(cells, x, y);
+    touch_values(cells, i, x, n, supported, row);
 }
 
-// Every variable: those of other rows are not touched, so going through the row's own is enough.
+// Every variable: only those of the row that share a constraint with y are touched, so following their chain is enough.
 fn touch_variables(b: &[u8], cells: &mut [u16], i: usize, y: usize, w: usize)
     requires { ⌜ Ready (now b) (now cells) × (i < 8) × Listed (now b) y w ⌝ }
     ensures { λ _. ⌜ memOf (now (cells .exit)) ≡ touchVariablesM (systemOf (planOf (now (b .entry)))) i y w (systemOf (planOf (now (b .entry))) .net .variables) (memOf (now (cells .entry))) ⌝ }
 {
-    let n = layout::get(cells, layout::OWNED, 0, i);
-    let mut j = 0;
-    while j < n {
-        let x = layout::get(cells, layout::OWN, i, j);
-        touch_variable(b, cells, i, y, w, x);
-        j += 1;
+    let mut next = layout::get(cells, layout::FIRST, i, y);
+    while next != 0 {
+        touch_variable(b, cells, i, y, w, next - 1);
+        next = layout::get(cells, layout::FOLLOW, next - 1, y);
     }
 }
 

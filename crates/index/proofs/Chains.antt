@@ -15,10 +15,10 @@ use Rattle.base.proofs.Bools.{decided, and-left, and-right, and-intro, and-fals
 pub use Rattle.base.proofs.Bools.{and-true}
 use Rattle.base.proofs.Choice.{cond-true, cond-false}
 use Rattle.base.specs.Below.{allBelow, anyBelow}
-use Rattle.index.proofs.Own.{rows-own, rows-count, own-keeps}
-use Rattle.index.specs.Index.{over, chainBelow, ownCount, Indexed, placesM, linkM, constraintStart, chainsM, ownM, indexM}
+use Rattle.index.proofs.Own.{own-first, own-follow, own-keeps}
+use Rattle.index.specs.Index.{over, chainBelow, Indexed, placesM, linkM, constraintStart, chainsM, ownM, indexM}
 use Rattle.cells.proofs.Stores.{store-apart}
-use Rattle.cells.specs.Layout.{HEADS, PLACES, NEXT, OWN, OWNED}
+use Rattle.cells.specs.Layout.{HEADS, PLACES, NEXT, FIRST, FOLLOW}
 use Rattle.cells.specs.Memory.{Mem, store}
 use Rattle.plan.proofs.InOrder.{InOrder}
 use Rattle.plan.proofs.Parts.{variables-read, constraints-read, constraint-read}
@@ -95,6 +95,11 @@ module _ (b : List ℕ) (x y : ℕ) where
       ap (λ (t : Bool). anyBelow k (over b x y) || t) p ∙ or-comm (anyBelow k (over b x y)) false ∙ chain-any k
       ∙ ap (λ (n : ℕ). not (eqb n 0)) (sym (chain-past k p)))
       (decided (over b x y k))
+
+-- a test is the contrary of its contrary
+not-turned : (a b : Bool) → a ≡ not b → b ≡ not a
+not-turned a true e = sym (ap not e)
+not-turned a false e = sym (ap not e)
 
 -- ---- the variables of a constraint
 
@@ -233,27 +238,32 @@ indexed b none-found m empty =
     let c = constraintCount b in
     let l = chainsM b c (placesM b n m) in
     let empty′ : (x y : ℕ) → placesM b n m HEADS x y ≡ 0 = λ x y. places-heads b n m x y ∙ empty x y in
-    let kept : (r i j : ℕ) → r < OWN → ownM b 8 l r i j ≡ l r i j =
-    λ r i j h. own-keeps b l 8 r i j (λ e. omega arith) (λ e. omega arith) in
+    let v = variableCount b in
+    let kept : (r i j : ℕ) → r < FIRST → ownM b v l r i j ≡ l r i j =
+    λ r i j h. own-keeps b l v r i j (λ e. omega arith) (λ e. omega arith) in
+    let linked : (x y : ℕ) → eqb (l HEADS x y) 0 ≡ not (anyBelow c (over b x y)) =
+    λ x y.
+    ap (λ (h : ℕ). eqb h 0) (chains-heads b none-found (placesM b n m) empty′ c (le-refl c) x y)
+    ∙ not-turned (anyBelow c (over b x y)) (eqb (chainBelow b x y c) 0) (chain-any b x y c) in
     record {
       places = λ k h. kept PLACES 0 k (omega arith) ∙ chains-keep b c (placesM b n m) 0 k ∙ places-at b n m k h;
       heads = λ x y. kept HEADS x y (omega arith) ∙ chains-heads b none-found (placesM b n m) empty′ c (le-refl c) x y;
       nexts = λ k h x y o.
           kept NEXT 0 k (omega arith) ∙ chains-nexts b none-found (placesM b n m) empty′ c (le-refl c) k h x y o;
-      counts = rows-count b l 8;
-      own = rows-own b l 8;
+      first = own-first b none-found l linked v (le-refl v);
+      follow = λ i h x y. own-follow b none-found l linked v (le-refl v) i h x y (omega arith);
     }
 
 -- every region but the index's own is as it was
-pub index-keeps : (b : List ℕ) (m : Mem) (r : ℕ) → (r < HEADS) ⊎ (OWNED < r) → (i j : ℕ) → indexM b m r i j ≡ m r i j
+pub index-keeps : (b : List ℕ) (m : Mem) (r : ℕ) → (r < HEADS) ⊎ (FOLLOW < r) → (i j : ℕ) → indexM b m r i j ≡ m r i j
 unfolding indexM placesM linkM chainsM
 index-keeps b m r apart i j =
-    own-keeps b (chainsM b (constraintCount b) (placesM b (sectionCount b) m)) 8 r i j (other OWN (omega arith) (omega arith))
-    (other OWNED (omega arith) (omega arith))
+    own-keeps b (chainsM b (constraintCount b) (placesM b (sectionCount b) m)) (variableCount b) r i j
+    (other FIRST (omega arith) (omega arith)) (other FOLLOW (omega arith) (omega arith))
     ∙ chains (constraintCount b) (placesM b (sectionCount b) m) ∙ places (sectionCount b)
   where
-    other : (s : ℕ) → HEADS ≤ s → s ≤ OWNED → r ≡ s → ⊥
-    other s l h e = ⊎-elim (λ (p : r < HEADS). omega arith) (λ (p : OWNED < r). omega arith) apart
+    other : (s : ℕ) → HEADS ≤ s → s ≤ FOLLOW → r ≡ s → ⊥
+    other s l h e = ⊎-elim (λ (p : r < HEADS). omega arith) (λ (p : FOLLOW < r). omega arith) apart
 
     places : (n : ℕ) → placesM b n m r i j ≡ m r i j
     places zero = refl
@@ -278,8 +288,8 @@ indexed-kept b m n same x = record {
   places = λ k l. same PLACES 0 k (omega arith) ∙ x .places k l;
   heads = λ i j. same HEADS i j (omega arith) ∙ x .heads i j;
   nexts = λ c l i j o. same NEXT 0 c (omega arith) ∙ x .nexts c l i j o;
-  counts = λ i l. same OWNED 0 i (omega arith) ∙ x .counts i l;
-  own = λ i l k h o. same OWN i (ownCount b i k) (omega arith) ∙ x .own i l k h o;
+  first = λ i h y l. same FIRST i y (omega arith) ∙ x .first i h y l;
+  follow = λ i h k y l v o. same FOLLOW k y (omega arith) ∙ x .follow i h k y l v o;
 }
 
 -- ---- the loops that write the index

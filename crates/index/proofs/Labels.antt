@@ -1,6 +1,6 @@
 -- What an accepted plan says of its labels: they fit the regions, each variable has its owner, and linked ones are numbered.
 use Prim.Native.Nat.{ℕ, suc, _+_, _<_, _≤_}
-use mathlib.Core.Bool.{true}
+use mathlib.Core.Bool.{Bool, true, _&&_}
 use mathlib.Core.List.{List}
 use mathlib.Core.Option.{none}
 use mathlib.Core.Path.{_≡_, refl, sym, _∙_, ap}
@@ -11,17 +11,18 @@ use Rattle.base.proofs.Bools.{and-intro}
 use Rattle.disac4.specs.System.{systemOf}
 use Rattle.network.specs.Network.{loaded}
 use Rattle.plan.proofs.Parts.{variables-read, variable-read, size-read}
-use Rattle.plan.proofs.WellFormed.{read-well-formed}
 use Rattle.plan.specs.Decode.{sectionCount, planFault, planOf, variableAt}
-use Rattle.format.specs.Format.{sectionStart, variableCount, ownerAt}
+use Rattle.format.specs.Format.{sectionStart, variableCount, constraintCount, ownerAt}
 use Rattle.plan.specs.Network.{shareConstraint, networkOf}
 use Rattle.plan.specs.Plan.{Variable}
-use Rattle.plan.specs.WellFormed.{WellFormed, sizeOf}
+use Rattle.plan.specs.WellFormed.{sizeOf}
+use Rattle.index.proofs.Chains.{chain-any}
+use Rattle.index.proofs.Own.{owner-range}
 use Rattle.index.proofs.Pairing.{paired}
-use Rattle.index.proofs.Permitted.{Placed, linked-inside}
+use Rattle.index.proofs.Permitted.{Placed, linked-chain, linked-inside}
 use Rattle.index.proofs.Places.{few-sections, few-values, start-inside}
 use Rattle.index.specs.Allowed.{Listed}
-use Rattle.index.specs.Index.{Indexed, Located, Ready}
+use Rattle.index.specs.Index.{owns, ownLinked, Indexed, Located, Ready}
 use Rattle.cells.specs.Layout.{PLACES}
 use Rattle.cells.specs.Memory.{Mem, memOf}
 use Rattle.cells.specs.View.{Numbered}
@@ -34,6 +35,12 @@ variables-are b = variables-read b
 pub size-is : (b : List ℕ) (x : ℕ) → sizeOf (planOf b) x ≡ systemOf (planOf b) .net .size x
 unfolding systemOf networkOf sizeOf
 size-is b x = refl
+
+-- a variable is in a chain of row `i` for `y` where the row owns it and it shares a constraint with `y`
+pub own-linked : (b : List ℕ) (i y x : ℕ) → ownLinked b i y x ≡ owns b i x && shareConstraint (planOf b) x y
+unfolding ownLinked
+own-linked b i y x =
+    ap (λ (t : Bool). owns b i x && t) (chain-any b x y (constraintCount b) ∙ sym (linked-chain b x y))
 
 -- a listed label was loaded
 pub listed-loaded : (b : List ℕ) (x v : ℕ) → Listed b x v → loaded (systemOf (planOf b) .net) x v ≡ true
@@ -60,14 +67,6 @@ module _ (b : List ℕ) (sound : planFault b ≡ none) where
   label-small x v l =
       omega (arith, few-sections b sound, few-values b sound x (l .variable), size-read b x (l .variable))
 
-  owner-range : (x : ℕ) → x < variableCount b
-      → (0 < systemOf (planOf b) .owner x) × (systemOf (planOf b) .owner x ≤ 8)
-  unfolding systemOf
-  owner-range x h =
-      let fits : WellFormed (planOf b) = read-well-formed b sound in
-      let fit = fits .each-variable x (omega (arith, variables-read b)) in
-      omega (arith, fits .workers-high)
-
   -- what is read at a variable's place
   pub owner-there : (x at r : ℕ) → x < variableCount b → at ≡ sectionStart b (suc x) → r ≡ ownerAt b at
       → (r ≡ systemOf (planOf b) .owner x) × (0 < r) × (r ≤ 8)
@@ -75,7 +74,7 @@ module _ (b : List ℕ) (sound : planFault b ≡ none) where
   owner-there x at r h e q =
       let o : r ≡ systemOf (planOf b) .owner x =
       q ∙ ap (ownerAt b) e ∙ sym (ap (λ (a : Variable). a .owner) (variable-read b x h)) in
-      (o, omega (arith, owner-range x h), omega (arith, owner-range x h))
+      (o, omega (arith, owner-range b sound x h), omega (arith, owner-range b sound x h))
 
   -- linked variables are two of the plan's, and have a row of counters
   pub numbered : (m : Mem) → Indexed b m → (x y : ℕ) → shareConstraint (planOf b) x y ≡ true

@@ -1,158 +1,265 @@
--- The variables that a worker owns: how they are counted, and the rows of them that indexing leaves.
-use Prim.Native.Nat.{ℕ, zero, suc, _+_, _<_, _≤_}
-use mathlib.Core.Bool.{true, false}
+-- The chains of the workers' own variables: what they go through, and that indexing leaves them.
+use Prim.Native.Nat.{ℕ, zero, suc, _+_, _-_, _*_, _/_, _%_, _<_, _≤_}
+use mathlib.Core.Bool.{Bool, true, false, cond, _&&_, not}
 use mathlib.Core.List.{List}
-use mathlib.Core.Logic.{⊎-elim}
-use mathlib.Core.Path.{_≡_, refl, sym, _∙_, ap, ap₂, subst}
-use borrow.Author.Tests.{eq-eqb, ne-eqb}
-use native.Mathlib.Decide.{decLt}
-use native.Mathlib.Nat.{le-refl, le-step, eq-or-lt-of-le, not-suc-le-zero}
+use mathlib.Core.Logic.{_⊎_, inl, inr, ⊎-elim}
+use mathlib.Core.Option.{none}
+use mathlib.Core.Path.{_≡_, refl, sym, _∙_, ap, ap₂}
+use borrow.Author.Tests.{eq-eqb, ne-eqb, eqb-true}
+use native.Mathlib.Decide.{ℕ-discrete}
+use native.Mathlib.Nat.{not-suc-le-zero}
 use native.Mathlib.Numerals.{add-one}
 use native.Mathlib.Omega.{arith}
+use lib.Dec.{eqb}
 use lib.ListN.{length}
 use Rattle.base.proofs.Below.{below-cases}
-use Rattle.base.proofs.Bools.{decided}
-use Rattle.base.proofs.Sums.{sum-more, count-le}
-use Rattle.base.specs.Below.{one}
+use Rattle.base.proofs.Bools.{decided, and-left, and-right, and-intro, and-false-left, and-false-right}
+use Rattle.base.proofs.Choice.{cond-true, cond-false, cond-same}
+use Rattle.base.specs.Below.{anyBelow}
 use Rattle.disac4.specs.System.{systemOf}
-use Rattle.format.specs.Format.{variableCount}
-use Rattle.plan.specs.Decode.{planOf}
-use Rattle.index.specs.Index.{owns, ownCount, Indexed, Located, ownRowM, ownListM, ownM}
+use Rattle.format.specs.Format.{variableCount, constraintCount}
+use Rattle.plan.proofs.Parts.{variables-read}
+use Rattle.plan.proofs.WellFormed.{read-well-formed}
+use Rattle.plan.specs.Decode.{planFault, planOf}
+use Rattle.plan.specs.WellFormed.{WellFormed}
+use Rattle.index.proofs.Places.{few-sections}
+use Rattle.index.specs.Index.{over, owns, ownLinked, nextOwn, Located, noneM, leadM, leadsM, ownM}
 use Rattle.cells.proofs.Stores.{store-same, store-other, store-apart}
-use Rattle.cells.specs.Layout.{PLACES, OWN, OWNED}
+use Rattle.cells.specs.Layout.{HEADS, PLACES, FIRST, FOLLOW}
 use Rattle.cells.specs.Memory.{Mem, memOf, store}
 
--- ---- counting
+-- ---- what a chain goes through
 
--- variable `x` is row `i`'s, behind `j` others
-pub record Owned (b : List ℕ) (i j x : ℕ) : Type 0 where
-  pub variable : x < variableCount b
-  pub mine : owns b i x ≡ true
-  pub behind : ownCount b i x ≡ j
+module _ (b : List ℕ) (i y : ℕ) where
+  pub next-here : (n : ℕ) → ownLinked b i y (variableCount b - suc n) ≡ true
+      → nextOwn b i y (suc n) ≡ suc (variableCount b - suc n)
+  unfolding nextOwn
+  next-here n p = cond-true (suc (variableCount b - suc n)) (nextOwn b i y n) p
 
-module _ (b : List ℕ) (i : ℕ) where
-  pub count-here : (x : ℕ) → owns b i x ≡ true → ownCount b i (suc x) ≡ suc (ownCount b i x)
-  unfolding ownCount
-  count-here x e = omega (arith, ap one e)
+  pub next-past : (n : ℕ) → ownLinked b i y (variableCount b - suc n) ≡ false → nextOwn b i y (suc n) ≡ nextOwn b i y n
+  unfolding nextOwn
+  next-past n p = cond-false (suc (variableCount b - suc n)) (nextOwn b i y n) p
 
-  pub count-past : (x : ℕ) → owns b i x ≡ false → ownCount b i (suc x) ≡ ownCount b i x
-  unfolding ownCount
-  count-past x e = omega (arith, ap one e)
+  pub next-none : nextOwn b i y 0 ≡ 0
+  unfolding nextOwn
+  next-none = refl
 
-  pub count-more : (x c r : ℕ) → c ≡ ownCount b i x → r ≡ one (owns b i x) → c + r ≡ ownCount b i (x + 1)
-  unfolding ownCount
-  count-more x c r e p = sum-more c r x (λ x. one (owns b i x)) e p
+  -- it goes upwards
+  pub next-above : (n : ℕ) → (nextOwn b i y n ≡ 0) ⊎ (variableCount b - n < nextOwn b i y n)
+  next-above zero = inl next-none
+  next-above (suc n) =
+      ⊎-elim (λ p. inr (omega (arith, next-here n p)))
+      (λ p.
+      ⊎-elim (λ e. inl (next-past n p ∙ e)) (λ l. inr (omega (arith, next-past n p))) (next-above n))
+      (decided (ownLinked b i y (variableCount b - suc n)))
 
-  pub count-none : ownCount b i 0 ≡ 0
-  unfolding ownCount
-  count-none = refl
+-- ---- owners
 
-  pub count-low : (x : ℕ) → ownCount b i x ≤ x
-  unfolding ownCount
-  count-low x = count-le x (owns b i)
+pub owner-range : (b : List ℕ) → planFault b ≡ none → (x : ℕ) → x < variableCount b
+    → (0 < systemOf (planOf b) .owner x) × (systemOf (planOf b) .owner x ≤ 8)
+unfolding systemOf
+owner-range b sound x h =
+    let fits : WellFormed (planOf b) = read-well-formed b sound in
+    let fit = fits .each-variable x (omega (arith, variables-read b)) in
+    omega (arith, fits .workers-high)
 
-  -- of more variables, no fewer are its own
-  pub count-grows : (x n : ℕ) → x ≤ n → ownCount b i x ≤ ownCount b i n
-  count-grows x zero h = omega (arith, count-low x)
-  count-grows x (suc n) h =
-      ⊎-elim (λ e. omega (arith, ap (ownCount b i) e)) (λ l. omega (arith, count-grows x n (omega arith), more))
-      (eq-or-lt-of-le h)
-    where
-      more : ownCount b i n ≤ ownCount b i (suc n)
-      more = ⊎-elim (λ p. omega (arith, count-here n p)) (λ p. omega (arith, count-past n p)) (decided (owns b i n))
+module _ (b : List ℕ) (x : ℕ) where
+  -- the row of a variable's owner owns it
+  owns-it : 0 < systemOf (planOf b) .owner x → owns b (systemOf (planOf b) .owner x - 1) x ≡ true
+  unfolding owns
+  owns-it h = eq-eqb (systemOf (planOf b) .owner x) (suc (systemOf (planOf b) .owner x - 1)) (omega arith)
 
-  -- those before an own variable are fewer than those before a later one
-  count-above : (x n : ℕ) → x < n → owns b i x ≡ true → ownCount b i x < ownCount b i n
-  count-above x n h p = omega (arith, count-here x p, count-grows (suc x) n h)
-
-  -- each count below that of `n` variables is some own variable's
-  nth : (j n : ℕ) → j < ownCount b i n → (x : ℕ) × (x < n) × (owns b i x ≡ true) × (ownCount b i x ≡ j)
-  nth j zero h = absurd (omega (arith, count-none))
-  nth j (suc n) h = go (nth j n)
-    where
-      go : (j < ownCount b i n → (x : ℕ) × (x < n) × (owns b i x ≡ true) × (ownCount b i x ≡ j))
-          → (x : ℕ) × (x < suc n) × (owns b i x ≡ true) × (ownCount b i x ≡ j)
-      go ih =
-          ⊎-elim
-          (λ p.
-          elim (decLt j (ownCount b i n)) [
-            | yes l ↦ let r = ih l in (r .0, le-step (r .1), r .2, r .3)
-            | no k ↦ (n, le-refl (suc n), p, omega (arith, count-here n p))
-          ])
-          (λ p.
-          let r = ih (omega (arith, count-past n p)) in
-          (r .0, le-step (r .1), r .2, r .3))
-          (decided (owns b i n))
-
-  -- what the index gives is an own variable
-  pub own-at : (m : Mem) → Indexed b m → i < 8 → (j x : ℕ) → j < ownCount b i (variableCount b) → x ≡ m OWN i j → Owned b i j x
-  own-at m index h j x l e =
-      let r = nth j (variableCount b) l in
-      let same : r .0 ≡ x =
-      sym (index .own i h (r .0) (r .1) (r .2)) ∙ ap (m OWN i) (r .3) ∙ sym e in
-      rw (sym same) (record { variable = r .1; mine = r .2; behind = r .3 })
+  -- and no other
+  owns-alone : (i : ℕ) → owns b i x ≡ true → i ≡ systemOf (planOf b) .owner x - 1
+  unfolding owns
+  owns-alone i e = omega (arith, eqb-true (systemOf (planOf b) .owner x) (suc i) e)
 
 -- ---- the memory that indexing leaves
 
-module _ (b : List ℕ) (i : ℕ) (m : Mem) where
-  -- an own variable is not overwritten
-  row-own : (n x : ℕ) → x < n → owns b i x ≡ true → ownRowM b i n m OWN i (ownCount b i x) ≡ x
-  unfolding ownRowM
-  row-own zero x h p = absurd (not-suc-le-zero h)
-  row-own (suc n) x h p =
-      ⊎-elim
-      (λ e.
-      subst (λ (k : ℕ). store (ownRowM b i n m) OWN i (ownCount b i n) n OWN i (ownCount b i k) ≡ k) (sym e)
-      (store-same (ownRowM b i n m) OWN i (ownCount b i n) n))
-      (λ l.
-      store-other (ownRowM b i n m) OWN i (ownCount b i n) n OWN i (ownCount b i x)
-      (λ r k c. omega (arith, count-above b i x n l p))
-      ∙ row-own n x l p)
-      (below-cases h)
+-- the first variables: none
+pub none-at : (m : Mem) (n i y : ℕ) → y < 32 → i * 32 + y < n → noneM n m FIRST i y ≡ 0
+unfolding noneM
+none-at m zero i y h l = absurd (not-suc-le-zero l)
+none-at m (suc n) i y h l =
+    ⊎-elim
+    (λ e.
+    let p : y ≡ n % 32 = omega arith in
+    let q : i ≡ n / 32 = omega arith in
+    cond-true 0 (noneM n m FIRST i y) (and-intro (eq-eqb y (n % 32) p) (eq-eqb i (n / 32) q)))
+    (λ k. cond-same (eqb y (n % 32) && eqb i (n / 32)) 0 (noneM n m FIRST i y) 0 refl (none-at m n i y h k))
+    (below-cases l)
 
-  -- what stands in another row or region stays
-  pub row-other : (n r k j : ℕ) → (r ≡ OWN → k ≡ i → ⊥) → ownRowM b i n m r k j ≡ m r k j
-  unfolding ownRowM
-  row-other zero r k j h = refl
-  row-other (suc n) r k j h =
-      store-other (ownRowM b i n m) OWN i (ownCount b i n) n r k j (λ e f c. h e f) ∙ row-other n r k j h
+pub none-keeps : (m : Mem) (n r k j : ℕ) → (r ≡ FIRST → ⊥) → noneM n m r k j ≡ m r k j
+unfolding noneM
+none-keeps m zero r k j h = refl
+none-keeps m (suc n) r k j h =
+    store-apart (noneM n m) FIRST (n / 32) (n % 32) 0 r k j h ∙ none-keeps m n r k j h
 
-module _ (b : List ℕ) (m : Mem) where
-  pub rows-own : (n i : ℕ) → i < n → (x : ℕ) → x < variableCount b → owns b i x ≡ true → ownM b n m OWN i (ownCount b i x) ≡ x
-  unfolding ownM ownListM
-  rows-own zero i h x l p = absurd (not-suc-le-zero h)
-  rows-own (suc n) i h x l p =
+module _ (i x : ℕ) where
+  -- one variable in front of another's chain: two points change, and none if the two are not linked
+  lead-same : (y : ℕ) (m : Mem) (r k j : ℕ) → (r ≡ FIRST → k ≡ i → j ≡ y → ⊥) → (r ≡ FOLLOW → k ≡ x → j ≡ y → ⊥)
+      → leadM i x y m r k j ≡ m r k j
+  unfolding leadM
+  lead-same y m r k j h l = go (eqb (m HEADS x y) 0)
+    where
+      go : (t : Bool) → cond t m (store (store m FOLLOW x y (m FIRST i y)) FIRST i y (x + 1)) r k j ≡ m r k j
+      go true = refl
+      go false =
+          store-other (store m FOLLOW x y (m FIRST i y)) FIRST i y (x + 1) r k j h
+          ∙ store-other m FOLLOW x y (m FIRST i y) r k j l
+
+  lead-none : (y : ℕ) (m : Mem) → eqb (m HEADS x y) 0 ≡ true → leadM i x y m ≡ m
+  unfolding leadM
+  lead-none y m e = cond-true m (store (store m FOLLOW x y (m FIRST i y)) FIRST i y (x + 1)) e
+
+  lead-made : (y : ℕ) (m : Mem) → eqb (m HEADS x y) 0 ≡ false
+      → leadM i x y m ≡ store (store m FOLLOW x y (m FIRST i y)) FIRST i y (x + 1)
+  unfolding leadM
+  lead-made y m e = cond-false m (store (store m FOLLOW x y (m FIRST i y)) FIRST i y (x + 1)) e
+
+  -- all of them: the columns behind, the other rows and the other regions are as they were
+  pub leads-same : (n : ℕ) (m : Mem) (r k j : ℕ) → (r ≡ FIRST → k ≡ i → j < n → ⊥) → (r ≡ FOLLOW → k ≡ x → j < n → ⊥)
+      → leadsM i x n m r k j ≡ m r k j
+  unfolding leadsM
+  leads-same zero m r k j h l = refl
+  leads-same (suc n) m r k j h l =
+      lead-same n (leadsM i x n m) r k j (λ p q e. h p q (omega arith)) (λ p q e. l p q (omega arith))
+      ∙ leads-same n m r k j (λ p q e. h p q (omega arith)) (λ p q e. l p q (omega arith))
+
+  leads-heads : (n : ℕ) (m : Mem) (k j : ℕ) → leadsM i x n m HEADS k j ≡ m HEADS k j
+  leads-heads n m k j = leads-same n m HEADS k j (λ p q e. omega arith) (λ p q e. omega arith)
+
+  -- the column of a variable that is not linked is as it was
+  leads-none : (n : ℕ) (m : Mem) (r k y : ℕ) → eqb (m HEADS x y) 0 ≡ true → leadsM i x n m r k y ≡ m r k y
+  unfolding leadsM
+  leads-none zero m r k y e = refl
+  leads-none (suc n) m r k y e = go (leads-none n m r k y e)
+    where
+      go : leadsM i x n m r k y ≡ m r k y → leadM i x n (leadsM i x n m) r k y ≡ m r k y
+      go ih =
+          elim (ℕ-discrete y n) [
+            | yes p ↦ ap (λ (o : Mem). o r k y)
+                (lead-none n (leadsM i x n m)
+                (ap (λ (h : ℕ). eqb h 0) (leads-heads n m x n ∙ ap (m HEADS x) (sym p)) ∙ e))
+                ∙ ih
+            | no q ↦ lead-same n (leadsM i x n m) r k y (λ a c p. q p) (λ a c p. q p) ∙ ih
+          ]
+
+  -- that of a linked one: the variable comes first, and what came first follows it
+  leads-first : (n : ℕ) (m : Mem) (y : ℕ) → y < n → eqb (m HEADS x y) 0 ≡ false → leadsM i x n m FIRST i y ≡ suc x
+  unfolding leadsM
+  leads-first zero m y l e = absurd (not-suc-le-zero l)
+  leads-first (suc n) m y l e =
       ⊎-elim
-      (λ e.
-      subst (λ (k : ℕ). ownRowM b k (variableCount b) (ownM b k m) OWN i (ownCount b i x) ≡ x) e
-      (row-own b i (ownM b i m) (variableCount b) x l p))
+      (λ p.
+      ap (λ (o : Mem). o FIRST i y)
+      (lead-made n (leadsM i x n m)
+      (ap (λ (h : ℕ). eqb h 0) (leads-heads n m x n ∙ ap (m HEADS x) (sym p)) ∙ e))
+      ∙ ap (λ (j : ℕ). store (store (leadsM i x n m) FOLLOW x n (leadsM i x n m FIRST i n)) FIRST i n (x + 1) FIRST i j) p
+      ∙ store-same (store (leadsM i x n m) FOLLOW x n (leadsM i x n m FIRST i n)) FIRST i n (x + 1) ∙ add-one x)
       (λ k.
-      row-other b n (ownM b n m) (variableCount b) OWN i (ownCount b i x) (λ r e. omega arith) ∙ rows-own n i k x l p)
-      (below-cases h)
+      lead-same n (leadsM i x n m) FIRST i y (λ a c p. omega arith) (λ a c p. omega arith) ∙ leads-first n m y k e)
+      (below-cases l)
 
-  pub rows-count : (n i : ℕ) → i < n → ownM b n m OWNED 0 i ≡ ownCount b i (variableCount b)
-  unfolding ownM ownListM
-  rows-count zero i h = absurd (not-suc-le-zero h)
-  rows-count (suc n) i h =
-      let row = ownRowM b n (variableCount b) (ownM b n m) in
+  leads-follow : (n : ℕ) (m : Mem) (y : ℕ) → y < n → eqb (m HEADS x y) 0 ≡ false → leadsM i x n m FOLLOW x y ≡ m FIRST i y
+  unfolding leadsM
+  leads-follow zero m y l e = absurd (not-suc-le-zero l)
+  leads-follow (suc n) m y l e =
       ⊎-elim
-      (λ e.
-      subst (λ (k : ℕ). store row OWNED 0 n (ownCount b n (variableCount b)) OWNED 0 k ≡ ownCount b k (variableCount b)) (sym e)
-      (store-same row OWNED 0 n (ownCount b n (variableCount b))))
-      (λ l.
-      store-other row OWNED 0 n (ownCount b n (variableCount b)) OWNED 0 i (λ r k c. omega arith)
-      ∙ row-other b n (ownM b n m) (variableCount b) OWNED 0 i (λ e k. omega arith) ∙ rows-count n i l)
-      (below-cases h)
+      (λ p.
+      ap (λ (o : Mem). o FOLLOW x y)
+      (lead-made n (leadsM i x n m)
+      (ap (λ (h : ℕ). eqb h 0) (leads-heads n m x n ∙ ap (m HEADS x) (sym p)) ∙ e))
+      ∙ ap (λ (j : ℕ). store (leadsM i x n m) FOLLOW x n (leadsM i x n m FIRST i n) FOLLOW x j) p
+      ∙ store-same (leadsM i x n m) FOLLOW x n (leadsM i x n m FIRST i n)
+      ∙ leads-same n m FIRST i n (λ a c p. omega arith) (λ a c p. omega arith) ∙ ap (m FIRST i) (sym p))
+      (λ k.
+      lead-same n (leadsM i x n m) FOLLOW x y (λ a c p. omega arith) (λ a c p. omega arith) ∙ leads-follow n m y k e)
+      (below-cases l)
 
-  -- the other regions are as they were
-  pub own-keeps : (n r k j : ℕ) → (r ≡ OWN → ⊥) → (r ≡ OWNED → ⊥) → ownM b n m r k j ≡ m r k j
-  unfolding ownM ownListM
-  own-keeps zero r k j h l = refl
-  own-keeps (suc n) r k j h l =
-      store-apart (ownRowM b n (variableCount b) (ownM b n m)) OWNED 0 n (ownCount b n (variableCount b)) r k j l
-      ∙ row-other b n (ownM b n m) (variableCount b) r k j (λ e f. h e) ∙ own-keeps n r k j h l
+-- the other regions are as they were
+pub own-keeps : (b : List ℕ) (m : Mem) (n r k j : ℕ) → (r ≡ FIRST → ⊥) → (r ≡ FOLLOW → ⊥) → ownM b n m r k j ≡ m r k j
+unfolding ownM
+own-keeps b m zero r k j h l = none-keeps m 256 r k j h
+own-keeps b m (suc n) r k j h l =
+    leads-same (systemOf (planOf b) .owner (variableCount b - suc n) - 1) (variableCount b - suc n) (variableCount b)
+    (ownM b n m) r k j (λ p q e. h p) (λ p q e. l p)
+    ∙ own-keeps b m n r k j h l
 
--- ---- the loops that write the rows
+-- from a memory that holds the chains of constraints
+module _ (b : List ℕ) (sound : planFault b ≡ none) (m : Mem)
+    (heads : (x y : ℕ) → eqb (m HEADS x y) 0 ≡ not (anyBelow (constraintCount b) (over b x y))) where
+  abbrev row : ℕ → ℕ
+  row x = systemOf (planOf b) .owner x - 1
+
+  row-low : (x : ℕ) → x < variableCount b → row x < 8
+  row-low x h = omega (arith, owner-range b sound x h)
+
+  own-heads : (n x y : ℕ) → eqb (ownM b n m HEADS x y) 0 ≡ not (anyBelow (constraintCount b) (over b x y))
+  own-heads n x y =
+      ap (λ (h : ℕ). eqb h 0) (own-keeps b m n HEADS x y (λ e. omega arith) (λ e. omega arith)) ∙ heads x y
+
+  pub own-first : (n : ℕ) → n ≤ variableCount b → (i : ℕ) → i < 8 → (y : ℕ) → y < variableCount b
+      → ownM b n m FIRST i y ≡ nextOwn b i y n
+  unfolding ownM ownLinked
+  own-first zero h i l y k = none-at m 256 i y (omega (arith, few-sections b sound)) (omega (arith, few-sections b sound)) ∙ sym (next-none b i y)
+  own-first (suc n) h i l y k = go (own-first n (omega arith) i l y k)
+    where
+      x : ℕ
+      x = variableCount b - suc n
+
+      mine : owns b (row x) x ≡ true
+      mine = owns-it b x (omega (arith, owner-range b sound x (omega arith)))
+
+      go : ownM b n m FIRST i y ≡ nextOwn b i y n
+          → leadsM (row x) x (variableCount b) (ownM b n m) FIRST i y ≡ nextOwn b i y (suc n)
+      go ih =
+          elim (ℕ-discrete i (row x)) [
+            | yes e ↦ ⊎-elim
+                (λ p.
+                ap (λ (j : ℕ). leadsM (row x) x (variableCount b) (ownM b n m) FIRST j y) e
+                ∙ leads-first (row x) x (variableCount b) (ownM b n m) y k (own-heads n x y ∙ ap not p)
+                ∙ sym (next-here b i y n (and-intro (ap (λ (j : ℕ). owns b j x) e ∙ mine) p)))
+                (λ p.
+                leads-none (row x) x (variableCount b) (ownM b n m) FIRST i y (own-heads n x y ∙ ap not p) ∙ ih
+                ∙ sym (next-past b i y n (and-false-right (owns b i x) p)))
+                (decided (anyBelow (constraintCount b) (over b x y)))
+            | no q ↦ leads-same (row x) x (variableCount b) (ownM b n m) FIRST i y (λ a e c. q e) (λ a e c. omega arith)
+                ∙ ih
+                ∙ sym
+                (next-past b i y n
+                (and-false-left (anyBelow (constraintCount b) (over b x y))
+                (⊎-elim (λ p. absurd (q (owns-alone b x i p))) (λ p. p) (decided (owns b i x)))))
+          ]
+
+  pub own-follow : (n : ℕ) → n ≤ variableCount b → (i : ℕ) → i < 8 → (x y : ℕ) → variableCount b - n ≤ x
+      → x < variableCount b → y < variableCount b → ownLinked b i y x ≡ true
+      → ownM b n m FOLLOW x y ≡ nextOwn b i y (variableCount b - suc x)
+  unfolding ownM ownLinked
+  own-follow zero h i l x y low high k p = absurd (omega arith)
+  own-follow (suc n) h i l x y low high k p = go (own-follow n (omega arith) i l x y)
+    where
+      z : ℕ
+      z = variableCount b - suc n
+
+      go : (variableCount b - n ≤ x → x < variableCount b → y < variableCount b → ownLinked b i y x ≡ true
+          → ownM b n m FOLLOW x y ≡ nextOwn b i y (variableCount b - suc x))
+          → leadsM (row z) z (variableCount b) (ownM b n m) FOLLOW x y ≡ nextOwn b i y (variableCount b - suc x)
+      go ih =
+          elim (ℕ-discrete x z) [
+            | yes e ↦ ap (λ (j : ℕ). leadsM (row z) z (variableCount b) (ownM b n m) FOLLOW j y) e
+                ∙ leads-follow (row z) z (variableCount b) (ownM b n m) y k
+                (ap (λ (j : ℕ). eqb (ownM b n m HEADS j y) 0) (sym e) ∙ own-heads n x y
+                ∙ ap not (and-right (owns b i x) (anyBelow (constraintCount b) (over b x y)) p))
+                ∙ own-first n (omega arith) (row z) (row-low z (omega arith)) y k
+                ∙ ap₂ (λ (j o : ℕ). nextOwn b j y o)
+                (ap row (sym e) ∙ sym (owns-alone b x i (and-left (owns b i x) (anyBelow (constraintCount b) (over b x y)) p)))
+                (omega arith)
+            | no q ↦ leads-same (row z) z (variableCount b) (ownM b n m) FOLLOW x y (λ a e c. omega arith) (λ a e c. q e)
+                ∙ ih (omega arith) high k p
+          ]
+
+-- ---- the loops that write the chains
 
 -- the sections' places are still known where their cells are as they were
 pub located-kept : (b old new : List ℕ) (n : Mem) → Located b old → length new ≡ length old → memOf new ≡ n
@@ -163,28 +270,38 @@ located-kept b old new n l e p same = record {
   long = omega (arith, l .long);
 }
 
--- whether a row owns a variable, as a number
-module _ (b : List ℕ) (i x o : ℕ) (e : o ≡ systemOf (planOf b) .owner x) where
-  pub owned-one : o ≡ i + 1 → 1 ≡ one (owns b i x)
-  unfolding owns
-  owned-one p = sym (ap one (eq-eqb (systemOf (planOf b) .owner x) (suc i) (omega arith)))
+pub none-more : (k : ℕ) (m n p : Mem) → n ≡ noneM k m → p ≡ store n FIRST (k / 32) (k % 32) 0 → p ≡ noneM (k + 1) m
+unfolding noneM
+none-more k m n p e r = rw add-one (r ∙ ap (λ (n : Mem). store n FIRST (k / 32) (k % 32) 0) e)
 
-  pub owned-none : (o ≡ i + 1 → ⊥) → 0 ≡ one (owns b i x)
-  unfolding owns
-  owned-none p = sym (ap one (ne-eqb (systemOf (planOf b) .owner x) (suc i) (λ q. p (omega arith))))
+module _ (i x y : ℕ) (m : Mem) where
+  pub lead-passed : (h : ℕ) → h ≡ m HEADS x y → h ≡ 0 → m ≡ leadM i x y m
+  lead-passed h e z = sym (lead-none i x y m (eq-eqb (m HEADS x y) 0 (sym e ∙ z)))
 
-pub own-more : (b : List ℕ) (i x c : ℕ) (m n p : Mem) → n ≡ ownRowM b i x m → c ≡ ownCount b i x → p ≡ store n OWN i c x
-    → p ≡ ownRowM b i (x + 1) m
-unfolding ownRowM
-own-more b i x c m n p e q r = rw add-one (r ∙ ap₂ (λ (n : Mem) (c : ℕ). store n OWN i c x) e q)
+  pub lead-put : (h f : ℕ) (n p : Mem) → h ≡ m HEADS x y → (h ≡ 0 → ⊥) → f ≡ m FIRST i y → n ≡ store m FOLLOW x y f
+      → p ≡ store n FIRST i y (x + 1) → p ≡ leadM i x y m
+  lead-put h f n p e z q r s =
+      s ∙ ap (λ (n : Mem). store n FIRST i y (x + 1)) (r ∙ ap (store m FOLLOW x y) q)
+      ∙ sym (lead-made i x y m (ne-eqb (m HEADS x y) 0 (λ d. z (e ∙ d))))
 
-pub own-listed : (b : List ℕ) (i x c : ℕ) (m n p : Mem) → x ≡ variableCount b → n ≡ ownRowM b i x m → c ≡ ownCount b i x
-    → p ≡ store n OWNED 0 i c → p ≡ ownListM b i m
-unfolding ownListM
-own-listed b i x c m n p h e q r =
-    r ∙ ap₂ (λ (n : Mem) (c : ℕ). store n OWNED 0 i c) e q
-    ∙ ap (λ (x : ℕ). store (ownRowM b i x m) OWNED 0 i (ownCount b i x)) h
+pub leads-more : (i x y : ℕ) (m n p : Mem) → n ≡ leadsM i x y m → p ≡ leadM i x y n → p ≡ leadsM i x (y + 1) m
+unfolding leadsM
+leads-more i x y m n p e r = rw add-one (r ∙ ap (leadM i x y) e)
 
-pub rows-more : (b : List ℕ) (i : ℕ) (m n p : Mem) → n ≡ ownM b i m → p ≡ ownListM b i n → p ≡ ownM b (i + 1) m
+pub own-start : (b : List ℕ) (x : ℕ) (m p : Mem) → x ≡ variableCount b → p ≡ noneM 256 m → p ≡ ownM b (variableCount b - x) m
 unfolding ownM
-rows-more b i m n p e r = rw add-one (r ∙ ap (ownListM b i) e)
+own-start b x m p h e =
+    let z : 0 ≡ variableCount b - x = omega arith in
+    e ∙ ap (λ (k : ℕ). ownM b k m) z
+
+pub own-more : (b : List ℕ) (x o n : ℕ) (m p q : Mem) → x < variableCount b → n ≡ variableCount b
+    → o ≡ systemOf (planOf b) .owner x → p ≡ ownM b (variableCount b - suc x) m → q ≡ leadsM (o - 1) x n p
+    → q ≡ ownM b (variableCount b - x) m
+unfolding ownM
+own-more b x o n m p q h c e r s =
+    let here : x ≡ variableCount b - suc (variableCount b - suc x) = omega arith in
+    let more : suc (variableCount b - suc x) ≡ variableCount b - x = omega arith in
+    s ∙ ap₂ (λ (o n : ℕ). leadsM (o - 1) x n p) e c
+    ∙ ap (leadsM (systemOf (planOf b) .owner x - 1) x (variableCount b)) r
+    ∙ ap (λ (k : ℕ). leadsM (systemOf (planOf b) .owner k - 1) k (variableCount b) (ownM b (variableCount b - suc x) m)) here
+    ∙ ap (λ (k : ℕ). ownM b k m) more

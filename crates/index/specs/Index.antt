@@ -1,16 +1,16 @@
 -- The index of a plan in memory: where its sections start, the constraints over each two variables as chains, and each
--- worker's own variables.
-use Prim.Native.Nat.{ℕ, zero, suc, _+_, _-_, _<_, _≤_}
-use mathlib.Core.Bool.{Bool, true, cond, _||_}
+-- worker's own variables that are linked with another one as chains too.
+use Prim.Native.Nat.{ℕ, zero, suc, _+_, _-_, _/_, _%_, _<_, _≤_}
+use mathlib.Core.Bool.{Bool, true, cond, _&&_, _||_}
 use mathlib.Core.List.{List}
 use mathlib.Core.Logic.{_⊎_}
 use mathlib.Core.Option.{none}
 use mathlib.Core.Path.{_≡_}
 use lib.Dec.{eqb}
 use lib.ListN.{length}
-use Rattle.base.specs.Below.{countBelow}
+use Rattle.base.specs.Below.{anyBelow}
 use Rattle.disac4.specs.System.{System, systemOf}
-use Rattle.cells.specs.Layout.{HEADS, PLACES, NEXT, OWN, OWNED}
+use Rattle.cells.specs.Layout.{HEADS, PLACES, NEXT, FIRST, FOLLOW}
 use Rattle.cells.specs.Memory.{Mem, memOf, store}
 use Rattle.plan.specs.Decode.{sectionCount, planFault, planOf}
 use Rattle.format.specs.Format.{sectionStart, variableCount, constraintCount, firstAt, secondAt}
@@ -30,9 +30,15 @@ chainBelow b x y (suc c) = cond (over b x y c) (suc c) (chainBelow b x y c)
 unfoldable pub owns : List ℕ → ℕ → ℕ → Bool
 owns b i x = eqb (systemOf (planOf b) .owner x) (suc i)
 
--- how many of the first `n` variables row `i` owns
-unfoldable pub ownCount : List ℕ → ℕ → ℕ → ℕ
-ownCount b i n = countBelow n (owns b i)
+-- it does, and some constraint is over `x` and `y`
+unfoldable pub ownLinked : List ℕ → ℕ → ℕ → ℕ → Bool
+ownLinked b i y x = owns b i x && anyBelow (constraintCount b) (over b x y)
+
+-- one more than the first of the last `n` variables that row `i` owns and that is linked with `y`, 0 for none
+unfoldable pub nextOwn : List ℕ → ℕ → ℕ → ℕ → ℕ
+nextOwn b i y zero = 0
+nextOwn b i y (suc n) =
+    cond (ownLinked b i y (variableCount b - suc n)) (suc (variableCount b - suc n)) (nextOwn b i y n)
 
 -- the memory holds the plan's index
 pub record Indexed (b : List ℕ) (m : Mem) : Type 0 where
@@ -42,10 +48,11 @@ pub record Indexed (b : List ℕ) (m : Mem) : Type 0 where
   pub heads : (x y : ℕ) → m HEADS x y ≡ chainBelow b x y (constraintCount b)
   -- the one before it over the same two variables
   pub nexts : (c : ℕ) → c < constraintCount b → (x y : ℕ) → over b x y c ≡ true → m NEXT 0 c ≡ chainBelow b x y c
-  -- how many variables each row owns
-  pub counts : (i : ℕ) → i < 8 → m OWNED 0 i ≡ ownCount b i (variableCount b)
-  -- and each of them behind those that come before it
-  pub own : (i : ℕ) → i < 8 → (x : ℕ) → x < variableCount b → owns b i x ≡ true → m OWN i (ownCount b i x) ≡ x
+  -- the first variable of each row that is linked with another one
+  pub first : (i : ℕ) → i < 8 → (y : ℕ) → y < variableCount b → m FIRST i y ≡ nextOwn b i y (variableCount b)
+  -- the next one behind it
+  pub follow : (i : ℕ) → i < 8 → (x y : ℕ) → x < variableCount b → y < variableCount b → ownLinked b i y x ≡ true
+      → m FOLLOW x y ≡ nextOwn b i y (variableCount b - suc x)
 
 -- an accepted plan, with the places of its sections in the work cells
 pub record Located (b cells : List ℕ) : Type 0 where
@@ -87,19 +94,25 @@ chainsM b zero m = m
 chainsM b (suc c) m =
     linkM (firstAt b (constraintStart b c) - 1) (secondAt b (constraintStart b c) - 1) c (chainsM b c m)
 
--- the first `n` variables, each at the end of those of row `i` before it: one that the row does not own is overwritten
-unfoldable pub ownRowM : List ℕ → ℕ → ℕ → Mem → Mem
-ownRowM b i zero m = m
-ownRowM b i (suc x) m = store (ownRowM b i x m) OWN i (ownCount b i x) x
+-- the first `n` cells of the rows' first variables hold none
+unfoldable pub noneM : ℕ → Mem → Mem
+noneM zero m = m
+noneM (suc k) m = store (noneM k m) FIRST (k / 32) (k % 32) 0
 
--- the variables of row `i`, and how many they are
-unfoldable pub ownListM : List ℕ → ℕ → Mem → Mem
-ownListM b i m = store (ownRowM b i (variableCount b) m) OWNED 0 i (ownCount b i (variableCount b))
+-- variable `x` in front of the chain of row `i` for `y`, if there is a chain of constraints over the two
+unfoldable pub leadM : ℕ → ℕ → ℕ → Mem → Mem
+leadM i x y m = cond (eqb (m HEADS x y) 0) m (store (store m FOLLOW x y (m FIRST i y)) FIRST i y (x + 1))
 
--- those of the first `n` rows
+-- the same for each of the first `n` variables
+unfoldable pub leadsM : ℕ → ℕ → ℕ → Mem → Mem
+leadsM i x zero m = m
+leadsM i x (suc y) m = leadM i x y (leadsM i x y m)
+
+-- the last `n` variables, from the last one on, each in front of its owner's chains
 unfoldable pub ownM : List ℕ → ℕ → Mem → Mem
-ownM b zero m = m
-ownM b (suc i) m = ownListM b i (ownM b i m)
+ownM b zero m = noneM 256 m
+ownM b (suc n) m =
+    leadsM (systemOf (planOf b) .owner (variableCount b - suc n) - 1) (variableCount b - suc n) (variableCount b) (ownM b n m)
 
 unfoldable pub indexM : List ℕ → Mem → Mem
-indexM b m = ownM b 8 (chainsM b (constraintCount b) (placesM b (sectionCount b) m))
+indexM b m = ownM b (variableCount b) (chainsM b (constraintCount b) (placesM b (sectionCount b) m))

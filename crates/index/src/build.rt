@@ -1,5 +1,5 @@
 // The index of an accepted plan in the work cells: where its sections start, the constraints over each two variables as
-// a chain, and the variables of each worker.
+// a chain, and the variables of each worker that are linked with another one as a chain too.
 use crate::parts;
 use cells::layout;
 use format::read;
@@ -7,8 +7,7 @@ ghost use mathlib.Core.Option.{none};
 ghost use mathlib.Core.Path.{_≡_};
 ghost use Prim.Native.Nat.{_<_, _≤_};
 ghost use lib.ListN.{length};
-ghost use Rattle.base.specs.Below.{one};
-ghost use Rattle.index.specs.Index.{owns, Located, placesM, linkM, chainsM, ownListM, ownM, indexM};
+ghost use Rattle.index.specs.Index.{Located, placesM, linkM, chainsM, noneM, leadM, leadsM, ownM, indexM};
 ghost use Rattle.cells.specs.Memory.{memOf};
 ghost use Rattle.plan.specs.Decode.{planFault, sectionCount};
 ghost use Rattle.format.specs.Format.{variableCount, constraintCount};
@@ -54,43 +53,53 @@ fn index_chains(b: &[u8], cells: &mut [u16])
     }
 }
 
-// 1 if row i owns variable x, and 0 if not.
-fn owned(b: &[u8], cells: &[u16], i: usize, x: usize) -> usize
-    requires { ⌜ Located (now b) (now cells) × (i < 8) × (x < variableCount (now b)) ⌝ }
-    ensures { λ r. ⌜ r ≡ one (owns (now (b .entry)) i x) ⌝ }
+// No row has a first variable yet.
+fn index_none(cells: &mut [u16])
+    requires { ⌜ 24576 ≤ length (now cells) ⌝ }
+    ensures { λ _. ⌜ memOf (now (cells .exit)) ≡ noneM 256 (memOf (now (cells .entry))) ⌝ }
 {
-    if parts::owner(b, cells, x) == i + 1 {
-        1
-    } else {
-        0
+    let mut k = 0;
+    while k < 256 {
+        layout::put(cells, layout::FIRST, k / 32, k % 32, 0);
+        k += 1;
     }
 }
 
-// The variables of row i, and how many they are. Each variable is put down, and kept if the row owns it.
-fn index_row(b: &[u8], cells: &mut [u16], i: usize)
-    requires { ⌜ Located (now b) (now cells) × (i < 8) ⌝ }
-    ensures { λ _. ⌜ memOf (now (cells .exit)) ≡ ownListM (now (b .entry)) i (memOf (now (cells .entry))) ⌝ }
+// Puts variable x in front of the chain of row i for y, if it is linked with y.
+fn lead(cells: &mut [u16], i: usize, x: usize, y: usize)
+    requires { ⌜ (i < 8) × (x < 32) × (y < 32) × (24576 ≤ length (now cells)) ⌝ }
+    ensures { λ _. ⌜ memOf (now (cells .exit)) ≡ leadM i x y (memOf (now (cells .entry))) ⌝ }
 {
-    let n = read::variable_count(b);
-    let mut count = 0;
-    let mut x = 0;
-    while x < n {
-        layout::put(cells, layout::OWN, i, count, x);
-        count += owned(b, cells, i, x);
-        x += 1;
+    if layout::get(cells, layout::HEADS, x, y) != 0 {
+        let first = layout::get(cells, layout::FIRST, i, y);
+        layout::put(cells, layout::FOLLOW, x, y, first);
+        layout::put(cells, layout::FIRST, i, y, x + 1);
     }
-    layout::put(cells, layout::OWNED, 0, i, count);
 }
 
-// Every worker's row.
-fn index_rows(b: &[u8], cells: &mut [u16])
+// The same for each of the first n variables.
+fn leads(cells: &mut [u16], i: usize, x: usize, n: usize)
+    requires { ⌜ (i < 8) × (x < 32) × (n ≤ 32) × (24576 ≤ length (now cells)) ⌝ }
+    ensures { λ _. ⌜ memOf (now (cells .exit)) ≡ leadsM i x n (memOf (now (cells .entry))) ⌝ }
+{
+    let mut y = 0;
+    while y < n {
+        lead(cells, i, x, y);
+        y += 1;
+    }
+}
+
+// The chains of the workers' own variables, from the last variable to the first, so that they ascend.
+fn index_own(b: &[u8], cells: &mut [u16])
     requires { ⌜ Located (now b) (now cells) ⌝ }
-    ensures { λ _. ⌜ memOf (now (cells .exit)) ≡ ownM (now (b .entry)) 8 (memOf (now (cells .entry))) ⌝ }
+    ensures { λ _. ⌜ memOf (now (cells .exit)) ≡ ownM (now (b .entry)) (variableCount (now (b .entry))) (memOf (now (cells .entry))) ⌝ }
 {
-    let mut i = 0;
-    while i < 8 {
-        index_row(b, cells, i);
-        i += 1;
+    index_none(cells);
+    let n = read::variable_count(b);
+    let mut x = n;
+    while x != 0 {
+        x -= 1;
+        leads(cells, parts::owner(b, cells, x) - 1, x, n);
     }
 }
 
@@ -101,5 +110,5 @@ pub fn index_plan(b: &[u8], cells: &mut [u16])
 {
     index_places(b, cells);
     index_chains(b, cells);
-    index_rows(b, cells);
+    index_own(b, cells);
 }

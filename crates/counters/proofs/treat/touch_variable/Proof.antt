@@ -1,69 +1,69 @@
 -- `counters::treat::touch_variable` goes through a variable of the owner that is linked with the treated one. Assumes nothing.
-use Prim.Native.Nat.{ℕ}
+use Prim.Native.Nat.{ℕ, _<_}
 use borrow.Author.Needs.{needs}
-use mathlib.Core.Bool.{Bool, true}
+use mathlib.Core.Bool.{true, _&&_}
 use mathlib.Core.List.{List}
 use mathlib.Core.Path.{_≡_, sym, _∙_}
 use native.Mathlib.Omega.{arith}
 use denote.Ref.{now}
+use Rattle.base.proofs.Bools.{and-left, and-right}
 use Rattle.disac4.specs.System.{systemOf}
+use Rattle.format.specs.Format.{variableCount}
 use Rattle.plan.proofs.Links.{linked-symmetric}
 use Rattle.plan.specs.Decode.{planOf}
 use Rattle.plan.specs.Network.{shareConstraint, networkOf}
-use Rattle.index.proofs.Labels.{size-is, numbered}
+use Rattle.index.proofs.Labels.{size-is, own-linked, numbered}
 use Rattle.index.proofs.Places.{few-sections}
 use Rattle.index.specs.Index.{owns}
 use Rattle.cells.specs.Memory.{memOf}
 use Rattle.cells.specs.View.{Numbered}
-use Rattle.counters.proofs.TreatLaws.{supported, variable-touched, not-linked}
+use Rattle.counters.proofs.TreatLaws.{supported, variable-touched}
 use Rattle.counters.proofs.treat.touch_variable.Statement.{statement}
 use Rattle.counters.proofs.treat.touch_variable.Tie as tie
 
-linked-requires : tie.Need-linked-requires
-linked-requires c κs =
-    let s = c .before .before .before in
-    omega (arith, s .pre .2 .variable, few-sections (now (s .args .b)) (s .pre .0 .sound))
-
--- what the test says of the two variables
-module _ (l : tie.After-linked) where
-  abbrev s : tie.Start
-  s = l .before .before .before .before
-
+-- what is known of the two variables
+module _ (s : tie.Start) where
   abbrev b : List ℕ
   b = now (s .args .b)
 
-  asked : l .linked .result ≡ shareConstraint (planOf b) (s .args .y) (s .args .x)
-  asked = l .linked .ensures b (s .pre .0 .index)
+  both : owns b (s .args .i) (s .args .x) && shareConstraint (planOf b) (s .args .x) (s .args .y) ≡ true
+  both = sym (own-linked b (s .args .i) (s .args .y) (s .args .x)) ∙ s .pre .3
 
-  linked-too : (t : Bool) → l .linked .result ≡ t → shareConstraint (planOf b) (s .args .x) (s .args .y) ≡ t
-  linked-too t e = linked-symmetric (planOf b) (s .args .x) (s .args .y) ∙ sym asked ∙ e
+  owned : owns b (s .args .i) (s .args .x) ≡ true
+  owned = and-left (owns b (s .args .i) (s .args .x)) (shareConstraint (planOf b) (s .args .x) (s .args .y)) both
 
-  counters : l .linked .result ≡ true → Numbered (memOf (now (s .args .cells))) (s .args .x) (s .args .y)
-  counters e = numbered b (s .pre .0 .sound) _ (s .pre .0 .index) (s .args .x) (s .args .y) (linked-too true e) .2
+  linked : shareConstraint (planOf b) (s .args .x) (s .args .y) ≡ true
+  linked = and-right (owns b (s .args .i) (s .args .x)) (shareConstraint (planOf b) (s .args .x) (s .args .y)) both
+
+  linked-too : shareConstraint (planOf b) (s .args .y) (s .args .x) ≡ true
+  linked-too = linked-symmetric (planOf b) (s .args .y) (s .args .x) ∙ linked
+
+  known : (s .args .x < variableCount b) × (s .args .y < variableCount b) × Numbered (memOf (now (s .args .cells))) (s .args .x) (s .args .y)
+  known = numbered b (s .pre .0 .sound) _ (s .pre .0 .index) (s .args .x) (s .args .y) linked
 
 size-requires : tie.Need-size-requires
-size-requires c κs = search needs
+size-requires c κs =
+    let s = c .before .before .before in
+    (s .pre .0, known s .0)
 
 support-row-requires : tie.Need-support-row-requires
 support-row-requires c κs =
-    let t = c .before .before .before in
-    let l = t .before in
-    (s l .pre .0, s l .pre .2, sym (asked l) ∙ t .if1 .taken)
+    let s = c .before .before .before .before .before in
+    (s .pre .0, s .pre .2, linked-too s)
 
 counter-row-requires : tie.Need-counter-row-requires
 counter-row-requires c κs =
-    let t = c .before .before .before .before .before in
-    let l = t .before in
-    let few = few-sections (b l) (s l .pre .0 .sound) in
-    (s l .pre .0 .long, omega arith, omega (arith, s l .pre .2 .variable), counters l (t .if1 .taken))
+    let s = c .before .before .before .before .before .before .before in
+    let few = few-sections (b s) (s .pre .0 .sound) in
+    (s .pre .0 .long, omega (arith, known s .0), omega (arith, known s .1), known s .2)
 
 touch-values-requires : tie.Need-touch-values-requires
 touch-values-requires c κs =
     let k = c .before in
     let z = k .before .before .before .before in
-    let t = z .before .before in
-    let few = few-sections (b (t .before)) (s (t .before) .pre .0 .sound) in
-    omega (arith, z .size .ensures, k .counter-row .ensures)
+    let s = z .before .before .before .before in
+    let few = few-sections (b s) (s .pre .0 .sound) in
+    omega (arith, known s .0, z .size .ensures, k .counter-row .ensures)
 
 same-length : tie.Need-same-length
 same-length c = search needs
@@ -74,37 +74,16 @@ returns c =
     let k = c .before .before .before .before in
     let r = k .before .before in
     let z = r .before .before in
-    let t = z .before .before in
-    let l = t .before in
-    let a = s l .args in
-    let sys = systemOf (planOf (b l)) in
-    variable-touched sys (a .i) (a .y) (a .w) (a .x) _ _ (z .size .result)
-    (s l .pre .4) (linked-too l true (t .if1 .taken))
-    (z .size .ensures .0 ∙ size-is (b l) (a .x))
+    let s = z .before .before .before .before in
+    let a = s .args in
+    let sys = systemOf (planOf (b s)) in
+    variable-touched sys (a .i) (a .y) (a .w) (a .x) _ _ (z .size .result) (owned s) (linked s)
+    (z .size .ensures .0 ∙ size-is (b s) (a .x))
     (c .before .before .touch-values .ensures sys (a .y) (a .w)
-    (supported (b l) _ (a .y) (a .w) (a .x) _ _ _ (sym (asked l) ∙ t .if1 .taken) (z .size .ensures .0)
-    (r .support-row .ensures) (k .counter-row .ensures .0)))
-
-same-length-2 : tie.Need-same-length-2
-same-length-2 c = search needs
-
-returns-2 : tie.Need-returns-2
-unfolding systemOf networkOf
-returns-2 c =
-    let l = c .before in
-    let a = s l .args in
-    not-linked (systemOf (planOf (b l))) (a .i) (a .y) (a .w) (a .x) _ (linked-too l _ (c .if1 .left))
+    (supported (b s) _ (a .y) (a .w) (a .x) _ _ _ (linked-too s) (z .size .ensures .0) (r .support-row .ensures)
+    (k .counter-row .ensures .0)))
 
 pub touch-variable-spec : {M : Type 1} → statement M
 touch-variable-spec =
     tie.close
-    (tie.spec
-    linked-requires
-    size-requires
-    support-row-requires
-    counter-row-requires
-    touch-values-requires
-    same-length
-    returns
-    same-length-2
-    returns-2)
+    (tie.spec size-requires support-row-requires counter-row-requires touch-values-requires same-length returns)

@@ -1,6 +1,7 @@
--- `counters::treat::touch_variables` goes through the row's own variables. Invariant: what is done is what the definition does
--- up to any variable that j own ones come before. Assumes nothing.
-use Prim.Native.Nat.{ℕ, _-_, _≤_}
+-- `counters::treat::touch_variables` follows the chain of the row's variables that are linked with the treated one. Invariant:
+-- what is done is what the definition does up to the chain's next variable. Assumes nothing.
+use Prim.Native.Nat.{ℕ, suc, _-_, _<_}
+use mathlib.Core.Bool.{true}
 use mathlib.Core.List.{List}
 use mathlib.Core.Path.{_≡_, refl, sym, _∙_, ap}
 use native.Mathlib.Omega.{arith}
@@ -10,60 +11,43 @@ use Rattle.disac4.specs.System.{systemOf}
 use Rattle.format.specs.Format.{variableCount}
 use Rattle.plan.specs.Decode.{planOf}
 use Rattle.index.proofs.Labels.{variables-are}
-use Rattle.index.proofs.Own.{Owned, count-low, own-at}
 use Rattle.index.proofs.Places.{few-sections}
-use Rattle.index.specs.Index.{ownCount, Ready}
+use Rattle.index.specs.Index.{ownLinked, nextOwn, Ready}
 use Rattle.cells.proofs.Ranges.{may-get}
 use Rattle.cells.specs.Memory.{memOf}
 use Rattle.counters.proofs.Kept.{ready-kept, touch-variable-kept}
-use Rattle.counters.proofs.TreatLaws.{own-start, own-more}
+use Rattle.counters.proofs.TreatLaws.{Reached, reached-start, reached-next, left, left-falls}
 use Rattle.counters.specs.Treat.{touchVariablesM}
 use Rattle.counters.proofs.treat.touch_variables.Statement.{statement}
 use Rattle.counters.proofs.treat.touch_variables.Tie as tie
 
 abbrev Inv-loop : tie.InvT-loop
-Inv-loop b cells₀ i y w n j₀ cells j =
-    (j ≤ n) × (n ≡ ownCount b i (variableCount b)) × Ready b cells × (length cells ≡ length cells₀)
-    × ((k : ℕ) → ownCount b i k ≡ j → memOf cells ≡ touchVariablesM (systemOf (planOf b)) i y w k (memOf cells₀))
+Inv-loop b cells₀ i y w next₀ cells next =
+    Ready b cells × (length cells ≡ length cells₀) × Reached b i y w (memOf cells₀) (memOf cells) next
 
 abbrev μ-loop : tie.MeasureT-loop
-μ-loop b cells₀ i y w n j₀ cells j = n - j
+μ-loop b cells₀ i y w next₀ cells next = left (variableCount b) next
 
 get-requires : tie.Need-get-requires Inv-loop μ-loop
 get-requires c κs =
     let s = c .before .before .before in
-    may-get _ _ _ refl _ (omega (arith, s .pre .0 .long, s .pre .1))
+    may-get _ _ _ refl _
+    (omega (arith, s .pre .0 .long, s .pre .1, s .pre .2 .variable, few-sections (now (s .args .b)) (s .pre .0 .sound)))
 
 loop-holds : tie.Need-loop-holds Inv-loop μ-loop
 loop-holds c =
     let s = c .before .before .before .before in
-    let b = now (s .args .b) in (
-      omega arith,
-      c .get .ensures .0 ∙ s .pre .0 .index .counts (s .args .i) (s .pre .1),
+    let a = s .args in (
       s .pre .0,
       refl,
-      own-start b (s .args .i) (s .args .y) (s .args .w) (memOf (now (s .args .cells))),
+      reached-start (now (a .b)) (a .i) (a .y) (a .w) (memOf (now (a .cells))) (c .get .result)
+          (c .get .ensures .0 ∙ s .pre .0 .index .first (a .i) (s .pre .1) (a .y) (s .pre .2 .variable)),
     )
 
-get-requires-2 : tie.Need-get-requires-2 Inv-loop μ-loop
-get-requires-2 c κs =
-    let l = c .before .before in
-    let s = l .before .before .before .before .before in
-    let b = now (s .args .b) in
-    may-get _ _ _ refl _
-    (omega (
-      arith,
-      l .loop .inv .1,
-      l .loop .inv .2 .long,
-      s .pre .1,
-      count-low b (s .args .i) (variableCount b),
-      few-sections b (s .pre .0 .sound),
-    ))
-
--- the variable that is read
-module _ (g : tie.After-get2 Inv-loop μ-loop) where
+-- the variable that the chain has come to
+module _ (t : tie.In-loop Inv-loop μ-loop) where
   abbrev l : tie.At-loop Inv-loop μ-loop
-  l = g .before .before .before
+  l = t .before
 
   abbrev s : tie.Start Inv-loop μ-loop
   s = l .before .before .before .before .before
@@ -71,47 +55,94 @@ module _ (g : tie.After-get2 Inv-loop μ-loop) where
   abbrev b : List ℕ
   b = now (s .args .b)
 
-  own : Owned b (s .args .i) (l .loop .j) (g .get2 .result)
-  own =
-      own-at b (s .args .i) (memOf (l .loop .cells)) (l .loop .inv .2 .index) (s .pre .1) (l .loop .j) (g .get2 .result)
-      (omega (arith, l .loop .inv .1, g .before .before .loop-test .taken)) (g .get2 .ensures .0)
+  abbrev x : ℕ
+  x = l .loop .next - 1
+
+  here : l .loop .next ≡ suc x
+  here = omega (arith, t .loop-test .taken)
+
+  inside : x < variableCount b
+  inside = l .loop .inv .2 .inside x here
+
+  mine : ownLinked b (s .args .i) (s .args .y) x ≡ true
+  mine = l .loop .inv .2 .mine x here
+
+sub-touch-variable : tie.Need-sub-touch-variable Inv-loop μ-loop
+sub-touch-variable c = omega (arith, here (c .before))
 
 touch-variable-requires : tie.Need-touch-variable-requires Inv-loop μ-loop
 touch-variable-requires c κs =
-    let g = c .before in
-    (l g .loop .inv .2, s g .pre .1, s g .pre .2, own g .variable, own g .mine)
+    let t = c .before in
+    (l t .loop .inv .0, s t .pre .1, s t .pre .2, mine t)
 
-add-j : tie.Need-add-j Inv-loop μ-loop
-add-j c = omega arith
+sub-get : tie.Need-sub-get Inv-loop μ-loop
+sub-get c = omega (arith, here (c .before .before .before .before .before))
+
+-- when it is done, the index is as it was
+module _ (v : tie.After-touch-variable Inv-loop μ-loop) where
+  abbrev t : tie.In-loop Inv-loop μ-loop
+  t = v .before .before
+
+  same-size : length (v .touch-variable .last .1 .0) ≡ length (l t .loop .cells)
+  same-size = v .touch-variable .kept .1 .0
+
+  ready : Ready (b t) (v .touch-variable .last .1 .0)
+  ready =
+      let a = s t .args in
+      ready-kept (b t) (l t .loop .cells) _ (l t .loop .inv .0) same-size (v .touch-variable .ensures)
+      (touch-variable-kept (systemOf (planOf (b t))) (a .i) (a .y) (a .w) (x t) _)
+
+get-requires-2 : tie.Need-get-requires-2 Inv-loop μ-loop
+get-requires-2 c κs =
+    let v = c .before .before .before in
+    let s = s (t v) in
+    may-get _ _ _ refl _
+    (omega (arith, ready v .long, inside (t v), s .pre .2 .variable, few-sections (now (s .args .b)) (s .pre .0 .sound)))
+
+-- what the chain goes on with
+follows : (c : tie.After-get2 Inv-loop μ-loop)
+    → c .get2 .result
+    ≡ nextOwn (b (t (c .before .before .before .before))) (s (t (c .before .before .before .before)) .args .i)
+    (s (t (c .before .before .before .before)) .args .y)
+    (variableCount (b (t (c .before .before .before .before))) - suc (x (t (c .before .before .before .before))))
+follows c =
+    let v = c .before .before .before .before in
+    let s = s (t v) in
+    c .get2 .ensures .0
+    ∙ ready v .index .follow (s .args .i) (s .pre .1) (x (t v)) (s .args .y) (inside (t v)) (s .pre .2 .variable) (mine (t v))
 
 loop-less : tie.Need-loop-less Inv-loop μ-loop
-loop-less c = omega arith
+loop-less c =
+    let t = t (c .before .before .before .before) in
+    let a = s t .args in
+    omega (
+      arith,
+      left-falls (b t) (a .i) (a .y) (x t) (c .get2 .result) (inside t) (follows c),
+      ap (left (variableCount (b t))) (here t),
+    )
 
 loop-again : tie.Need-loop-again Inv-loop μ-loop
 loop-again c =
-    let t = c .before .before in
-    let g = t .before .before in
-    let a = s g .args in
-    let inv = l g .loop .inv in (
-      omega arith,
-      inv .1,
-      ready-kept (b g) (l g .loop .cells) _ (inv .2) (omega arith) (t .touch-variable .ensures)
-          (touch-variable-kept (systemOf (planOf (b g))) (a .i) (a .y) (a .w) (g .get2 .result) _),
-      omega arith,
-      own-more (b g) (a .i) (a .y) (a .w) _ _ _ (l g .loop .j) (g .get2 .result) (own g) (inv .4)
-          (t .touch-variable .ensures),
+    let v = c .before .before .before .before in
+    let t = t v in
+    let a = s t .args in
+    let inv = l t .loop .inv in (
+      ready v,
+      same-size v ∙ inv .1,
+      reached-next (b t) (a .i) (a .y) (a .w) _ _ _ (x t) (c .get2 .result) (inside t) (inv .2 .before (x t) (here t))
+          (v .touch-variable .ensures) (follows c),
     )
 
 same-length : tie.Need-same-length Inv-loop μ-loop
-same-length c = omega arith
+same-length c = c .before .loop .inv .1
 
 returns : tie.Need-returns Inv-loop μ-loop
 returns c =
     let l = c .before in
     let a = l .before .before .before .before .before .args in
     let b = now (a .b) in
-    let e : variableCount b ≡ systemOf (planOf b) .net .variables = sym (variables-are b) in
-    l .loop .inv .4 _ (ap (ownCount b (a .i)) (sym e) ∙ omega (arith, l .loop .inv .1, c .loop-test .left))
+    l .loop .inv .2 .done (omega (arith, c .loop-test .left))
+    ∙ ap (λ (n : ℕ). touchVariablesM (systemOf (planOf b)) (a .i) (a .y) (a .w) n (memOf (now (a .cells)))) (sym (variables-are b))
 
 pub touch-variables-spec : {M : Type 1} → statement M
 touch-variables-spec =
@@ -121,9 +152,10 @@ touch-variables-spec =
     μ-loop
     get-requires
     loop-holds
-    get-requires-2
+    sub-touch-variable
     touch-variable-requires
-    add-j
+    sub-get
+    get-requires-2
     loop-less
     loop-again
     same-length

@@ -13,7 +13,7 @@ use Rattle.index.specs.Index.{Located, chainsM, ownM, indexM}
 use Rattle.cells.specs.Layout.{PLACES}
 use Rattle.cells.specs.Memory.{Mem, memOf}
 use Rattle.plan.specs.Decode.{sectionCount}
-use Rattle.format.specs.Format.{constraintCount}
+use Rattle.format.specs.Format.{variableCount, constraintCount}
 
 index-places-requires : tie.Need-index-places-requires
 index-places-requires c κs = search needs
@@ -38,8 +38,8 @@ module _ (p : tie.After-index-places) where
 index-chains-requires : tie.Need-index-chains-requires
 index-chains-requires c κs = written (c .before .before .before)
 
-index-rows-requires : tie.Need-index-rows-requires
-index-rows-requires c κs =
+index-own-requires : tie.Need-index-own-requires
+index-own-requires c κs =
     let l = c .before .before .before in
     let p = l .before .before .before .before in
     located-kept (b p) (p .index-places .last .1 .0) (l .index-chains .last .1 .0) _ (written p) (l .index-chains .kept .1 .0)
@@ -54,9 +54,9 @@ returns c =
     let o = c .before .before in
     let l = o .before .before .before .before in
     let p = l .before .before .before .before in
-    o .index-rows .ensures
-    ∙ ap (ownM (b p) 8)
+    o .index-own .ensures
+    ∙ ap (ownM (b p) (variableCount (b p)))
     (l .index-chains .ensures ∙ ap (chainsM (b p) (constraintCount (b p))) (p .index-places .ensures))
 
 pub index-plan-spec : {M : Type 1} → statement M
-index-plan-spec = tie.close (tie.spec index-places-requires index-chains-requires index-rows-requires same-length returns)
+index-plan-spec = tie.close (tie.spec index-places-requires index-chains-requires index-own-requires same-length returns)
