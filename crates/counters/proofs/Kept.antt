@@ -15,7 +15,7 @@ use Rattle.index.specs.Index.{Ready}
 use Rattle.cells.proofs.Stores.{store-apart}
 use Rattle.cells.specs.Layout.{WORKERS, LOG, WORK, DOMAIN, COUNTERS, HEADS, TAIL, LOGEND}
 use Rattle.cells.specs.Lists.{pushM, deleteM}
-use Rattle.counters.specs.Load.{countM, loadLabelM, loadValuesM, loadVariablesM}
+use Rattle.counters.specs.Load.{countPairM, countAgainstM, countVariableM, listLabelM, listValuesM, loadVariableM, loadVariablesM}
 use Rattle.cells.specs.Memory.{Mem, memOf, store}
 use Rattle.counters.specs.Treat.{loseM, touchM, touchValuesM, touchVariableM, touchVariablesM}
 use Rattle.cells.specs.View.{LISTED, codeOf, counterRow}
@@ -104,26 +104,34 @@ module _ (sys : System) (i y w : ℕ) where
 -- ---- loading
 
 module _ (sys : System) (x : ℕ) where
-  pub count-kept : (v n : ℕ) {m o : Mem} → Kept m o → Kept m (countM sys x v n o)
-  unfolding countM
-  count-kept v zero p = p
-  count-kept v (suc n) {o = o} p =
-      either (sys .net .linked x n)
-      (stored COUNTERS (counterRow o x n) v (supportCount (sys .net) x v n) (omega arith) (count-kept v n p))
-      (count-kept v n p)
+  pub pair-kept : (y n : ℕ) {m : Mem} → Kept m (countPairM sys x y n m)
+  unfolding countPairM
+  pair-kept y zero = same
+  pair-kept y (suc n) {m} = stored COUNTERS (counterRow m x y) n (supportCount (sys .net) x n y) (omega arith) (pair-kept y n)
 
-  pub load-label-kept : (v : ℕ) (m : Mem) → Kept m (loadLabelM sys x v m)
-  unfolding loadLabelM
-  load-label-kept v m =
-      let p : Kept m (countM sys x v (sys .net .variables) (store m DOMAIN x v LISTED)) =
-      count-kept v (sys .net .variables) (stored DOMAIN x v LISTED (omega arith) same) in
+  pub against-kept : (y : ℕ) (m : Mem) → Kept m (countAgainstM sys x y m)
+  unfolding countAgainstM
+  against-kept y m = either (sys .net .linked x y) (pair-kept y (sys .net .size x)) same
+
+  pub variable-kept : (n : ℕ) (m : Mem) → Kept m (countVariableM sys x n m)
+  unfolding countVariableM
+  variable-kept = repeated (countVariableM sys x) (λ m. same) (λ n m. against-kept n (countVariableM sys x n m))
+
+  list-label-kept : (v : ℕ) (m : Mem) → Kept m (listLabelM sys x v m)
+  unfolding listLabelM
+  list-label-kept v m =
+      let p : Kept m (store m DOMAIN x v LISTED) = stored DOMAIN x v LISTED (omega arith) same in
       either (unsupported (sys .net) x v) (delete-kept (sys .owner x - 1) x v p) p
 
-  pub load-values-kept : (n : ℕ) (m : Mem) → Kept m (loadValuesM sys x n m)
-  unfolding loadValuesM
-  load-values-kept = repeated (loadValuesM sys x) (λ m. same) (λ n m. load-label-kept n (loadValuesM sys x n m))
+  pub list-values-kept : (n : ℕ) (m : Mem) → Kept m (listValuesM sys x n m)
+  unfolding listValuesM
+  list-values-kept = repeated (listValuesM sys x) (λ m. same) (λ n m. list-label-kept n (listValuesM sys x n m))
+
+  pub load-variable-kept : (m : Mem) → Kept m (loadVariableM sys x m)
+  unfolding loadVariableM
+  load-variable-kept m =
+      then (variable-kept (sys .net .variables) m) (list-values-kept (sys .net .size x) (countVariableM sys x (sys .net .variables) m))
 
 pub load-variables-kept : (sys : System) (n : ℕ) (m : Mem) → Kept m (loadVariablesM sys n m)
 unfolding loadVariablesM
-load-variables-kept sys =
-    repeated (loadVariablesM sys) (λ m. same) (λ n m. load-values-kept sys n (sys .net .size n) (loadVariablesM sys n m))
+load-variables-kept sys = repeated (loadVariablesM sys) (λ m. same) (λ n m. load-variable-kept sys n (loadVariablesM sys n m))

@@ -1,95 +1,117 @@
 -- Laws that the code of loading meets its definitions in memory by.
-use Prim.Native.Nat.{ℕ, _+_, _-_, _<_}
-use mathlib.Core.Bool.{true, false, cond, _&&_}
+use Prim.Native.Nat.{ℕ, zero, suc, _+_, _-_, _<_}
+use mathlib.Core.Bool.{Bool, true, false, _&&_, _||_, not}
 use mathlib.Core.Path.{_≡_, refl, sym, _∙_, ap}
-use native.Mathlib.Omega.{arith}
+use native.Mathlib.Numerals.{add-one}
+use lib.Bits.{bitAnd}
 use lib.Dec.{eqb}
-use Rattle.base.proofs.Below.{any-below, some-below}
-use Rattle.base.proofs.Bools.{and-false-left, refuted}
 use Rattle.base.proofs.Choice.{cond-true, cond-false}
-use Rattle.base.proofs.Sums.{sum-none, sum-some, one-passes}
-use Rattle.base.specs.Below.{one, countBelow}
+use Rattle.base.proofs.Row.{bit-and, row-bit}
+use Rattle.base.specs.Below.{anyBelow, allBelow}
+use Rattle.base.specs.Row.{bit, rowOf}
 use Rattle.disac4.specs.Loading.{loadedCounter, unsupported}
 use Rattle.disac4.specs.System.{System}
 use Rattle.network.specs.Network.{Network, loaded, supportCount}
-use Rattle.counters.proofs.Kept.{row-heads, count-kept, same}
 use Rattle.counters.proofs.TreatLaws.{one-more}
-use Rattle.cells.specs.Layout.{DOMAIN, COUNTERS, HEADS}
+use Rattle.cells.specs.Layout.{DOMAIN, COUNTERS}
 use Rattle.cells.specs.Lists.{deleteM}
-use Rattle.counters.specs.Load.{lacks, countOneM, countM, loadLabelM, loadValuesM, loadVariablesM}
+use Rattle.counters.specs.Load.{suits, countPairM, countAgainstM, countVariableM, listLabelM, listValuesM, loadVariablesM, loadVariableM}
 use Rattle.cells.specs.Memory.{Mem, store}
 use Rattle.cells.specs.View.{LISTED, counterRow}
 
--- ---- one counter
+-- ---- the counters of one value, one variable more
 
-module _ (sys : System) (x v y : ℕ) (m : Mem) where
-  pub not-counted : sys .net .linked x y ≡ false → (m ≡ countOneM sys x v y m) × (0 ≡ one (lacks (sys .net) x v y))
-  unfolding countOneM lacks
-  not-counted l = (sym (cond-false _ m l), ap one (sym (and-false-left (eqb (supportCount (sys .net) x v y) 0) l)))
+pub counter-more : (sys : System) (x y v : ℕ) (m m₁ m₂ : Mem) (row count : ℕ) → m₁ ≡ countPairM sys x y v m
+    → row ≡ counterRow m x y → count ≡ supportCount (sys .net) x v y → m₂ ≡ store m₁ COUNTERS row v count
+    → m₂ ≡ countPairM sys x y (v + 1) m
+unfolding countPairM
+counter-more sys x y v m m₁ m₂ row count p r c e =
+    one-more (λ n. countPairM sys x y n m) (λ o. store o COUNTERS (counterRow m x y) v (supportCount (sys .net) x v y)) v m₁ m₂ refl
+    p (e ∙ rw (r, c) refl)
 
-  pub counted : (n : Mem) (row count zeros : ℕ) → sys .net .linked x y ≡ true → count ≡ supportCount (sys .net) x v y
-      → row ≡ counterRow m x y → n ≡ store m COUNTERS row v count → zeros ≡ one (eqb count 0)
-      → (n ≡ countOneM sys x v y m) × (zeros ≡ one (lacks (sys .net) x v y))
-  unfolding countOneM lacks
-  counted n row count zeros l c r e z = (rw (e, r, c) (sym (cond-true _ m l)), rw (l, ← c) z)
+pub variable-more : (sys : System) (x y : ℕ) (m m₁ m₂ : Mem) → m₁ ≡ countVariableM sys x y m → m₂ ≡ countAgainstM sys x y m₁
+    → m₂ ≡ countVariableM sys x (y + 1) m
+unfolding countVariableM
+variable-more sys x y m m₁ m₂ = one-more (λ n. countVariableM sys x n m) (countAgainstM sys x y) y m₁ m₂ refl
 
--- one counter more
-pub counter-more : (sys : System) (x v y : ℕ) (m m₁ m₂ : Mem) → m₁ ≡ countM sys x v y m → m₂ ≡ countOneM sys x v y m₁
-    → m₂ ≡ countM sys x v (y + 1) m
-unfolding countM countOneM
-counter-more sys x v y m m₁ m₂ =
-    one-more (λ n. countM sys x v n m) (countOneM sys x v y) y m₁ m₂
-    (ap
-    (λ (k : ℕ).
-    cond (sys .net .linked x y) (store (countM sys x v y m) COUNTERS k v (supportCount (sys .net) x v y)) (countM sys x v y m))
-    (sym (row-heads m (countM sys x v y m) x y (count-kept sys x v y same .static HEADS x y (omega arith)))))
+-- ---- the row of the values that suit
 
--- ---- a label with a count of 0
+module _ (sys : System) (x y : ℕ) where
+  -- linked, a value suits exactly if its count is not 0
+  pub suits-linked : (v count : ℕ) (t : Bool) → sys .net .linked x y ≡ true → count ≡ supportCount (sys .net) x v y
+      → t ≡ not (eqb count 0) → t ≡ suits (sys .net) x v y
+  unfolding suits
+  suits-linked v count t l c e = rw (l, ← c) e
 
-module _ (net : Network) (x v : ℕ) (l : loaded net x v ≡ true) where
-  lacks-loaded : (y : ℕ) → net .linked x y && eqb (loadedCounter net x v y) 0 ≡ lacks net x v y
-  unfolding loadedCounter lacks
-  lacks-loaded y = rw l
+  module _ (m : Mem) where
+    -- not linked, there is nothing to count
+    pub not-counted : (r row : ℕ) → sys .net .linked x y ≡ false → r ≡ row
+        → (m ≡ countAgainstM sys x y m) × ((v : ℕ) → bit r v ≡ bit row v && suits (sys .net) x v y)
+    unfolding countAgainstM suits
+    not-counted r row l e = (sym (cond-false _ m l), λ v. rw (l, e) (sym (kept (bit row v))))
+      where
+        kept : (b : Bool) → b && true ≡ b
+        kept true = refl
+        kept false = refl
 
-  pub unsupported-some : 0 < countBelow (net .variables) (lacks net x v) → unsupported net x v ≡ true
-  unfolding unsupported
-  unsupported-some h =
-      let r = sum-some (net .variables) (λ y. one (lacks net x v y)) h in
-      any-below (net .variables) (λ y. net .linked x y && eqb (loadedCounter net x v y) 0) (r .0) (r .1)
-      (lacks-loaded (r .0) ∙ one-passes (lacks net x v (r .0)) (r .2))
+    -- linked, the values that don't suit leave the row
+    pub counted : (n : Mem) (row part : ℕ) → sys .net .linked x y ≡ true → n ≡ countPairM sys x y (sys .net .size x) m
+        → part ≡ rowOf (sys .net .size x) (λ v. suits (sys .net) x v y)
+        → (n ≡ countAgainstM sys x y m)
+        × ((v : ℕ) → v < sys .net .size x → bit (bitAnd row part) v ≡ bit row v && suits (sys .net) x v y)
+    unfolding countAgainstM
+    counted n row part l e p = (
+      e ∙ sym (cond-true _ m l),
+      λ v h.
+          bit-and row part v
+          ∙ ap (λ (t : Bool). bit row v && t)
+          (ap (λ (k : ℕ). bit k v) p ∙ row-bit (sys .net .size x) (λ v. suits (sys .net) x v y) v h),
+    )
 
-  pub unsupported-none : countBelow (net .variables) (lacks net x v) ≡ 0 → unsupported net x v ≡ false
-  unfolding unsupported
-  unsupported-none h =
-      refuted (unsupported net x v)
-      (λ e.
-      let r = some-below (net .variables) (λ y. net .linked x y && eqb (loadedCounter net x v y) 0) e in
-      omega (
-        arith,
-        sum-none (net .variables) (λ y. one (lacks net x v y)) h (r .0) (r .1),
-        ap one (sym (lacks-loaded (r .0)) ∙ r .2),
-      ))
+-- a value that suits one variable more
+pub suits-more : (net : Network) (x v y row r : ℕ) → bit row v ≡ allBelow y (suits net x v) → bit r v ≡ bit row v && suits net x v y
+    → bit r v ≡ allBelow (y + 1) (suits net x v)
+suits-more net x v y row r p q =
+    q ∙ ap (λ (t : Bool). t && suits net x v y) p ∙ ap (λ (k : ℕ). allBelow k (suits net x v)) (sym (add-one y))
 
-module _ (sys : System) (x v : ℕ) (m m₁ m₂ : Mem) (listed : m₁ ≡ store m DOMAIN x v LISTED)
-    (all : m₂ ≡ countM sys x v (sys .net .variables) m₁) where
-  pub label-deleted : (m₃ : Mem) (o : ℕ) → unsupported (sys .net) x v ≡ true → o ≡ sys .owner x → m₃ ≡ deleteM (o - 1) x v m₂
-      → m₃ ≡ loadLabelM sys x v m
-  unfolding loadLabelM
-  label-deleted m₃ o u w e = rw (e, all, listed, w) (sym (cond-true _ _ u))
+-- one that suits every variable is supported
+pub all-suit : (net : Network) (x v : ℕ) → loaded net x v ≡ true
+    → allBelow (net .variables) (suits net x v) ≡ not (unsupported net x v)
+unfolding suits unsupported loadedCounter
+all-suit net x v l =
+    rw l (go (net .variables))
+  where
+    both : (a b : Bool) → not a && not b ≡ not (a || b)
+    both true b = refl
+    both false b = refl
 
-  pub label-kept : unsupported (sys .net) x v ≡ false → m₂ ≡ loadLabelM sys x v m
-  unfolding loadLabelM
-  label-kept u = rw (all, listed) (sym (cond-false _ _ u))
+    lacks : ℕ → Bool
+    lacks y = net .linked x y && eqb (supportCount net x v y) 0
+
+    go : (n : ℕ) → allBelow n (λ y. not (lacks y)) ≡ not (anyBelow n lacks)
+    go zero = refl
+    go (suc n) = rw (go n) (both (anyBelow n lacks) (lacks n))
+
+-- ---- a label
+
+module _ (sys : System) (x v : ℕ) (m m₁ : Mem) (listed : m₁ ≡ store m DOMAIN x v LISTED) where
+  pub label-deleted : (m₂ : Mem) (o : ℕ) → unsupported (sys .net) x v ≡ true → o ≡ sys .owner x → m₂ ≡ deleteM (o - 1) x v m₁
+      → m₂ ≡ listLabelM sys x v m
+  unfolding listLabelM
+  label-deleted m₂ o u w e = rw (e, listed, w) (sym (cond-true _ _ u))
+
+  pub label-kept : unsupported (sys .net) x v ≡ false → m₁ ≡ listLabelM sys x v m
+  unfolding listLabelM
+  label-kept u = rw listed (sym (cond-false _ _ u))
 
 -- ---- one value, one variable more
 
-pub value-loaded : (sys : System) (x v : ℕ) (m m₁ m₂ : Mem) → m₁ ≡ loadValuesM sys x v m → m₂ ≡ loadLabelM sys x v m₁
-    → m₂ ≡ loadValuesM sys x (v + 1) m
-unfolding loadValuesM
-value-loaded sys x v m m₁ m₂ = one-more (λ n. loadValuesM sys x n m) (loadLabelM sys x v) v m₁ m₂ refl
+pub value-listed : (sys : System) (x v : ℕ) (m m₁ m₂ : Mem) → m₁ ≡ listValuesM sys x v m → m₂ ≡ listLabelM sys x v m₁
+    → m₂ ≡ listValuesM sys x (v + 1) m
+unfolding listValuesM
+value-listed sys x v m m₁ m₂ = one-more (λ n. listValuesM sys x n m) (listLabelM sys x v) v m₁ m₂ refl
 
-pub variable-loaded : (sys : System) (x : ℕ) (m m₁ m₂ : Mem) → m₁ ≡ loadVariablesM sys x m
-    → m₂ ≡ loadValuesM sys x (sys .net .size x) m₁ → m₂ ≡ loadVariablesM sys (x + 1) m
+pub variable-loaded : (sys : System) (x : ℕ) (m m₁ m₂ : Mem) → m₁ ≡ loadVariablesM sys x m → m₂ ≡ loadVariableM sys x m₁
+    → m₂ ≡ loadVariablesM sys (x + 1) m
 unfolding loadVariablesM
-variable-loaded sys x m m₁ m₂ =
-    one-more (λ n. loadVariablesM sys n m) (loadValuesM sys x (sys .net .size x)) x m₁ m₂ refl
+variable-loaded sys x m m₁ m₂ = one-more (λ n. loadVariablesM sys n m) (loadVariableM sys x) x m₁ m₂ refl

@@ -1,7 +1,7 @@
--- Loading in memory, where the plan's index stands already: for each label its domain cell, its counters, and its deletion
--- where a count is 0.
+-- Loading in memory, where the plan's index stands already: for each variable the counters of its values, then for each of its
+-- labels the domain cell, and the deletion where a count is 0.
 use Prim.Native.Nat.{ℕ, zero, suc, _-_}
-use mathlib.Core.Bool.{Bool, cond, _&&_}
+use mathlib.Core.Bool.{Bool, cond, _&&_, not}
 use lib.Dec.{ltb, eqb}
 use Rattle.disac4.specs.Loading.{unsupported}
 use Rattle.disac4.specs.System.{System}
@@ -15,39 +15,41 @@ use Rattle.cells.specs.View.{LISTED, counterRow}
 unfoldable pub clearedM : Mem → Mem
 clearedM m r i j = cond (ltb r BEHIND) 0 (m r i j)
 
--- label `v` of `x` has a count against `y`, and it is 0
-unfoldable pub lacks : Network → ℕ → ℕ → ℕ → Bool
-lacks net x v y = net .linked x y && eqb (supportCount net x v y) 0
+-- label `v` of `x` has no count against `y`, or one that is not 0
+unfoldable pub suits : Network → ℕ → ℕ → ℕ → Bool
+suits net x v y = not (net .linked x y && eqb (supportCount net x v y) 0)
 
--- the counter of label `v` of `x` against `y`, if the two are linked
-unfoldable pub countOneM : System → ℕ → ℕ → ℕ → Mem → Mem
-countOneM sys x v y m =
-    cond (sys .net .linked x y) (store m COUNTERS (counterRow m x y) v (supportCount (sys .net) x v y)) m
+-- the counters of the first `n` values of `x` against `y`
+unfoldable pub countPairM : System → ℕ → ℕ → ℕ → Mem → Mem
+countPairM sys x y zero m = m
+countPairM sys x y (suc n) m = store (countPairM sys x y n m) COUNTERS (counterRow m x y) n (supportCount (sys .net) x n y)
 
--- the counters of label `v` of `x` against the first `n` variables
-unfoldable pub countM : System → ℕ → ℕ → ℕ → Mem → Mem
-countM sys x v zero m = m
-countM sys x v (suc n) m =
-    cond (sys .net .linked x n)
-    (store (countM sys x v n m) COUNTERS (counterRow m x n) v (supportCount (sys .net) x v n))
-    (countM sys x v n m)
+-- the counters of the values of `x` against `y`, if the two are linked
+unfoldable pub countAgainstM : System → ℕ → ℕ → Mem → Mem
+countAgainstM sys x y m = cond (sys .net .linked x y) (countPairM sys x y (sys .net .size x) m) m
 
--- label `v` of `x` is loaded: in its domain, with its counters; one with a count of 0 is deleted by its owner
-unfoldable pub loadLabelM : System → ℕ → ℕ → Mem → Mem
-loadLabelM sys x v m =
-    cond (unsupported (sys .net) x v)
-    (deleteM (sys .owner x - 1) x v (countM sys x v (sys .net .variables) (store m DOMAIN x v LISTED)))
-    (countM sys x v (sys .net .variables) (store m DOMAIN x v LISTED))
+-- the counters of the values of `x` against the first `n` variables
+unfoldable pub countVariableM : System → ℕ → ℕ → Mem → Mem
+countVariableM sys x zero m = m
+countVariableM sys x (suc n) m = countAgainstM sys x n (countVariableM sys x n m)
+
+-- label `v` of `x` is in its domain; one with a count of 0 is deleted by its owner
+unfoldable pub listLabelM : System → ℕ → ℕ → Mem → Mem
+listLabelM sys x v m =
+    cond (unsupported (sys .net) x v) (deleteM (sys .owner x - 1) x v (store m DOMAIN x v LISTED)) (store m DOMAIN x v LISTED)
 
 -- the first `n` values of `x`
-unfoldable pub loadValuesM : System → ℕ → ℕ → Mem → Mem
-loadValuesM sys x zero m = m
-loadValuesM sys x (suc n) m = loadLabelM sys x n (loadValuesM sys x n m)
+unfoldable pub listValuesM : System → ℕ → ℕ → Mem → Mem
+listValuesM sys x zero m = m
+listValuesM sys x (suc n) m = listLabelM sys x n (listValuesM sys x n m)
+
+unfoldable pub loadVariableM : System → ℕ → Mem → Mem
+loadVariableM sys x m = listValuesM sys x (sys .net .size x) (countVariableM sys x (sys .net .variables) m)
 
 -- the first `n` variables
 unfoldable pub loadVariablesM : System → ℕ → Mem → Mem
 loadVariablesM sys zero m = m
-loadVariablesM sys (suc n) m = loadValuesM sys n (sys .net .size n) (loadVariablesM sys n m)
+loadVariablesM sys (suc n) m = loadVariableM sys n (loadVariablesM sys n m)
 
 -- from a memory that holds the plan's index and is 0 elsewhere
 unfoldable pub loadM : System → Mem → Mem

@@ -27,7 +27,7 @@ pub fn linked(cells: &[u16], x: usize, y: usize) -> bool
 }
 
 // Whether a row holds a value.
-fn holds(row: usize, w: usize) -> bool
+pub fn holds(row: usize, w: usize) -> bool
     requires { ⌜ w < 64 ⌝ }
     ensures { λ r. ⌜ r ≡ bit row w ⌝ }
 {

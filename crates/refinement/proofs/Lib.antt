@@ -7,6 +7,7 @@ pub mod Behind
 pub mod Capacity
 pub mod ChannelRows
 pub mod ControllerRead
+pub mod Counting
 pub mod Frame
 pub mod Frames
 pub mod Growing

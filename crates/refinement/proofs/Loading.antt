@@ -24,17 +24,19 @@ use Rattle.network.specs.Network.{Label, label, loaded, labelsWhere, supports, 
 use Rattle.cells.proofs.Queue.{labels-none, queue-none}
 use Rattle.cells.specs.Layout.{WORKERS, CURSORS, BOUNDS, LOG, WORK, OUT, WANTED, DOMAIN, COUNTERS, HEADS, HEAD, TAIL, LOGEND, SENDS, LISTS, HELD, OUTEND}
 use Rattle.counters.proofs.Kept.{row-heads}
-use Rattle.counters.specs.Load.{loadLabelM, loadM}
+use Rattle.counters.specs.Load.{listLabelM, loadM}
 use Rattle.cells.specs.Memory.{Mem}
 pub use Rattle.refinement.specs.Run.{freshTally as startTally}
 use Rattle.cells.specs.View.{LISTED, isWorker, labelsBetween, counterRow, viewCounter, viewWork, viewSend, viewHeld, viewLists, viewLetters, viewPolls, viewOut, viewChannel, view}
 use Rattle.refinement.proofs.Actors.{atActor, row-of}
 use Rattle.refinement.proofs.Frames.{Apart}
-use Rattle.refinement.proofs.Growing.{Longer, Both}
+use Rattle.refinement.proofs.Growing.{Longer, Both, both-none, both-more}
 use Rattle.refinement.specs.Inv.{Small}
 use Rattle.index.specs.Index.{Paired}
 use Rattle.refinement.proofs.Grown.{lettersQueue, outQueue, pollsQueue}
-use Rattle.refinement.proofs.LabelLoad.{load-walk, load-apart, load-shows, load-both}
+use Rattle.refinement.proofs.Counting.{countedM, counted-counts, counted-at, load-walk}
+use Rattle.refinement.proofs.Frame.{paired-kept}
+use Rattle.refinement.proofs.LabelLoad.{list-apart, list-shows, list-both}
 use Rattle.refinement.proofs.Labelwise.{unloaded-apart, Shows, walk-apart, walk-shows, walk-both, Local}
 use Rattle.refinement.proofs.Unmoved.{Unmoved}
 
@@ -56,21 +58,42 @@ module _ (sys : System) (small : Small sys) (z : Mem) (paired : Paired sys z) (b
   abbrev n : Mem
   n = loadM sys z
 
-  local : Local sys small (loadLabelM sys) (λ x. sys .owner x - 1)
-  local x v h l = load-apart sys x v
+  -- the memory where all is counted, and no label is listed yet
+  abbrev z₁ : Mem
+  z₁ = countedM sys (sys .net .variables) z
 
-  -- what stands apart from all labels is left alone
-  pub loaded-apart : (r a b : ℕ)
-      → ((x v : ℕ) → x < sys .net .variables → v < sys .net .size x → Apart sys z (sys .owner x - 1) x v r a b)
+  counted-heads : (a b : ℕ) → z₁ HEADS a b ≡ z HEADS a b
+  counted-heads a b = counted-counts sys (sys .net .variables) .elsewhere z HEADS a b (omega arith)
+
+  paired₁ : Paired sys z₁
+  paired₁ = paired-kept z z₁ sys counted-heads paired
+
+  local : Local sys small (listLabelM sys) (λ x. sys .owner x - 1)
+  local x v h l = list-apart sys x v
+
+  -- beside the counters, what stands apart from all labels is left alone
+  pub loaded-apart : (r a b : ℕ) → (r ≡ COUNTERS → ⊥)
+      → ((x v : ℕ) → x < sys .net .variables → v < sys .net .size x → Apart sys z₁ (sys .owner x - 1) x v r a b)
       → loadM sys z r a b ≡ z r a b
-  loaded-apart = walk-apart sys small (loadLabelM sys) (λ x. sys .owner x - 1) local z paired n (load-walk sys z)
+  loaded-apart r a b d p =
+      walk-apart sys small (listLabelM sys) (λ x. sys .owner x - 1) local z₁ paired₁ n (load-walk sys z) r a b p
+      ∙ counted-counts sys (sys .net .variables) .elsewhere z r a b d
 
   -- each label's own cells
   pub loaded-shows : (x v : ℕ) → x < sys .net .variables → v < sys .net .size x
-      → Shows sys z x v (cond (unsupported (sys .net) x v) 0 LISTED) (supportCount (sys .net) x v) (loadM sys z)
+      → Shows sys z₁ x v (cond (unsupported (sys .net) x v) 0 LISTED) (supportCount (sys .net) x v) (loadM sys z)
   loaded-shows x v h l =
-      walk-shows sys small (loadLabelM sys) (λ x. sys .owner x - 1) local z paired n (load-walk sys z) x v _ _ h l
-      (load-shows sys x v small z paired h l (z DOMAIN x v) (λ y. z COUNTERS (counterRow z x y) v))
+      let s =
+      walk-shows sys small (listLabelM sys) (λ x. sys .owner x - 1) local z₁ paired₁ n (load-walk sys z) x v _ _ h l
+      (list-shows sys x v z₁ (z₁ DOMAIN x v) (λ y. z₁ COUNTERS (counterRow z₁ x y) v)) in
+      record {
+        heads = s .heads;
+        domain = s .domain;
+        counter = λ y k.
+            s .counter y k
+            ∙ ap (λ (a : ℕ). z₁ COUNTERS a v) (row-heads z z₁ x y (counted-heads x y))
+            ∙ counted-at sys small z paired x v y l k;
+      }
 
   -- a row deletes at most as many labels as were loaded
   few-deleted : (i : ℕ) → i < sys .workers → length (loadedDeletions sys (suc i)) ≤ 512
@@ -87,20 +110,26 @@ module _ (sys : System) (small : Small sys) (z : Mem) (paired : Paired sys z) (b
   pub loaded-both : (i : ℕ) → i < sys .workers → Both sys i z (loadM sys z) (loadedDeletions sys (suc i))
   unfolding loadedDeletions labelsWhere
   loaded-both i h =
-      walk-both sys small (loadLabelM sys) (λ x. sys .owner x - 1) local z paired n (load-walk sys z) i
+      both-more sys i z z₁ n [] (loadedDeletions sys (suc i))
+      (both-none sys i z z₁ (put WORKERS LOGEND (omega arith)) (put WORKERS TAIL (omega arith)) (λ d. put LOG d (omega arith))
+      (λ d. put WORK d (omega arith)))
+      (walk-both sys small (listLabelM sys) (λ x. sys .owner x - 1) local z₁ paired₁ n (load-walk sys z) i
       (λ x v. cond (eqb (sys .owner x) (suc i) && unsupported (sys .net) x v) (label x v ∷ []) [])
-      (λ x v k l m s. load-both sys x v small z paired k l i m)
-      (omega (arith, blank WORKERS i LOGEND (omega arith), few-deleted i h))
-      (omega (arith, blank WORKERS i TAIL (omega arith), few-deleted i h))
+      (λ x v k l m s. list-both sys x v small k l i m)
+      (omega (arith, put WORKERS LOGEND (omega arith), blank WORKERS i LOGEND (omega arith), few-deleted i h))
+      (omega (arith, put WORKERS TAIL (omega arith), blank WORKERS i TAIL (omega arith), few-deleted i h)))
+    where
+      put : (r b : ℕ) → (r ≡ COUNTERS → ⊥) → z₁ r i b ≡ z r i b
+      put r b d = counted-counts sys (sys .net .variables) .elsewhere z r i b d
 
   -- what else the view shows stays
   pub loaded-unmoved : Unmoved z (loadM sys z)
   loaded-unmoved = record {
-    column = λ i b p. loaded-apart WORKERS i b (λ x v k l. omega arith);
-    cursors = λ i b. loaded-apart CURSORS i b (λ x v k l. omega arith);
-    bounds = λ i b. loaded-apart BOUNDS i b (λ x v k l. omega arith);
-    out = λ i b. loaded-apart OUT i b (λ x v k l. omega arith);
-    wanted = λ i b. loaded-apart WANTED i b (λ x v k l. omega arith);
+    column = λ i b p. loaded-apart WORKERS i b (omega arith) (λ x v k l. omega arith);
+    cursors = λ i b. loaded-apart CURSORS i b (omega arith) (λ x v k l. omega arith);
+    bounds = λ i b. loaded-apart BOUNDS i b (omega arith) (λ x v k l. omega arith);
+    out = λ i b. loaded-apart OUT i b (omega arith) (λ x v k l. omega arith);
+    wanted = λ i b. loaded-apart WANTED i b (omega arith) (λ x v k l. omega arith);
     logs = λ i d p. absurd (omega (arith, blank WORKERS i LOGEND (omega arith)));
   }
 
@@ -122,12 +151,12 @@ module _ (sys : System) (small : Small sys) (z : Mem) (paired : Paired sys z) (b
           ∙ put (unsupported (sys .net) x v)
       go false e =
           ap (λ (d : ℕ). eqb d LISTED)
-          (loaded-apart DOMAIN x v (λ x′. unloaded-apart sys z (sys .owner x′ - 1) x v e x′)
+          (loaded-apart DOMAIN x v (omega arith) (λ x′. unloaded-apart sys z₁ (sys .owner x′ - 1) x v e x′)
           ∙ blank DOMAIN x v (omega arith))
 
   -- the index stays
   pub heads-loaded : (a b : ℕ) → loadM sys z HEADS a b ≡ z HEADS a b
-  heads-loaded a b = loaded-apart HEADS a b (λ x v k l. omega arith)
+  heads-loaded a b = loaded-apart HEADS a b (omega arith) (λ x v k l. omega arith)
 
   unlinked : (x v y : ℕ) → sys .net .linked x y ≡ false → supportCount (sys .net) x v y ≡ 0
   unfolding supports
@@ -143,7 +172,7 @@ module _ (sys : System) (small : Small sys) (z : Mem) (paired : Paired sys z) (b
       go : (a : Bool) → loaded (sys .net) x v ≡ a → (b : Bool) → sys .net .linked x y ≡ b
           → cond (a && b) (n COUNTERS (counterRow n x y) v) 0 ≡ cond a (supportCount (sys .net) x v y) 0
       go true e true f =
-          ap (λ (k : ℕ). n COUNTERS k v) (row-heads z n x y (heads-loaded x y))
+          ap (λ (k : ℕ). n COUNTERS k v) (row-heads z₁ n x y (heads-loaded x y ∙ sym (counted-heads x y)))
           ∙ loaded-shows x v (loaded-variable (sys .net) x v e) (loaded-value (sys .net) x v e) .counter y f
       go true e false f = sym (unlinked x v y f)
       go false e b f = refl
@@ -175,7 +204,7 @@ module _ (sys : System) (small : Small sys) (z : Mem) (paired : Paired sys z) (b
 
   -- a column other than the ends of the lists
   pub column-loaded : (i b : ℕ) → (b ≡ TAIL → ⊥) × (b ≡ LOGEND → ⊥) → n WORKERS i b ≡ 0
-  column-loaded i b p = loaded-apart WORKERS i b (λ x v k l. omega arith) ∙ blank WORKERS i b (omega arith)
+  column-loaded i b p = loaded-apart WORKERS i b (omega arith) (λ x v k l. omega arith) ∙ blank WORKERS i b (omega arith)
 
   held-loaded : (k : ℕ) → viewHeld sys n k ≡ none
   unfolding viewHeld

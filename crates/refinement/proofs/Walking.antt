@@ -21,12 +21,12 @@ module _ {A : Type 0} where
   is-loop f F start more zero a = start a
   is-loop f F start more (suc n) a = more n a ∙ ap (f n) (is-loop f F start more n a)
 
-  loop-keeps : (P : A → Type 0) (f : ℕ → A → A) (n : ℕ) → ((j : ℕ) → j < n → (a : A) → P a → P (f j a)) → (a : A) → P a
+  pub loop-keeps : (P : A → Type 0) (f : ℕ → A → A) (n : ℕ) → ((j : ℕ) → j < n → (a : A) → P a → P (f j a)) → (a : A) → P a
       → P (loop f n a)
   loop-keeps P f zero h a p = p
   loop-keeps P f (suc n) h a p = h n (le-refl (suc n)) (loop f n a) (loop-keeps P f n (λ j l. h j (le-step l)) a p)
 
-  loop-at : (Q R : A → Type 0) (f : ℕ → A → A) (n i : ℕ) → i < n
+  pub loop-at : (Q R : A → Type 0) (f : ℕ → A → A) (n i : ℕ) → i < n
       → ((j : ℕ) → j < n → (j ≡ i → ⊥) → (a : A) → Q a → Q (f j a))
       → ((j : ℕ) → j < n → (j ≡ i → ⊥) → (a : A) → R a → R (f j a))
       → ((a : A) → Q a → R (f i a)) → (a : A) → Q a → R (loop f n a)

@@ -28,8 +28,8 @@ loop-holds : tie.Need-loop-holds Inv-loop μ-loop
 unfolding loadVariablesM
 loop-holds c = (omega arith, refl, refl)
 
-load-values-requires : tie.Need-load-values-requires Inv-loop μ-loop
-load-values-requires c κs =
+load-variable-requires : tie.Need-load-variable-requires Inv-loop μ-loop
+load-variable-requires c κs =
     let l = c .before .before in
     let s = l .before .before .before .before in (
       ready-kept (now (s .args .b)) (now (s .args .cells)) (l .loop .cells) (s .pre) (l .loop .inv .1) (l .loop .inv .2)
@@ -48,7 +48,7 @@ loop-again c =
     let l = c .before .before .before .before .before in (
       omega arith,
       omega arith,
-      variable-loaded _ (l .loop .x) _ _ _ (l .loop .inv .2) (c .before .before .load-values .ensures),
+      variable-loaded _ (l .loop .x) _ _ _ (l .loop .inv .2) (c .before .before .load-variable .ensures),
     )
 
 same-length : tie.Need-same-length Inv-loop μ-loop
@@ -70,7 +70,7 @@ load-plan-spec =
     μ-loop
     variable-count-requires
     loop-holds
-    load-values-requires
+    load-variable-requires
     add-x
     loop-less
     loop-again
