@@ -1,3 +1,2 @@
-// A plan's bytes: where its parts stand, and how they are read.
+// A plan's bytes: where its parts stand; how those of the head and of the variables are read.
 pub mod read;
-pub mod reader;

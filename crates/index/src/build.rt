@@ -48,7 +48,12 @@ fn index_chains(b: &[u8], cells: &mut [u16])
     let mut c = 0;
     while c < count {
         let at = layout::get(cells, layout::PLACES, 0, variables + c + 1);
-        link(cells, read::first(b, at) - 1, read::second(b, at) - 1, c);
+        link(
+            cells,
+            constraints::first(b, at) - 1,
+            constraints::second(b, at) - 1,
+            c,
+        );
         c += 1;
     }
 }

@@ -92,7 +92,7 @@ fn table_column(b: &[u8], at: usize, v: usize, values: usize) -> usize
     let mut w = values;
     while w != 0 {
         w -= 1;
-        row = 2 * row + part(holds(read::table_byte(b, at, w, half), k), 0);
+        row = 2 * row + part(holds(constraints::table_byte(b, at, w, half), k), 0);
     }
     row
 }
@@ -111,17 +111,17 @@ fn constraint_row(
     requires { ⌜ (at ≤ length (now b)) × (here ≤ length (now b)) × (there ≤ length (now b)) × (v < 16) × (values ≤ 16) ⌝ }
     ensures { λ r. ⌜ ((w : ℕ) → w < values → bit r w ≡ permitsFrom (now (b .entry)) at leads here v there w) ⌝ }
 {
-    if read::kind(b, at) != 0 {
+    if constraints::kind(b, at) != 0 {
         return limit_row(
             b,
-            read::limit(b, at),
+            constraints::limit(b, at),
             read::figure(b, here, v),
             there,
             values,
         );
     }
     if leads {
-        return read::table_row(b, at, v);
+        return constraints::table_row(b, at, v);
     }
     table_column(b, at, v, values)
 }

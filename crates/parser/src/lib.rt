@@ -1,14 +1,11 @@
 // The plan check: from a plan's bytes to its figures, or to its first fault and the fault's place.
-use format::reader::byte_at;
 use plan::Checked;
 use plan::Fault;
+use reader::byte_at;
 ghost use mathlib.Core.Path.{_≡_};
 ghost use Rattle.plan.specs.Answer.{planCheck};
 
-mod constraint;
 mod scan;
-mod section;
-mod variable;
 
 // Checks the plan that the bytes hold: its figures, or its first fault and the fault's place.
 pub fn check_plan(plan: &[u8]) -> Checked

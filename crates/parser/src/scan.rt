@@ -1,22 +1,23 @@
 // The sections of a plan in turn.
-use crate::constraint;
-use crate::section;
-use crate::variable;
 use format::read;
 use plan::Checked;
 use plan::Decline;
 use plan::Fault;
 use plan::Figures;
 use plan::Verdict;
+use sections::constraint;
+use sections::section;
+use sections::variable;
 ghost use mathlib.Core.Path.{_≡_};
 ghost use Prim.Native.Nat.{_≤_};
 ghost use lib.ListN.{length, set};
 ghost use Rattle.format.specs.Format.{sectionStart};
 ghost use Rattle.network.specs.Network.{labelCount};
 ghost use Rattle.plan.specs.Check.{sectionChecks, firstFault, verdictOf};
-ghost use Rattle.plan.specs.Decode.{planOf, planEnd, sectionCount};
+ghost use Rattle.plan.specs.Decode.{planOf, planEnd};
 ghost use Rattle.plan.specs.Fault.{decline};
-ghost use Rattle.parser.specs.Known.{PassedBefore, VariablesKnown};
+ghost use Rattle.sections.specs.Known.{VariablesKnown};
+ghost use Rattle.parser.specs.Known.{PassedBefore};
 ghost use Rattle.plan.specs.Network.{networkOf};
 ghost use Rattle.parser.specs.Scan.{answerOf, trailingFault, sectionsFault};
 

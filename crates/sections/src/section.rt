@@ -1,0 +1,48 @@
+// What the checks of every kind of section share, and the checks of the head.
+use base::between;
+use format::read;
+use plan::Fault;
+use plan::Verdict;
+use reader::word_at;
+ghost use mathlib.Core.Path.{_≡_};
+ghost use Prim.Native.Nat.{_≤_};
+ghost use lib.ListN.{length};
+ghost use Rattle.plan.specs.Check.{complete as completeOf, headInRange, headChecks, firstFault, verdictOf};
+
+// Neither the section nor its length is cut off.
+pub fn complete(b: &[u8], at: usize) -> bool
+    requires { ⌜ at ≤ length (now b) ⌝ }
+    ensures { λ r. ⌜ r ≡ completeOf (now (b .entry)) at ⌝ }
+{
+    read::behind(b, at) <= b.len()
+}
+
+// p, n and the number of rules are in range.
+fn head_in_range(b: &[u8]) -> bool
+    ensures { λ r. ⌜ r ≡ headInRange (now (b .entry)) ⌝ }
+{
+    if !between(1, 8, read::worker_count(b)) {
+        return false;
+    }
+    if !between(1, 32, read::variable_count(b)) {
+        return false;
+    }
+    read::constraint_count(b) <= 128
+}
+
+// The head: 1, 3, 4.
+pub fn check_head(b: &[u8], at: usize) -> Verdict
+    requires { ⌜ at ≤ length (now b) ⌝ }
+    ensures { λ r. ⌜ r ≡ verdictOf (firstFault (headChecks (now (b .entry)) at)) ⌝ }
+{
+    if !complete(b, at) {
+        return Verdict::Fails(Fault::Truncated);
+    }
+    if word_at(b, at) != 3 {
+        return Verdict::Fails(Fault::BadLength);
+    }
+    if !head_in_range(b) {
+        return Verdict::Fails(Fault::BadCount);
+    }
+    Verdict::Passes
+}

@@ -1,0 +1,62 @@
+// The checks of a variable's section (document 01: a slot).
+use crate::section;
+use base::between;
+use format::read;
+use plan::Fault;
+use plan::Verdict;
+use reader::word_at;
+ghost use mathlib.Core.Path.{_≡_};
+ghost use Prim.Native.Nat.{_≤_};
+ghost use lib.ListN.{length};
+ghost use Rattle.plan.specs.Check.{repeatsCode, variableChecks, firstFault, verdictOf};
+
+// Some value's code stands earlier in the section: the scan ends at the first such value.
+fn repeats_code(b: &[u8], at: usize) -> bool
+    requires { ⌜ at ≤ length (now b) ⌝ }
+    ensures { λ r. ⌜ r ≡ repeatsCode (now (b .entry)) at ⌝ }
+{
+    let size = read::size(b, at);
+    let mut found = false;
+    let mut v = 0;
+    'scan: while v < size {
+        let code = read::code(b, at, v);
+        let mut u = 0;
+        while u < v {
+            if read::code(b, at, u) == code {
+                found = true;
+                break 'scan;
+            }
+            u += 1;
+        }
+        v += 1;
+    }
+    found
+}
+
+// A variable's section: 1, 3 (length under 2), 4, 3, 5, 6.
+pub fn check_variable(b: &[u8], at: usize) -> Verdict
+    requires { ⌜ at ≤ length (now b) ⌝ }
+    ensures { λ r. ⌜ r ≡ verdictOf (firstFault (variableChecks (now (b .entry)) at)) ⌝ }
+{
+    let length = word_at(b, at);
+    let size = read::size(b, at);
+    if !section::complete(b, at) {
+        return Verdict::Fails(Fault::Truncated);
+    }
+    if length < 2 {
+        return Verdict::Fails(Fault::BadLength); // no room for the count
+    }
+    if 16 < size {
+        return Verdict::Fails(Fault::BadCount);
+    }
+    if length != 2 + 4 * size {
+        return Verdict::Fails(Fault::BadLength);
+    }
+    if !between(1, read::worker_count(b), read::owner(b, at)) {
+        return Verdict::Fails(Fault::BadNumber);
+    }
+    if repeats_code(b, at) {
+        return Verdict::Fails(Fault::RepeatedCode);
+    }
+    Verdict::Passes
+}
