@@ -1,9 +1,10 @@
 // Reads in a slice of bytes, and rows of bits; as definitions, loops below a bound and updates too.
+ghost use mathlib.Core.Bool.{cond};
 ghost use mathlib.Core.Path.{_≡_};
 ghost use Prim.Native.Nat.{ℕ, _<_, _^_};
 ghost use Rattle.base.specs.Choice.{between as betweenOf};
 ghost use Rattle.base.specs.Bytes.{byteAt};
-ghost use Rattle.base.specs.Row.{rowCount};
+ghost use Rattle.base.specs.Row.{bit, rowCount};
 
 // A byte as a number.
 fn wide(x: u8) -> usize
@@ -25,6 +26,22 @@ pub fn power(k: usize) -> usize
     ensures { λ r. ⌜ r ≡ 2 ^ k ⌝ }
 {
     1 << k
+}
+
+// Whether a row holds value k.
+pub fn row_holds(row: usize, k: usize) -> bool
+    requires { ⌜ k < 64 ⌝ }
+    ensures { λ r. ⌜ r ≡ bit row k ⌝ }
+{
+    (row >> k) % 2 == 1
+}
+
+// The row of value k alone, or the empty row.
+pub fn row_if(held: bool, k: usize) -> usize
+    requires { ⌜ k < 64 ⌝ }
+    ensures { λ r. ⌜ r ≡ cond held (2 ^ k) 0 ⌝ }
+{
+    if held { power(k) } else { 0 }
 }
 
 // How many values a row holds, at any width that it fits. A row without a value counts 0, and any other one more than

@@ -1,7 +1,8 @@
 -- Stores, pushes and copies: what is at a point after them.
 use Prim.Native.Nat.{ℕ, zero, suc, _+_, _<_}
 use mathlib.Core.Bool.{Bool, true, false, cond, _&&_}
-use mathlib.Core.Path.{_≡_, refl, _∙_}
+use mathlib.Core.Path.{_≡_, refl, sym, _∙_, ap}
+use native.Mathlib.Numerals.{add-one}
 use borrow.Author.Tests.{eqb-true, eq-eqb, lt-ltb}
 use lib.Dec.{ltb, eqb}
 use Rattle.base.proofs.Bools.{and-left, and-right, and-intro, refuted}
@@ -58,3 +59,7 @@ unfolding copyM
 copy-other j i from zero m r a b h = refl
 copy-other j i from (suc n) m r a b h =
     push-other WORK TAIL i (copyM j i from n m LOG j (from + n)) (copyM j i from n m) r a b h ∙ copy-other j i from n m r a b h
+
+-- a recursion by steps has one step more
+pub one-more : (f : ℕ → Mem) (g : Mem → Mem) (k : ℕ) (m n : Mem) → f (suc k) ≡ g (f k) → m ≡ f k → n ≡ g m → n ≡ f (k + 1)
+one-more f g k m n e p q = q ∙ ap g p ∙ sym e ∙ ap f (sym (add-one k))

@@ -8,7 +8,7 @@ use lib.Dec.{ltb, eqb}
 use lib.ListN.{getD}
 use Rattle.base.specs.Below.{one}
 use Rattle.disac4.specs.Turn.{isSome}
-use Rattle.cells.specs.Layout.{regionAt, address}
+use Rattle.cells.specs.Layout.{BEHIND, regionAt, address}
 
 abbrev pub Mem : Type 0
 Mem = ℕ → ℕ → ℕ → ℕ
@@ -20,6 +20,10 @@ memOf cells r i j =
 
 abbrev pub store : Mem → ℕ → ℕ → ℕ → ℕ → Mem
 store m r i j v r′ i′ j′ = cond (eqb r′ r && eqb j′ j && eqb i′ i) v (m r′ i′ j′)
+
+-- the needed cells are 0
+unfoldable pub clearedM : Mem → Mem
+clearedM m r i j = cond (ltb r BEHIND) 0 (m r i j)
 
 -- what an action leaves: its result, or the memory as it was
 abbrev pub left : Mem → Option Mem → Mem

@@ -21,13 +21,14 @@ use Rattle.refinement.proofs.Behind.{cleared-memory}
 use Rattle.index.proofs.Chains.{indexed}
 use Rattle.index.specs.Index.{Ready, Indexed, indexM}
 use Rattle.cells.specs.Layout.{HEADS}
-use Rattle.counters.specs.Load.{clearedM, loadM}
+use Rattle.cells.specs.Memory.{clearedM}
+use Rattle.loading.specs.Load.{loadM}
 use Rattle.cells.specs.Memory.{Mem, memOf, left, changed, Acts}
 use Rattle.messages.specs.Messages.{sendM, answerM, readPollM, readListM}
 use Rattle.refinement.specs.Run.{freshTally, startM, readOn, workerOn, turnOn}
 use Rattle.controller.specs.Controller.{Machine, machine, Hears, hearM, pollM}
 use Rattle.refinement.specs.Step.{withMem, readM, workerM, stepM}
-use Rattle.counters.specs.Treat.{treatM}
+use Rattle.treating.specs.Treat.{treatM}
 use Rattle.controller.specs.declared.Heard.{Heard}
 use Rattle.plan.specs.Decode.{planFault, planOf}
 use Rattle.format.specs.Format.{workerCount}

@@ -1,12 +1,9 @@
 // A run: the plan is loaded, and turns are played one after the other.
 use cells::clear;
 use controller::Heard;
-use counters::load;
-use counters::treat;
 use disac4::ListCounter;
 use disac4::Tally;
 use disac4::Timestamp;
-use index::build;
 use refinement::Progress;
 ghost use mathlib.Core.Bool.{true, cond};
 ghost use mathlib.Core.List.{[], _∷_};
@@ -43,8 +40,8 @@ pub fn start(b: &[u8], cells: &mut [u16]) -> Tally
     ensures { λ r. ⌜ machine (now (cells .exit)) r ≡ startM (now (b .entry)) (memOf (now (cells .entry))) ⌝ }
 {
     clear::clear(cells);
-    build::index_plan(b, cells);
-    load::load_plan(b, cells);
+    indexing::index_plan(b, cells);
+    loading::load_plan(b, cells);
     fresh()
 }
 
@@ -67,7 +64,7 @@ fn work(b: &[u8], cells: &mut [u16], t: Tally, i: usize, d: usize) -> usize
     ensures { λ r. ⌜ Acts (workerOn (systemAt (now (b .entry))) t i d) (now (cells .entry)) (now (cells .exit)) r ⌝ }
 {
     if d == 9 {
-        return treat::treat(b, cells, i);
+        return treating::treat(b, cells, i);
     }
     if d == 10 {
         return messages::send(cells, i);

@@ -1,4 +1,2 @@
-// The plan's index in the work cells, and what it gives: allowed pairs, rows of supports, owners, rows of counters.
-pub mod build;
-pub mod pairs;
+// The plan's index in the work cells: what it is, and what it gives.
 pub mod parts;

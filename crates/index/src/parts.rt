@@ -1,13 +1,16 @@
-// What the index gives: a variable's owner, and the row of the counters of one variable against another.
+// What the index gives: a variable's owner and number of values, whether two are linked, and the row of their counters.
 use cells::layout;
 use format::read;
+ghost use mathlib.Core.List.{List};
 ghost use mathlib.Core.Path.{_≡_};
-ghost use Prim.Native.Nat.{_<_, _≤_};
+ghost use Prim.Native.Nat.{ℕ, _<_, _≤_};
 ghost use lib.ListN.{length};
 ghost use Rattle.disac4.specs.System.{systemOf};
 ghost use Rattle.plan.specs.Decode.{planOf};
 ghost use Rattle.format.specs.Format.{variableCount};
-ghost use Rattle.index.specs.Index.{Located};
+ghost use Rattle.plan.specs.Network.{shareConstraint};
+ghost use Rattle.plan.specs.WellFormed.{sizeOf};
+ghost use Rattle.index.specs.Index.{Indexed, Located, Ready};
 ghost use Rattle.cells.specs.Memory.{memOf};
 ghost use Rattle.cells.specs.View.{Numbered, counterRow};
 
@@ -30,4 +33,20 @@ pub fn counter_row(cells: &[u16], x: usize, y: usize) -> usize
     } else {
         2 * head - 1
     }
+}
+
+// Whether two variables share a constraint of the plan that the cells index.
+pub fn linked(cells: &[u16], x: usize, y: usize) -> bool
+    requires { ⌜ (x < 32) × (y < 32) × (24576 ≤ length (now cells)) ⌝ }
+    ensures { λ r. ⌜ ((b : List ℕ) → Indexed b (memOf (now (cells .entry))) → r ≡ shareConstraint (planOf b) x y) ⌝ }
+{
+    layout::get(cells, layout::HEADS, x, y) != 0
+}
+
+// How many values a variable has.
+pub fn size(b: &[u8], cells: &[u16], x: usize) -> usize
+    requires { ⌜ Ready (now b) (now cells) × (x < variableCount (now b)) ⌝ }
+    ensures { λ r. ⌜ (r ≡ sizeOf (planOf (now (b .entry))) x) × (r ≤ 16) ⌝ }
+{
+    read::size(b, layout::get(cells, layout::PLACES, 0, x + 1))
 }

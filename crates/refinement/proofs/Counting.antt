@@ -18,8 +18,8 @@ use Rattle.cells.specs.Layout.{WORKERS, LOG, WORK, DOMAIN, COUNTERS, HEADS, TAI
 use Rattle.cells.specs.Lists.{pushM, deleteM}
 use Rattle.cells.specs.Memory.{Mem, store}
 use Rattle.cells.specs.View.{LISTED, codeOf, counterRow}
-use Rattle.counters.proofs.Kept.{row-heads}
-use Rattle.counters.specs.Load.{countPairM, countAgainstM, countVariableM, listLabelM, listValuesM, loadVariableM, loadVariablesM, loadM}
+use Rattle.index.proofs.Kept.{row-heads}
+use Rattle.loading.specs.Load.{countPairM, countAgainstM, countVariableM, listLabelM, listValuesM, loadVariableM, loadVariablesM, loadM}
 use Rattle.index.specs.Index.{Paired}
 use Rattle.refinement.proofs.Frame.{SameHeads}
 use Rattle.refinement.proofs.Labelwise.{own-row}

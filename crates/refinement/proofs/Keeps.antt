@@ -13,7 +13,7 @@ use Rattle.disac4.specs.Turn.{Turn, treatNumber, sendNumber, answerNumber, poll
 use Rattle.cells.specs.Memory.{Mem}
 use Rattle.controller.specs.Controller.{Machine}
 use Rattle.refinement.specs.Step.{withMem, readM, workerM, stepM}
-use Rattle.counters.specs.Treat.{treatM}
+use Rattle.treating.specs.Treat.{treatM}
 use Rattle.refinement.proofs.Allowed.{WorkerMay, worker-may, controller-may, reads-other}
 use Rattle.refinement.proofs.Answering.{answer-keeps}
 use Rattle.refinement.proofs.Hearing.{hear-keeps}

@@ -13,7 +13,7 @@ use Rattle.disac4.specs.System.{System}
 use Rattle.network.specs.Network.{Label, label}
 use Rattle.cells.proofs.Stores.{store-same, store-other, store-apart}
 use Rattle.cells.specs.Layout.{WORKERS, LOG, WORK, DOMAIN, COUNTERS, HEADS, TAIL, LOGEND}
-use Rattle.counters.specs.Load.{listLabelM}
+use Rattle.loading.specs.Load.{listLabelM}
 use Rattle.cells.specs.Memory.{Mem, store}
 use Rattle.cells.specs.View.{LISTED, counterRow}
 use Rattle.refinement.proofs.Frames.{Apart, deleteIf, delete-if-apart}

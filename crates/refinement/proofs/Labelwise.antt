@@ -19,7 +19,7 @@ use Rattle.network.specs.Network.{Label, loaded}
 use Rattle.cells.specs.Layout.{WORKERS, LOG, WORK, DOMAIN, COUNTERS, HEADS, TAIL, LOGEND}
 use Rattle.cells.specs.Memory.{Mem}
 use Rattle.cells.specs.View.{counterRow}
-use Rattle.counters.proofs.Kept.{row-heads}
+use Rattle.index.proofs.Kept.{row-heads}
 use Rattle.refinement.proofs.Frame.{SameHeads}
 use Rattle.refinement.proofs.Frames.{Apart, domain-apart, deleteIf, delete-apart, delete-domain, delete-counter}
 use Rattle.refinement.proofs.Growing.{Both, both-none, both-more, Appends}

@@ -15,7 +15,7 @@ use Rattle.disac4.specs.Loading.{unsupported, loadedDeletions, load}
 use Rattle.disac4.specs.System.{System}
 use Rattle.network.specs.Network.{loaded}
 use Rattle.cells.specs.Layout.{WORKERS, CURSORS, BOUNDS, HEAD, TAIL, LOGEND, SENDS, LISTS, HELD, POLLS, OUTEND, OUTREAD}
-use Rattle.counters.specs.Load.{loadM}
+use Rattle.loading.specs.Load.{loadM}
 use Rattle.cells.specs.Memory.{Mem}
 use Rattle.refinement.specs.Inv.{Small, Row, Totals, Inv, listsOut}
 use Rattle.index.specs.Index.{Paired}

@@ -18,8 +18,9 @@ use Rattle.refinement.proofs.Loading.{Blank, load-refines}
 use Rattle.index.specs.Index.{Indexed, indexM}
 use Rattle.refinement.specs.Inv.{Small, Inv}
 use Rattle.cells.specs.Layout.{HEADS, BEHIND}
-use Rattle.counters.proofs.Kept.{load-variables-kept}
-use Rattle.counters.specs.Load.{clearedM, loadM}
+use Rattle.loading.proofs.Kept.{load-variables-kept}
+use Rattle.cells.specs.Memory.{clearedM}
+use Rattle.loading.specs.Load.{loadM}
 use Rattle.cells.specs.Memory.{Mem}
 use Rattle.refinement.specs.Run.{viewOf, startM}
 use Rattle.plan.specs.Decode.{planFault, planOf, decode, accepted, decodedAs}

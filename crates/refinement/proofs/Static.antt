@@ -18,8 +18,8 @@ use Rattle.controller.specs.Controller.{askM, askedT, asksT, hasOut, outReadM, 
 use Rattle.refinement.specs.Run.{playM}
 use Rattle.controller.specs.Controller.{Machine, hearM, pollM}
 use Rattle.refinement.specs.Step.{withMem, readM, workerM, stepM, afterM}
-use Rattle.counters.proofs.Kept.{touch-variables-kept}
-use Rattle.counters.specs.Treat.{treatM}
+use Rattle.treating.proofs.Kept.{touch-variables-kept}
+use Rattle.treating.specs.Treat.{treatM}
 
 -- a point of the index or behind
 module _ (r a b : ℕ) (h : HEADS ≤ r) where

@@ -16,7 +16,7 @@ use Rattle.cells.specs.Memory.{Mem}
 use Rattle.messages.specs.Messages.{readPollM, readListM}
 use Rattle.controller.specs.Controller.{Machine, hearM, pollM}
 use Rattle.refinement.specs.Step.{withMem, readM, workerM, stepM}
-use Rattle.counters.specs.Treat.{treatM}
+use Rattle.treating.specs.Treat.{treatM}
 use Rattle.cells.specs.View.{view}
 use Rattle.refinement.proofs.Allowed.{WorkerMay, worker-may, controller-may, reads-other}
 use Rattle.refinement.proofs.Answered.{answer-refines}

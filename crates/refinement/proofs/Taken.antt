@@ -18,7 +18,7 @@ use Rattle.cells.specs.Memory.{Mem}
 use Rattle.messages.specs.Messages.{letterEnd, takenM, readListM}
 use Rattle.controller.specs.Controller.{Machine}
 use Rattle.cells.specs.View.{LISTED, labelsBetween, listAt, counterRow, viewCounter, viewWork, viewSend, viewLists, viewLetters, viewChannel, view}
-use Rattle.counters.proofs.Kept.{row-heads}
+use Rattle.index.proofs.Kept.{row-heads}
 use Rattle.refinement.proofs.Actors.{at-worker, actors-update, counters-more, actors-same}
 use Rattle.refinement.proofs.Capacity.{bound-logged, logend-small, sends-few, lists-few}
 use Rattle.refinement.proofs.ChannelRows.{at-letters, Stays, Beside, channels-update}

@@ -18,8 +18,8 @@ use Rattle.network.specs.Network.{label, supports, Label}
 use Rattle.cells.proofs.Stores.{store-same, store-other}
 use Rattle.cells.specs.Layout.{DOMAIN, COUNTERS}
 use Rattle.cells.specs.Memory.{Mem, store}
-use Rattle.counters.proofs.Kept.{row-heads}
-use Rattle.counters.specs.Treat.{loseM, touchM, touchValuesM, touchVariableM, touchVariablesM}
+use Rattle.index.proofs.Kept.{row-heads}
+use Rattle.treating.specs.Treat.{loseM, touchM, touchValuesM, touchVariableM, touchVariablesM}
 use Rattle.cells.specs.View.{LISTED, counterRow, viewCounter, view}
 use Rattle.refinement.proofs.Frames.{Apart, deleteIf, delete-if-apart}
 use Rattle.refinement.proofs.Growing.{both-none, Appends, appends-if}

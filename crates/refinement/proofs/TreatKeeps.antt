@@ -22,7 +22,7 @@ use Rattle.network.specs.Network.{Label}
 use Rattle.cells.specs.Layout.{WORKERS, LOG, WORK, DOMAIN, HEAD, TAIL, LOGEND, SENDS, LISTS, OUTEND, OUTREAD}
 use Rattle.cells.specs.Memory.{Mem, store}
 use Rattle.controller.specs.Controller.{Machine}
-use Rattle.counters.specs.Treat.{treatM}
+use Rattle.treating.specs.Treat.{treatM}
 use Rattle.cells.specs.View.{LISTED, labelOf, view}
 use Rattle.refinement.proofs.Frame.{OnlyRow, Answered, worker-action, totals-kept}
 use Rattle.refinement.proofs.Growing.{Both, both-none, both-more}

@@ -25,8 +25,8 @@ use Rattle.cells.proofs.Stores.{store-same, store-other}
 use Rattle.cells.specs.Layout.{WORKERS, CURSORS, BOUNDS, LOG, WORK, OUT, WANTED, DOMAIN, COUNTERS, HEADS, HEAD, TAIL, LOGEND, SENDS}
 use Rattle.cells.specs.Memory.{Mem, store}
 use Rattle.controller.specs.Controller.{Machine}
-use Rattle.counters.proofs.Kept.{row-heads}
-use Rattle.counters.specs.Treat.{touchVariablesM, treatM}
+use Rattle.index.proofs.Kept.{row-heads}
+use Rattle.treating.specs.Treat.{touchVariablesM, treatM}
 use Rattle.cells.specs.View.{LISTED, labelOf, labelsBetween, counterRow, viewCounter, viewWork, viewSend, view}
 use Rattle.refinement.proofs.Actors.{at-worker, actors-update}
 use Rattle.refinement.proofs.Capacity.{log-room, tail-room, tail-small}

@@ -9,7 +9,7 @@ use Rattle.disac4.specs.declared.Tally.{Tally}
 use Rattle.controller.specs.Controller.{Machine, pollM, hearM}
 use Rattle.cells.specs.Memory.{Mem}
 use Rattle.messages.specs.Messages.{sendM, readListM, readPollM, answerM}
-use Rattle.counters.specs.Treat.{treatM}
+use Rattle.treating.specs.Treat.{treatM}
 
 abbrev pub withMem : Tally → Option Mem → Option Machine
 withMem t none = none

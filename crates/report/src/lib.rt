@@ -1,9 +1,10 @@
 // What a finished run gives: the list cells of its variables, and its report.
+use base::row_if;
 use cells::layout;
 use disac4::Report;
 use disac4::Status;
 use format::read;
-use index::pairs;
+use index::parts;
 use refinement::Progress;
 ghost use mathlib.Core.Bool.{cond};
 ghost use mathlib.Core.Path.{_≡_};
@@ -29,11 +30,11 @@ pub fn domain_row(b: &[u8], cells: &[u16], x: usize) -> usize
     requires { ⌜ Ready (now b) (now cells) × (x < variableCount (now b)) ⌝ }
     ensures { λ r. ⌜ (r ≡ rowOf (sizeOf (planOf (now (b .entry))) x) (λ v. eqb (memOf (now (cells .entry)) DOMAIN x v) LISTED)) × (r < 65536) ⌝ }
 {
-    let values = pairs::size(b, cells, x);
+    let values = parts::size(b, cells, x);
     let mut row = 0;
     let mut v = 0;
     while v < values {
-        row += pairs::part(layout::get(cells, layout::DOMAIN, x, v) == 65535, v);
+        row += row_if(layout::get(cells, layout::DOMAIN, x, v) == 65535, v);
         v += 1;
     }
     row

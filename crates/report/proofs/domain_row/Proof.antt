@@ -36,21 +36,21 @@ get-requires c κs =
     domain-fits (now (s .args .b)) (now (s .args .cells)) (s .pre .0) (s .args .x) (l .loop .v) (s .pre .1)
     (omega (arith, l .before .size .ensures))
 
-part-requires : tie.Need-part-requires Inv-loop μ-loop
-part-requires c κs = omega (arith, c .before .before .before .size .ensures)
+row-if-requires : tie.Need-row-if-requires Inv-loop μ-loop
+row-if-requires c κs = omega (arith, c .before .before .before .size .ensures)
 
 -- the row with value v in it or not
-more : (c : tie.After-part Inv-loop μ-loop)
-    → c .before .before .before .loop .row + c .part .result
+more : (c : tie.After-row-if Inv-loop μ-loop)
+    → c .before .before .before .loop .row + c .row-if .result
     ≡ rowOf (c .before .before .before .loop .v + 1)
     (isListed (memOf (now (c .before .before .before .before .before .before .before .args .cells)))
     (c .before .before .before .before .before .before .before .args .x))
 more c =
     let l = c .before .before .before in
     let s = l .before .before .before .before in
-    row-more (l .loop .v) (l .loop .row) (c .part .result) (isListed (memOf (now (s .args .cells))) (s .args .x))
+    row-more (l .loop .v) (l .loop .row) (c .row-if .result) (isListed (memOf (now (s .args .cells))) (s .args .x))
     (l .loop .inv .1)
-    (c .part .ensures ∙ ap (λ (n : ℕ). cond (eqb n LISTED) (2 ^ l .loop .v) 0) (c .before .get .ensures .0))
+    (c .row-if .ensures ∙ ap (λ (n : ℕ). cond (eqb n LISTED) (2 ^ l .loop .v) 0) (c .before .get .ensures .0))
 
 add-row : tie.Need-add-row Inv-loop μ-loop
 add-row c =
@@ -92,7 +92,7 @@ domain-row-spec =
     size-requires
     loop-holds
     get-requires
-    part-requires
+    row-if-requires
     add-row
     add-v
     loop-less

@@ -1,0 +1,62 @@
+-- `indexing::index_plan` writes the index of an accepted plan. Assumes nothing.
+use Prim.Native.Nat.{ℕ}
+use borrow.Author.Needs.{needs}
+use denote.Ref.{now}
+use mathlib.Core.List.{List}
+use mathlib.Core.Path.{_∙_, ap}
+use native.Mathlib.Omega.{arith}
+use Rattle.index.proofs.Chains.{places-at, chains-keep}
+use Rattle.index.proofs.Own.{located-kept}
+use Rattle.indexing.proofs.index_plan.Statement.{statement}
+use Rattle.indexing.proofs.index_plan.Tie as tie
+use Rattle.index.specs.Index.{Located, chainsM, ownM, indexM}
+use Rattle.cells.specs.Layout.{PLACES}
+use Rattle.cells.specs.Memory.{Mem, memOf}
+use Rattle.plan.specs.Decode.{sectionCount}
+use Rattle.format.specs.Format.{variableCount, constraintCount}
+
+index-places-requires : tie.Need-index-places-requires
+index-places-requires c κs = search needs
+
+-- the places are written
+module _ (p : tie.After-index-places) where
+  abbrev s : tie.Start
+  s = p .before .before .before .before
+
+  abbrev b : List ℕ
+  b = now (s .args .b)
+
+  written : Located b (p .index-places .last .1 .0)
+  written = record {
+    sound = s .pre .0;
+    places = λ k h.
+        ap (λ (m : Mem). m PLACES 0 k) (p .index-places .ensures)
+        ∙ places-at b (sectionCount b) (memOf (now (s .args .cells))) k h;
+    long = omega (arith, p .index-places .kept .1 .0, s .pre);
+  }
+
+index-chains-requires : tie.Need-index-chains-requires
+index-chains-requires c κs = written (c .before .before .before)
+
+index-own-requires : tie.Need-index-own-requires
+index-own-requires c κs =
+    let l = c .before .before .before in
+    let p = l .before .before .before .before in
+    located-kept (b p) (p .index-places .last .1 .0) (l .index-chains .last .1 .0) _ (written p) (l .index-chains .kept .1 .0)
+    (l .index-chains .ensures) (λ k. chains-keep (b p) (constraintCount (b p)) _ 0 k)
+
+same-length : tie.Need-same-length
+same-length c = search needs
+
+returns : tie.Need-returns
+unfolding indexM
+returns c =
+    let o = c .before .before in
+    let l = o .before .before .before .before in
+    let p = l .before .before .before .before in
+    o .index-own .ensures
+    ∙ ap (ownM (b p) (variableCount (b p)))
+    (l .index-chains .ensures ∙ ap (chainsM (b p) (constraintCount (b p))) (p .index-places .ensures))
+
+pub index-plan-spec : {M : Type 1} → statement M
+index-plan-spec = tie.close (tie.spec index-places-requires index-chains-requires index-own-requires same-length returns)

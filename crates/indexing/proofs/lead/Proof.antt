@@ -1,0 +1,62 @@
+-- `indexing::lead` puts a variable in front of a row's chain for another one that it is linked with. Assumes nothing.
+use borrow.Author.Needs.{needs}
+use denote.Ref.{now}
+use mathlib.Core.Path.{refl}
+use native.Mathlib.Omega.{arith}
+use Rattle.cells.proofs.Ranges.{may-put}
+use Rattle.cells.specs.Memory.{memOf}
+use Rattle.index.proofs.Own.{lead-passed, lead-put}
+use Rattle.indexing.proofs.lead.Statement.{statement}
+use Rattle.indexing.proofs.lead.Tie as tie
+
+get-requires : tie.Need-get-requires
+get-requires c κs = search needs
+
+get-requires-2 : tie.Need-get-requires-2
+get-requires-2 c κs = search needs
+
+put-requires : tie.Need-put-requires
+put-requires c κs = search needs
+
+add-put : tie.Need-add-put
+add-put c = search needs
+
+put-requires-2 : tie.Need-put-requires-2
+put-requires-2 c κs = may-put _ _ _ refl _ _ (omega (arith, c .before .before .before .put .kept .0))
+
+same-length : tie.Need-same-length
+same-length c = search needs
+
+returns : tie.Need-returns
+returns c =
+    let q = c .before .before in
+    let p = q .before .before .before .before in
+    let f = p .before .before in
+    let t = f .before .before in
+    let g = t .before in
+    let a = g .before .before .before .args in
+    lead-put (a .i) (a .x) (a .y) (memOf (now (a .cells))) _ _ _ _ (g .get .ensures .0) (t .if1 .taken) (f .get2 .ensures .0)
+    (p .put .ensures) (q .put2 .ensures)
+
+same-length-2 : tie.Need-same-length-2
+same-length-2 c = search needs
+
+returns-2 : tie.Need-returns-2
+returns-2 c =
+    let g = c .before in
+    let a = g .before .before .before .args in
+    lead-passed (a .i) (a .x) (a .y) (memOf (now (a .cells))) _ (g .get .ensures .0) (omega (arith, c .if1 .left))
+
+pub lead-spec : {M : Type 1} → statement M
+lead-spec =
+    tie.close
+    (tie.spec
+    get-requires
+    get-requires-2
+    put-requires
+    add-put
+    put-requires-2
+    same-length
+    returns
+    same-length-2
+    returns-2)

@@ -1,0 +1,119 @@
+// Writes the index of an accepted plan into the work cells: where its sections start, the constraints over each two variables as
+// a chain, and the variables of each worker that are linked with another one as a chain too.
+use cells::layout;
+use format::read;
+use index::parts;
+ghost use mathlib.Core.Option.{none};
+ghost use mathlib.Core.Path.{_≡_};
+ghost use Prim.Native.Nat.{_<_, _≤_};
+ghost use lib.ListN.{length};
+ghost use Rattle.index.specs.Index.{Located, placesM, linkM, chainsM, noneM, leadM, leadsM, ownM, indexM};
+ghost use Rattle.cells.specs.Memory.{memOf};
+ghost use Rattle.plan.specs.Decode.{planFault, sectionCount};
+ghost use Rattle.format.specs.Format.{variableCount, constraintCount};
+
+// Where each section starts.
+fn index_places(b: &[u8], cells: &mut [u16])
+    requires { ⌜ (planFault (now b) ≡ none) × (24576 ≤ length (now cells)) ⌝ }
+    ensures { λ _. ⌜ memOf (now (cells .exit)) ≡ placesM (now (b .entry)) (sectionCount (now (b .entry))) (memOf (now (cells .entry))) ⌝ }
+{
+    let count = 1 + read::variable_count(b) + read::constraint_count(b);
+    let mut at = 1;
+    let mut k = 0;
+    while k < count {
+        layout::put(cells, layout::PLACES, 0, k, at);
+        at = read::behind(b, at);
+        k += 1;
+    }
+}
+
+// Puts constraint c in front of the chain of x and y.
+fn link(cells: &mut [u16], x: usize, y: usize, c: usize)
+    requires { ⌜ (x < 32) × (y < 32) × (c < 128) × (24576 ≤ length (now cells)) ⌝ }
+    ensures { λ _. ⌜ memOf (now (cells .exit)) ≡ linkM x y c (memOf (now (cells .entry))) ⌝ }
+{
+    let head = layout::get(cells, layout::HEADS, x, y);
+    layout::put(cells, layout::NEXT, 0, c, head);
+    layout::put(cells, layout::HEADS, x, y, c + 1);
+    layout::put(cells, layout::HEADS, y, x, c + 1);
+}
+
+// The chains, from the first constraint to the last.
+fn index_chains(b: &[u8], cells: &mut [u16])
+    requires { ⌜ Located (now b) (now cells) ⌝ }
+    ensures { λ _. ⌜ memOf (now (cells .exit)) ≡ chainsM (now (b .entry)) (constraintCount (now (b .entry))) (memOf (now (cells .entry))) ⌝ }
+{
+    let variables = read::variable_count(b);
+    let count = read::constraint_count(b);
+    let mut c = 0;
+    while c < count {
+        let at = layout::get(cells, layout::PLACES, 0, variables + c + 1);
+        link(
+            cells,
+            constraints::first(b, at) - 1,
+            constraints::second(b, at) - 1,
+            c,
+        );
+        c += 1;
+    }
+}
+
+// No row has a first variable yet.
+fn index_none(cells: &mut [u16])
+    requires { ⌜ 24576 ≤ length (now cells) ⌝ }
+    ensures { λ _. ⌜ memOf (now (cells .exit)) ≡ noneM 256 (memOf (now (cells .entry))) ⌝ }
+{
+    let mut k = 0;
+    while k < 256 {
+        layout::put(cells, layout::FIRST, k / 32, k % 32, 0);
+        k += 1;
+    }
+}
+
+// Puts variable x in front of the chain of row i for y, if it is linked with y.
+fn lead(cells: &mut [u16], i: usize, x: usize, y: usize)
+    requires { ⌜ (i < 8) × (x < 32) × (y < 32) × (24576 ≤ length (now cells)) ⌝ }
+    ensures { λ _. ⌜ memOf (now (cells .exit)) ≡ leadM i x y (memOf (now (cells .entry))) ⌝ }
+{
+    if layout::get(cells, layout::HEADS, x, y) != 0 {
+        let first = layout::get(cells, layout::FIRST, i, y);
+        layout::put(cells, layout::FOLLOW, x, y, first);
+        layout::put(cells, layout::FIRST, i, y, x + 1);
+    }
+}
+
+// The same for each of the first n variables.
+fn leads(cells: &mut [u16], i: usize, x: usize, n: usize)
+    requires { ⌜ (i < 8) × (x < 32) × (n ≤ 32) × (24576 ≤ length (now cells)) ⌝ }
+    ensures { λ _. ⌜ memOf (now (cells .exit)) ≡ leadsM i x n (memOf (now (cells .entry))) ⌝ }
+{
+    let mut y = 0;
+    while y < n {
+        lead(cells, i, x, y);
+        y += 1;
+    }
+}
+
+// The chains of the workers' own variables, from the last variable to the first, so that they ascend.
+fn index_own(b: &[u8], cells: &mut [u16])
+    requires { ⌜ Located (now b) (now cells) ⌝ }
+    ensures { λ _. ⌜ memOf (now (cells .exit)) ≡ ownM (now (b .entry)) (variableCount (now (b .entry))) (memOf (now (cells .entry))) ⌝ }
+{
+    index_none(cells);
+    let n = read::variable_count(b);
+    let mut x = n;
+    while x != 0 {
+        x -= 1;
+        leads(cells, parts::owner(b, cells, x) - 1, x, n);
+    }
+}
+
+// Writes the index of an accepted plan.
+pub fn index_plan(b: &[u8], cells: &mut [u16])
+    requires { ⌜ (planFault (now b) ≡ none) × (24576 ≤ length (now cells)) ⌝ }
+    ensures { λ _. ⌜ memOf (now (cells .exit)) ≡ indexM (now (b .entry)) (memOf (now (cells .entry))) ⌝ }
+{
+    index_places(b, cells);
+    index_chains(b, cells);
+    index_own(b, cells);
+}

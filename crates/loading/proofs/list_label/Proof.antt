@@ -1,0 +1,85 @@
+-- `loading::list_label` puts a label into its domain, or deletes it. Assumes nothing.
+use borrow.Author.Needs.{needs}
+use borrow.Author.Tests.{not-true, not-false}
+use mathlib.Core.Path.{refl, sym, _∙_}
+use native.Mathlib.Omega.{arith}
+use denote.Ref.{now}
+use Rattle.disac4.specs.System.{systemOf}
+use Rattle.plan.specs.Decode.{planOf}
+use Rattle.index.proofs.Kept.{ready-kept, stored, same}
+use Rattle.index.proofs.Labels.{located, label-small}
+use Rattle.loading.proofs.LoadLaws.{label-deleted, label-kept}
+use Rattle.cells.proofs.Ranges.{may-put}
+use Rattle.cells.specs.Layout.{DOMAIN}
+use Rattle.cells.specs.View.{LISTED}
+use Rattle.loading.proofs.list_label.Statement.{statement}
+use Rattle.loading.proofs.list_label.Tie as tie
+
+put-requires : tie.Need-put-requires
+put-requires c κs =
+    let s = c .before .before .before in
+    may-put _ _ _ refl _ _
+    (omega (arith, s .pre .0 .long, label-small (now (s .args .b)) (s .pre .0 .sound) (s .args .x) (s .args .v) (s .pre .1)))
+
+owner-requires : tie.Need-owner-requires
+owner-requires c κs =
+    let p = c .before .before .before .before in
+    let s = p .before .before .before .before in (
+      located (now (s .args .b)) _
+          (ready-kept (now (s .args .b)) (now (s .args .cells)) _ (s .pre .0) (p .put .kept .0) (p .put .ensures)
+          (stored DOMAIN (s .args .x) (s .args .v) LISTED (omega arith) same)),
+      s .pre .1 .variable,
+    )
+
+sub-delete : tie.Need-sub-delete
+sub-delete c = search needs
+
+delete-requires : tie.Need-delete-requires
+delete-requires c κs =
+    let p = c .before .before .before .before .before .before in
+    let s = p .before .before .before .before in
+    omega (
+      arith,
+      s .pre .0 .long,
+      p .put .kept .0,
+      label-small (now (s .args .b)) (s .pre .0 .sound) (s .args .x) (s .args .v) (s .pre .1),
+      c .before .owner .ensures,
+    )
+
+same-length : tie.Need-same-length
+same-length c = search needs
+
+returns : tie.Need-returns
+returns c =
+    let o = c .before .before .before .before in
+    let t = o .before .before in
+    let p = t .before .before .before in
+    let s = p .before .before .before .before in
+    let a = s .args in
+    label-deleted (systemOf (planOf (now (a .b)))) (a .x) (a .v) _ _ (p .put .ensures) _ _
+    (not-false _ (sym (s .pre .2) ∙ not-true _ (t .if1 .taken)))
+    (o .owner .ensures .0) (c .before .before .delete .ensures)
+
+same-length-2 : tie.Need-same-length-2
+same-length-2 c = search needs
+
+returns-2 : tie.Need-returns-2
+returns-2 c =
+    let p = c .before .before .before in
+    let s = p .before .before .before .before in
+    let a = s .args in
+    label-kept (systemOf (planOf (now (a .b)))) (a .x) (a .v) _ _ (p .put .ensures)
+    (not-true _ (sym (s .pre .2) ∙ not-false _ (c .if1 .left)))
+
+pub list-label-spec : {M : Type 1} → statement M
+list-label-spec =
+    tie.close
+    (tie.spec
+    put-requires
+    owner-requires
+    sub-delete
+    delete-requires
+    same-length
+    returns
+    same-length-2
+    returns-2)

@@ -1,0 +1,191 @@
+-- The rows of values that the constraints of a chain permit, and the row that they leave together.
+use Prim.Native.Nat.{ℕ, suc, _+_, _-_, _*_, _/_, _%_, _^_, _<_, _≤_}
+use mathlib.Core.Bool.{Bool, true, false, _&&_, _||_, not}
+use mathlib.Core.List.{List}
+use mathlib.Core.Logic.{⊎-elim}
+use mathlib.Core.Option.{none}
+use mathlib.Core.Path.{_≡_, refl, sym, _∙_, ap, ap₂, subst}
+use native.Mathlib.Nat.{add-comm, mul-le-mul-right}
+use native.Mathlib.Omega.{arith}
+use borrow.Author.Tests.{ltb-true, ltb-false}
+use lib.Bits.{bitAnd, and-le-l}
+use lib.Dec.{leb, ltb, eqb}
+use lib.Pow.{pow-pos}
+use Rattle.base.proofs.Bools.{decided, and-comm, or-comm}
+use Rattle.base.proofs.Choice.{cond-true, cond-false}
+use Rattle.base.proofs.Row.{bit-and, bit-low, bit-high, row-bit, row-doubled, row-ext, row-full, row-of-bits}
+use Rattle.base.specs.Below.{one}
+use Rattle.base.specs.Bytes.{byteAt, wordAt}
+use Rattle.base.specs.Row.{bit, rowOf}
+use Rattle.format.specs.Format.{variableCount, constraintCount, kindAt, tableRowAt, tableByteAt, limitAt, figureAt}
+use Rattle.index.proofs.Chains.{and-true, over-turned}
+use Rattle.index.proofs.Permitted.{acceptsAt, Placed, Along, along-start, along-next, Rest, rest-start, rest-next, permits-table, permits-limit, permitted, row-low}
+use Rattle.index.specs.Allowed.{permitsAt, permitsFrom, limited, inColumn, Listed}
+use Rattle.index.specs.Index.{over, chainBelow}
+use Rattle.plan.proofs.Limits.{unrecorded-allows}
+use Rattle.plan.specs.Decode.{planFault, planOf}
+use Rattle.plan.specs.Network.{unrecorded, withinLimit, permits, joins, accepts, pairAllowed}
+use Rattle.plan.specs.WellFormed.{constraintOf}
+
+-- ---- a row that is put together from its highest value down
+
+-- the row holds the values from `n` on that pass the test, counted from there; those below `n` make it whole
+pub record Upper (t : ℕ → Bool) (values row n : ℕ) : Type 0 where
+  pub low : n ≤ values
+  pub whole : row * 2 ^ n + rowOf n t ≡ rowOf values t
+
+module _ (t : ℕ → Bool) (values : ℕ) where
+  pub upper-start : Upper t values 0 values
+  upper-start = record { low = omega arith; whole = omega arith }
+
+  -- the value that is next
+  pub upper-here : (row n : ℕ) → (n ≡ 0 → ⊥) → Upper t values row n → Upper t values row (suc (n - 1))
+  upper-here row n h u = subst (Upper t values row) (omega arith) u
+
+  pub upper-next : (row n : ℕ) → Upper t values row (suc n) → (p : ℕ) → p ≡ one (t n) → Upper t values (2 * row + p) n
+  upper-next row n u p e =
+      rw e (record { low = omega (arith, u .low); whole = row-doubled n row t ∙ u .whole })
+
+  pub upper-small : (row n : ℕ) → values ≤ 16 → Upper t values row n → row < 65536
+  upper-small row n h u = omega (arith, u .whole, row-low values t h, mul-le-mul-right row (pow-pos n))
+
+  pub upper-all : (row n : ℕ) → n ≡ 0 → Upper t values row n → row ≡ rowOf values t
+  unfolding rowOf
+  upper-all row n e u = omega (arith, rw e at (u .whole))
+
+-- ---- the row of one constraint
+
+-- a limit judges two figures in either order
+limit-turned : (limit f g : ℕ) → withinLimit limit f g ≡ withinLimit limit g f
+unfolding withinLimit
+limit-turned limit f g =
+    ap₂ _||_ (or-comm (unrecorded f) (unrecorded g)) (ap (λ (k : ℕ). leb k limit) (add-comm f g))
+
+-- with a figure that is not recorded, a limit permits all values
+pub limit-free : (b : List ℕ) (limit place n p f : ℕ) → f ≡ 65535 → p ≡ 2 ^ n → p - 1 ≡ rowOf n (limited b limit f place)
+unfolding limited
+limit-free b limit place n p f e q =
+    rw (e, q)
+    (row-full n
+    ∙ row-ext n (λ w. true) (limited b limit 65535 place) (λ w h. sym (unrecorded-allows limit (figureAt b place w) .0)))
+
+module _ (b : List ℕ) (at here v there : ℕ) where
+  -- a limit's row, from either variable
+  pub limit-bits : eqb (kindAt b at) 0 ≡ false → (leads : Bool) (limit f n r : ℕ) → limit ≡ limitAt b at → f ≡ figureAt b here v
+      → r ≡ rowOf n (limited b limit f there) → (w : ℕ) → w < n → bit r w ≡ permitsFrom b at leads here v there w
+  unfolding permitsFrom limited
+  limit-bits p leads limit f n r e₁ e₂ e₃ w h = go leads
+    where
+      judged : bit r w ≡ withinLimit limit f (figureAt b there w)
+      judged = ap (λ (k : ℕ). bit k w) e₃ ∙ row-bit n (limited b limit f there) w h
+
+      go : (leads : Bool) → bit r w ≡ permitsFrom b at leads here v there w
+      go true = permits-limit b at here v there w (bit r w) p limit f (figureAt b there w) e₁ e₂ refl judged
+      go false =
+          permits-limit b at there w here v (bit r w) p limit (figureAt b there w) f e₁ refl e₂
+          (judged ∙ limit-turned limit f (figureAt b there w))
+
+  module _ (p : eqb (kindAt b at) 0 ≡ true) where
+    -- a table's row, from its first variable
+    pub table-bits : (r : ℕ) → r ≡ tableRowAt b at v → (w : ℕ) → bit r w ≡ permitsFrom b at true here v there w
+    unfolding permitsFrom
+    table-bits r e w = permits-table b at here v there w (bit r w) p r e refl
+
+    -- a table's column, from its second
+    pub column-bits : (n r : ℕ) → r ≡ rowOf n (inColumn b at v) → (w : ℕ) → w < n
+        → bit r w ≡ permitsFrom b at false here v there w
+    unfolding permitsFrom inColumn
+    column-bits n r e w h =
+        permits-table b at there w here v (bit r w) p (tableRowAt b at w) refl
+        (ap (λ (k : ℕ). bit k w) e ∙ row-bit n (inColumn b at v) w h)
+
+-- ---- a table's column, by one byte of each row
+
+-- values below 8 stand in the low byte, the others in the high one
+pub column-byte : (b : List ℕ) → ((i : ℕ) → byteAt b i < 256) → (at v : ℕ) → v < 16 → (w : ℕ)
+    → bit (tableByteAt b at w (1 - v / 8)) (v % 8) ≡ inColumn b at v w
+unfolding inColumn wordAt
+column-byte b bytes at v h w =
+    ⊎-elim
+    (λ l.
+    let below : v < 8 = ltb-true v 8 l in
+    let e : 1 - v / 8 ≡ 1 = omega arith in
+    let f : v % 8 ≡ v = omega arith in
+    ap₂ (λ (half k : ℕ). bit (tableByteAt b at w half) k) e f
+    ∙ sym (bit-low 8 (byteAt b (at + 5 + 2 * w)) (byteAt b (at + 5 + 2 * w + 1)) v below))
+    (λ l.
+    let past : 8 ≤ v = ltb-false v 8 l in
+    let e : at + 5 + 2 * w + (1 - v / 8) ≡ at + 5 + 2 * w = omega arith in
+    let f : v ≡ 8 + v % 8 = omega arith in
+    ap (λ (i : ℕ). bit (byteAt b i) (v % 8)) e
+    ∙ sym
+    (ap (bit (tableRowAt b at w)) f
+    ∙ bit-high 8 (byteAt b (at + 5 + 2 * w)) (byteAt b (at + 5 + 2 * w + 1)) (v % 8) (bytes (at + 5 + 2 * w + 1))))
+    (decided (ltb v 8))
+
+-- ---- a constraint of the chain, from either of its variables
+
+accepts-turned : (b : List ℕ) (x v y w c : ℕ) → acceptsAt b x v y w c ≡ acceptsAt b y w x v c
+unfolding accepts
+accepts-turned b x v y w c = and-comm (spares x v y w) (spares y w x v)
+  where
+    spares : ℕ → ℕ → ℕ → ℕ → Bool
+    spares x v y w =
+        not (joins (constraintOf (planOf b) c) x y) || permits (planOf b) (constraintOf (planOf b) c .relation) x v y w
+
+-- read at its place, it accepts the pair where it permits it
+pub permitted-from : (b : List ℕ) → planFault b ≡ none → (c x v y w at here there : ℕ)
+    → Placed b at (suc (variableCount b + c)) → Placed b here (suc x) → Placed b there (suc y)
+    → c < constraintCount b → over b x y c ≡ true → Listed b x v → Listed b y w
+    → permitsFrom b at (ltb x y) here v there w ≡ acceptsAt b x v y w c
+unfolding permitsFrom
+permitted-from b none-found c x v y w at here there p q r h o one other =
+    ⊎-elim
+    (λ l.
+    cond-true (permitsAt b at here v there w) (permitsAt b at there w here v) l
+    ∙ permitted b none-found c x v y w at here there p q r h o (omega (arith, ltb-true x y l)) one other)
+    (λ l.
+    cond-false (permitsAt b at here v there w) (permitsAt b at there w here v) l
+    ∙ permitted b none-found c y w x v at there here p r q h (over-turned b y x c ∙ o) (ltb-false x y l) other one
+    ∙ accepts-turned b y w x v c)
+    (decided (ltb x y))
+
+-- ---- the row that the constraints of a chain leave
+
+-- of the first `values` of `y`, the row holds those that the constraints behind the walk permit
+pub record Left (b : List ℕ) (x v y values row n : ℕ) : Type 0 where
+  pub along : Along b x y n
+  pub small : row < 2 ^ values
+  pub rest : (w : ℕ) → w < values → Rest b x v y w (bit row w) n
+
+module _ (b : List ℕ) (x v y values : ℕ) where
+  -- at first, all of them
+  pub left-start : (p : ℕ) → p ≡ 2 ^ values → (n : ℕ) → n ≡ chainBelow b x y (constraintCount b) → Left b x v y values (p - 1) n
+  left-start p q n e =
+      rw q
+      (record {
+        along = along-start b x y n e;
+        small = omega (arith, pow-pos values);
+        rest = λ w h. rw (row-full values, row-bit values (λ u. true) w h) (rest-start b x v y w n e);
+      })
+
+  -- then those that the next constraint permits too
+  pub left-next : (row c : ℕ) → Left b x v y values row (suc c) → (r : ℕ)
+      → ((w : ℕ) → w < values → bit r w ≡ acceptsAt b x v y w c) → (n : ℕ) → n ≡ chainBelow b x y c
+      → Left b x v y values (bitAnd row r) n
+  left-next row c a r f n e = record {
+    along = along-next b x y c (a .along) n e;
+    small = omega (arith, and-le-l row r, a .small);
+    rest = λ w h.
+        rest-next b x v y w (bit row w) c (a .rest w h) (bit (bitAnd row r) w)
+        (bit-and row r w ∙ ap (λ (t : Bool). bit row w && t) (f w h)) n e;
+  }
+
+  pub left-here : (row n : ℕ) → (n ≡ 0 → ⊥) → Left b x v y values row n → Left b x v y values row (suc (n - 1))
+  left-here row n h a = subst (Left b x v y values row) (omega arith) a
+
+  -- in the end, the allowed ones
+  pub left-all : (row : ℕ) → Left b x v y values row 0 → row ≡ rowOf values (pairAllowed (planOf b) x v y)
+  left-all row a =
+      sym (row-of-bits values row (a .small))
+      ∙ row-ext values (bit row) (pairAllowed (planOf b) x v y) (λ w h. sym (a .rest w h ∙ and-true (bit row w) refl))

@@ -1,0 +1,134 @@
+// Which pairs of values an accepted plan allows, read through its index in the work cells.
+use base::power;
+use base::row_count;
+use base::row_holds;
+use base::row_if;
+use cells::layout;
+use format::read;
+use index::parts;
+ghost use mathlib.Core.Bool.{true};
+ghost use mathlib.Core.List.{List};
+ghost use mathlib.Core.Path.{_≡_};
+ghost use Prim.Native.Nat.{ℕ, _^_, _<_, _≤_};
+ghost use lib.ListN.{length};
+ghost use Rattle.base.specs.Row.{bit, rowOf};
+ghost use Rattle.index.specs.Allowed.{permitsFrom, limited, inColumn, Listed};
+ghost use Rattle.index.specs.Index.{Indexed, Ready};
+ghost use Rattle.cells.specs.Memory.{memOf};
+ghost use Rattle.network.specs.Network.{supports, supportCount};
+ghost use Rattle.plan.specs.Decode.{planOf};
+ghost use Rattle.format.specs.Format.{variableCount};
+ghost use Rattle.plan.specs.Network.{withinLimit, shareConstraint, pairAllowed, networkOf};
+ghost use Rattle.plan.specs.WellFormed.{sizeOf};
+
+// Whether a limit permits figure g with the recorded figure f; 65,535 is no recorded figure, and then nothing is judged.
+fn permits_figure(limit: usize, f: usize, g: usize) -> bool
+    requires { ⌜ (f < 65535) × (g < 65536) ⌝ }
+    ensures { λ r. ⌜ r ≡ withinLimit limit f g ⌝ }
+{
+    if g == 65535 {
+        return true;
+    }
+    f + g <= limit
+}
+
+// The row of the values of the variable at `place` whose figures a limit permits with figure f; it has `values` of them.
+// A figure that is not recorded goes with all of them. From the last one down the row is doubled: that is quicker than
+// to shift each bit to its place.
+fn limit_row(b: &[u8], limit: usize, f: usize, place: usize, values: usize) -> usize
+    requires { ⌜ (place ≤ length (now b)) × (f < 65536) × (values ≤ 16) ⌝ }
+    ensures { λ r. ⌜ r ≡ rowOf values (limited (now (b .entry)) limit f place) ⌝ }
+{
+    if f == 65535 {
+        return power(values) - 1;
+    }
+    let mut row = 0;
+    let mut w = values;
+    while w != 0 {
+        w -= 1;
+        row = 2 * row + row_if(permits_figure(limit, f, read::figure(b, place, w)), 0);
+    }
+    row
+}
+
+// The row of the values of a table's first variable whose rows hold value v of the second; it has `values` of them.
+// It is doubled in the same way. Value v stands in one byte of each row, so the other is not read.
+fn table_column(b: &[u8], at: usize, v: usize, values: usize) -> usize
+    requires { ⌜ (at ≤ length (now b)) × (v < 16) × (values ≤ 16) ⌝ }
+    ensures { λ r. ⌜ r ≡ rowOf values (inColumn (now (b .entry)) at v) ⌝ }
+{
+    let half = 1 - v / 8;
+    let k = v % 8;
+    let mut row = 0;
+    let mut w = values;
+    while w != 0 {
+        w -= 1;
+        row = 2 * row + row_if(row_holds(constraints::table_byte(b, at, w, half), k), 0);
+    }
+    row
+}
+
+// The row of the values that the constraint at `at` permits with value v of the variable at `here`, which is its
+// first where `leads`; the other variable, at `there`, has `values` of them. A table's row for v is read at once.
+fn constraint_row(
+    b: &[u8],
+    at: usize,
+    leads: bool,
+    here: usize,
+    v: usize,
+    there: usize,
+    values: usize,
+) -> usize
+    requires { ⌜ (at ≤ length (now b)) × (here ≤ length (now b)) × (there ≤ length (now b)) × (v < 16) × (values ≤ 16) ⌝ }
+    ensures { λ r. ⌜ ((w : ℕ) → w < values → bit r w ≡ permitsFrom (now (b .entry)) at leads here v there w) ⌝ }
+{
+    if constraints::kind(b, at) != 0 {
+        return limit_row(
+            b,
+            constraints::limit(b, at),
+            read::figure(b, here, v),
+            there,
+            values,
+        );
+    }
+    if leads {
+        return constraints::table_row(b, at, v);
+    }
+    table_column(b, at, v, values)
+}
+
+// The row of the supports of value v of x against y, which shares a constraint with x: the values that each
+// constraint along their chain permits.
+pub fn support_row(b: &[u8], cells: &[u16], x: usize, v: usize, y: usize) -> usize
+    requires { ⌜ Ready (now b) (now cells) × Listed (now b) x v × (shareConstraint (planOf (now b)) x y ≡ true) ⌝ }
+    ensures { λ r. ⌜ r ≡ rowOf (sizeOf (planOf (now (b .entry))) y) (supports (networkOf (planOf (now (b .entry)))) x v y) ⌝ }
+{
+    let variables = read::variable_count(b);
+    let here = layout::get(cells, layout::PLACES, 0, x + 1);
+    let there = layout::get(cells, layout::PLACES, 0, y + 1);
+    let values = parts::size(b, cells, y);
+    let mut row = power(values) - 1;
+    let mut next = layout::get(cells, layout::HEADS, x, y);
+    while next != 0 {
+        let at = layout::get(cells, layout::PLACES, 0, variables + next);
+        row = row & constraint_row(b, at, x < y, here, v, there, values);
+        next = layout::get(cells, layout::NEXT, 0, next - 1);
+    }
+    row
+}
+
+// How many values of y support value v of x.
+pub fn support_count(b: &[u8], cells: &[u16], x: usize, v: usize, y: usize) -> usize
+    requires { ⌜ Ready (now b) (now cells) × Listed (now b) x v × (shareConstraint (planOf (now b)) x y ≡ true) ⌝ }
+    ensures { λ r. ⌜ (r ≡ supportCount (networkOf (planOf (now (b .entry)))) x v y) × (r ≤ 16) ⌝ }
+{
+    row_count(support_row(b, cells, x, v, y))
+}
+
+// Whether value v of x and value w of y may stand together, where the two share a constraint.
+pub fn pair_allowed(b: &[u8], cells: &[u16], x: usize, v: usize, y: usize, w: usize) -> bool
+    requires { ⌜ Ready (now b) (now cells) × Listed (now b) x v × Listed (now b) y w × (shareConstraint (planOf (now b)) x y ≡ true) ⌝ }
+    ensures { λ r. ⌜ r ≡ pairAllowed (planOf (now (b .entry))) x v y w ⌝ }
+{
+    row_holds(support_row(b, cells, x, v, y), w)
+}

@@ -1,0 +1,241 @@
+-- Laws that the code of a treatment meets its definitions in memory by.
+use Prim.Native.Nat.{ℕ, zero, suc, _+_, _-_, _/_, _%_, _<_, _≤_}
+use mathlib.Core.Bool.{Bool, true, false, cond}
+use mathlib.Core.List.{List}
+use mathlib.Core.Logic.{⊎-elim}
+use mathlib.Core.Option.{none, some}
+use mathlib.Core.Path.{_≡_, refl, sym, _∙_, ap}
+use native.Mathlib.Numerals.{add-one}
+use native.Mathlib.Omega.{arith}
+use borrow.Author.Tests.{lt-ltb, le-ltb, eq-eqb, ne-eqb, eqb-true}
+use lib.Dec.{eqb}
+use Rattle.base.proofs.Bools.{decided, and-false}
+use Rattle.base.proofs.Choice.{cond-true, cond-false}
+use Rattle.base.proofs.Row.{row-bit}
+use Rattle.base.specs.Row.{isOdd, bit, rowOf}
+use Rattle.disac4.specs.System.{System, systemOf}
+use Rattle.network.specs.Network.{supports}
+use Rattle.plan.proofs.Pairs.{allowed-symmetric}
+use Rattle.plan.specs.Decode.{planOf}
+use Rattle.format.specs.Format.{variableCount}
+use Rattle.plan.specs.Network.{pairAllowed, shareConstraint, networkOf}
+use Rattle.plan.specs.WellFormed.{sizeOf}
+use Rattle.index.proofs.Labels.{own-linked}
+use Rattle.index.proofs.Permitted.{supports-allowed}
+use Rattle.index.proofs.Own.{next-none, next-here, next-past, next-above}
+use Rattle.index.specs.Allowed.{Listed}
+use Rattle.index.specs.Index.{owns, ownLinked, nextOwn}
+use Rattle.cells.proofs.Stores.{one-more}
+use Rattle.cells.specs.Layout.{WORKERS, WORK, DOMAIN, COUNTERS, HEAD, TAIL}
+use Rattle.cells.specs.Lists.{deleteM}
+use Rattle.cells.specs.Memory.{Mem, store}
+use Rattle.treating.specs.Treat.{Supported, loseM, touchM, touchValuesM, touchVariableM, touchVariablesM, treatM}
+use Rattle.cells.specs.View.{LISTED, counterRow}
+
+-- ---- a loop makes one step more
+
+-- ---- a count goes down
+
+module _ (i x v y r n : ℕ) (m m₁ : Mem) (row : r ≡ counterRow m x y) (count : n ≡ m COUNTERS r v) where
+  counted : n ≡ m COUNTERS (counterRow m x y) v
+  counted = count ∙ ap (λ (k : ℕ). m COUNTERS k v) row
+
+  pub lost-last : (m₂ : Mem) → n ≤ 1 → m₁ ≡ store m COUNTERS r v 0 → m₂ ≡ deleteM i x v m₁ → m₂ ≡ loseM i x v y m
+  unfolding loseM
+  lost-last m₂ h p q =
+      let z : m COUNTERS (counterRow m x y) v - 1 ≡ 0 = omega (arith, counted) in
+      q ∙ ap (deleteM i x v) (p ∙ ap (λ (k : ℕ). store m COUNTERS k v 0) row ∙ ap (store m COUNTERS (counterRow m x y) v) (sym z))
+      ∙ sym (cond-true _ _ (eq-eqb _ 0 z))
+
+  pub lost-one : 1 < n → m₁ ≡ store m COUNTERS r v (n - 1) → m₁ ≡ loseM i x v y m
+  unfolding loseM
+  lost-one h p =
+      p ∙ ap (λ (k : ℕ). store m COUNTERS k v (n - 1)) row
+      ∙ ap (λ (k : ℕ). store m COUNTERS (counterRow m x y) v (k - 1)) counted
+      ∙ sym (cond-false _ _ (ne-eqb (m COUNTERS (counterRow m x y) v - 1) 0 (omega (arith, counted))))
+
+-- ---- a label
+
+-- the second of two tests fails
+second-fails : (t : Bool) {u : Bool} (n m : Mem) → u ≡ false → m ≡ cond t (cond u n m) m
+second-fails true n m e = sym (cond-false n m e)
+second-fails false n m e = refl
+
+module _ (sys : System) (i y w x v : ℕ) (m : Mem) where
+  touched : (n : Mem) → m DOMAIN x v ≡ LISTED → sys .net .allows x v y w ≡ true → n ≡ loseM i x v y m
+      → n ≡ touchM sys i y w x v m
+  unfolding touchM
+  touched n d a e = e ∙ sym (cond-true _ _ (eq-eqb (m DOMAIN x v) LISTED d) ∙ cond-true _ _ a)
+
+  not-allowed : sys .net .allows x v y w ≡ false → m ≡ touchM sys i y w x v m
+  unfolding touchM
+  not-allowed a = second-fails (eqb (m DOMAIN x v) LISTED) (loseM i x v y m) m a
+
+  not-listed : (m DOMAIN x v ≡ LISTED → ⊥) → m ≡ touchM sys i y w x v m
+  unfolding touchM
+  not-listed d = sym (cond-false _ _ (ne-eqb (m DOMAIN x v) LISTED d))
+
+-- whether a label had the treated one as a support, and its domain cell: one test on their sum tells both
+module _ (sys : System) (i y w x v t d : ℕ) (m : Mem) (cell : d ≡ m DOMAIN x v) (small : d < 65536)
+    (odd : isOdd t ≡ sys .net .allows x v y w) where
+  pub sum-touched : (n : Mem) → t % 2 + d ≡ 65536 → n ≡ loseM i x v y m → n ≡ touchM sys i y w x v m
+  sum-touched n e = touched sys i y w x v m n (omega arith) (sym odd ∙ eq-eqb (t % 2) 1 (omega arith))
+
+  pub sum-passed : (t % 2 + d ≡ 65536 → ⊥) → m ≡ touchM sys i y w x v m
+  sum-passed e =
+      ⊎-elim (λ p. not-listed sys i y w x v m (λ l. e (omega (arith, eqb-true (t % 2) 1 p))))
+      (λ p. not-allowed sys i y w x v m (sym odd ∙ p)) (decided (isOdd t))
+
+-- ---- a variable
+
+-- the row of the treated label's supports holds the values that had it as a support: a pair reads the same from either side
+pub supported : (b : List ℕ) (m : Mem) (y w x n s r : ℕ) → shareConstraint (planOf b) y x ≡ true → n ≡ sizeOf (planOf b) x
+    → s ≡ rowOf (sizeOf (planOf b) x) (supports (networkOf (planOf b)) y w x) → r ≡ counterRow m x y
+    → Supported (systemOf (planOf b)) m y w x n s r
+unfolding systemOf networkOf
+supported b m y w x n s r l k e c = record {
+  holds = λ v h.
+      ap (λ (t : ℕ). bit t v) (e ∙ supports-allowed b (sizeOf (planOf b) x) y w x l)
+      ∙ row-bit (sizeOf (planOf b) x) (pairAllowed (planOf b) y w x) v (omega arith)
+      ∙ allowed-symmetric (planOf b) y w x v;
+  counted = c;
+}
+
+module _ (sys : System) (i y w x : ℕ) (m : Mem) where
+  pub variable-touched : (n : Mem) (k : ℕ) → eqb (sys .owner x) (suc i) ≡ true → sys .net .linked x y ≡ true → k ≡ sys .net .size x
+      → n ≡ touchValuesM sys i y w x k m → n ≡ touchVariableM sys i y w x m
+  unfolding touchVariableM
+  variable-touched n k o l s e =
+      e ∙ ap (λ (k : ℕ). touchValuesM sys i y w x k m) s
+      ∙ sym (cond-true _ _ o ∙ cond-true _ _ l)
+
+  pub not-linked : sys .net .linked x y ≡ false → m ≡ touchVariableM sys i y w x m
+  unfolding touchVariableM
+  not-linked l = second-fails (eqb (sys .owner x) (suc i)) (touchValuesM sys i y w x (sys .net .size x) m) m l
+
+  pub not-owned : eqb (sys .owner x) (suc i) ≡ false → m ≡ touchVariableM sys i y w x m
+  unfolding touchVariableM
+  not-owned o = sym (cond-false _ _ o)
+
+module _ (sys : System) (i y w : ℕ) (m m₁ m₂ : Mem) where
+  pub value-more : (x v : ℕ) → m₁ ≡ touchValuesM sys i y w x v m → m₂ ≡ touchM sys i y w x v m₁
+      → m₂ ≡ touchValuesM sys i y w x (v + 1) m
+  unfolding touchValuesM
+  value-more x v = one-more (λ n. touchValuesM sys i y w x n m) (touchM sys i y w x v) v m₁ m₂ refl
+
+-- ---- the chain of a row's variables
+
+-- where the chain goes on with `next`: every variable before it is done, and all are at its end
+pub record Reached (b : List ℕ) (i y w : ℕ) (start m : Mem) (next : ℕ) : Type 0 where
+  pub done : next ≡ 0 → m ≡ touchVariablesM (systemOf (planOf b)) i y w (variableCount b) start
+  pub before : (x : ℕ) → next ≡ suc x → m ≡ touchVariablesM (systemOf (planOf b)) i y w x start
+  pub inside : (x : ℕ) → next ≡ suc x → x < variableCount b
+  pub mine : (x : ℕ) → next ≡ suc x → ownLinked b i y x ≡ true
+
+module _ (b : List ℕ) (i y w : ℕ) (m : Mem) where
+  abbrev touched-below : ℕ → Mem
+  touched-below n = touchVariablesM (systemOf (planOf b)) i y w n m
+
+  -- a variable that is not in the chain leaves all as it is
+  passed : (x : ℕ) → ownLinked b i y x ≡ false → touched-below x ≡ touched-below (suc x)
+  unfolding touchVariablesM systemOf networkOf owns
+  passed x p =
+      ⊎-elim (not-owned (systemOf (planOf b)) i y w x (touched-below x))
+      (not-linked (systemOf (planOf b)) i y w x (touched-below x))
+      (and-false (owns b i x) (shareConstraint (planOf b) x y) (sym (own-linked b i y x) ∙ p))
+
+  -- before the last `n` variables, the chain goes on with the next of them
+  pub reached : (m₁ : Mem) (n : ℕ) → n ≤ variableCount b → m₁ ≡ touched-below (variableCount b - n)
+      → Reached b i y w m m₁ (nextOwn b i y n)
+  reached m₁ zero h e = record {
+    done = λ p. let all : variableCount b - 0 ≡ variableCount b = omega arith in e ∙ ap touched-below all;
+    before = λ x p. absurd (omega (arith, next-none b i y));
+    inside = λ x p. absurd (omega (arith, next-none b i y));
+    mine = λ x p. absurd (omega (arith, next-none b i y));
+  }
+  reached m₁ (suc n) h e = ⊎-elim here (λ p. there p (reached m₁ n (omega arith))) (decided (ownLinked b i y z))
+    where
+      z : ℕ
+      z = variableCount b - suc n
+
+      here : ownLinked b i y z ≡ true → Reached b i y w m m₁ (nextOwn b i y (suc n))
+      here p =
+          let same : (x : ℕ) → nextOwn b i y (suc n) ≡ suc x → z ≡ x = λ x q. omega (arith, next-here b i y n p) in
+          record {
+            done = λ q. absurd (omega (arith, next-here b i y n p));
+            before = λ x q. e ∙ ap touched-below (same x q);
+            inside = λ x q. omega (arith, same x q);
+            mine = λ x q. ap (ownLinked b i y) (sym (same x q)) ∙ p;
+          }
+
+      there : ownLinked b i y z ≡ false
+          → (m₁ ≡ touched-below (variableCount b - n) → Reached b i y w m m₁ (nextOwn b i y n))
+          → Reached b i y w m m₁ (nextOwn b i y (suc n))
+      there p ih =
+          let one : suc z ≡ variableCount b - n = omega arith in
+          rw (next-past b i y n p) (ih (e ∙ passed z p ∙ ap touched-below one))
+
+  -- at the chain's start nothing is done
+  pub reached-start : (next : ℕ) → next ≡ nextOwn b i y (variableCount b) → Reached b i y w m m next
+  unfolding touchVariablesM
+  reached-start next q =
+      let none-done : 0 ≡ variableCount b - variableCount b = omega arith in
+      rw q (reached m (variableCount b) (omega arith) (ap touched-below none-done))
+
+  -- one variable of the chain more
+  pub reached-next : (m₁ m₂ : Mem) (x next : ℕ) → x < variableCount b → m₁ ≡ touched-below x
+      → m₂ ≡ touchVariableM (systemOf (planOf b)) i y w x m₁ → next ≡ nextOwn b i y (variableCount b - suc x)
+      → Reached b i y w m m₂ next
+  unfolding touchVariablesM
+  reached-next m₁ m₂ x next h e p q =
+      let more : suc x ≡ variableCount b - (variableCount b - suc x) = omega arith in
+      rw q
+      (reached m₂ (variableCount b - suc x) (omega arith)
+      (p ∙ ap (touchVariableM (systemOf (planOf b)) i y w x) e ∙ ap touched-below more))
+
+-- how many variables are left from the chain's next one on
+abbrev pub left : ℕ → ℕ → ℕ
+left n zero = 0
+left n (suc x) = n - x
+
+-- they become fewer: the chain goes upwards
+pub left-falls : (b : List ℕ) (i y x next : ℕ) → x < variableCount b → next ≡ nextOwn b i y (variableCount b - suc x)
+    → left (variableCount b) next < variableCount b - x
+left-falls b i y x next h e =
+    ⊎-elim (λ p. end (e ∙ p)) (λ p. on (omega (arith, e))) (next-above b i y (variableCount b - suc x))
+  where
+    end : next ≡ 0 → left (variableCount b) next < variableCount b - x
+    end p = omega (arith, ap (left (variableCount b)) p)
+
+    on : suc x < next → left (variableCount b) next < variableCount b - x
+    on p =
+        let q : next ≡ suc (next - 1) = omega arith in
+        omega (arith, ap (left (variableCount b)) q)
+
+-- ---- the label at the head of the work list
+
+module _ (sys : System) (i head tail : ℕ) (m : Mem) (h : head ≡ m WORKERS i HEAD) (t : tail ≡ m WORKERS i TAIL) where
+  pub no-work : tail ≤ head → treatM sys i m ≡ none
+  unfolding treatM
+  no-work l = cond-false _ none (le-ltb (m WORKERS i HEAD) (m WORKERS i TAIL) (omega arith))
+
+  pub no-room : head < tail → 512 ≤ head → treatM sys i m ≡ none
+  unfolding treatM
+  no-room l r =
+      cond-true _ none (lt-ltb (m WORKERS i HEAD) (m WORKERS i TAIL) (omega arith))
+      ∙ cond-false _ none (le-ltb (m WORKERS i HEAD) 512 (omega arith))
+
+  pub treated : (c : ℕ) → head < tail → head < 512 → c ≡ m WORK i head
+      → treatM sys i m
+      ≡ some (touchVariablesM sys i (c / 16) (c % 16) (sys .net .variables) (store m WORKERS i HEAD (head + 1)))
+  unfolding treatM
+  treated c l r e =
+      cond-true _ none (lt-ltb (m WORKERS i HEAD) (m WORKERS i TAIL) (omega arith))
+      ∙ cond-true _ none (lt-ltb (m WORKERS i HEAD) 512 (omega arith)) ∙ rw (e, h)
+
+  -- it was loaded
+  pub head-listed : (b : List ℕ) (c : ℕ) → head < tail → c ≡ m WORK i head
+      → (m WORKERS i HEAD < m WORKERS i TAIL
+      → Listed b (m WORK i (m WORKERS i HEAD) / 16) (m WORK i (m WORKERS i HEAD) % 16))
+      → Listed b (c / 16) (c % 16)
+  head-listed b c l e f = rw (e, h) (f (omega arith))

@@ -1,0 +1,89 @@
+-- `treating::touch_variable` goes through a variable of the owner that is linked with the treated one. Assumes nothing.
+use Prim.Native.Nat.{ℕ, _<_}
+use borrow.Author.Needs.{needs}
+use mathlib.Core.Bool.{true, _&&_}
+use mathlib.Core.List.{List}
+use mathlib.Core.Path.{_≡_, sym, _∙_}
+use native.Mathlib.Omega.{arith}
+use denote.Ref.{now}
+use Rattle.base.proofs.Bools.{and-left, and-right}
+use Rattle.disac4.specs.System.{systemOf}
+use Rattle.format.specs.Format.{variableCount}
+use Rattle.plan.proofs.Links.{linked-symmetric}
+use Rattle.plan.specs.Decode.{planOf}
+use Rattle.plan.specs.Network.{shareConstraint, networkOf}
+use Rattle.index.proofs.Labels.{size-is, own-linked, numbered}
+use Rattle.index.proofs.Places.{few-sections}
+use Rattle.index.specs.Index.{owns}
+use Rattle.cells.specs.Memory.{memOf}
+use Rattle.cells.specs.View.{Numbered}
+use Rattle.treating.proofs.TreatLaws.{supported, variable-touched}
+use Rattle.treating.proofs.touch_variable.Statement.{statement}
+use Rattle.treating.proofs.touch_variable.Tie as tie
+
+-- what is known of the two variables
+module _ (s : tie.Start) where
+  abbrev b : List ℕ
+  b = now (s .args .b)
+
+  both : owns b (s .args .i) (s .args .x) && shareConstraint (planOf b) (s .args .x) (s .args .y) ≡ true
+  both = sym (own-linked b (s .args .i) (s .args .y) (s .args .x)) ∙ s .pre .3
+
+  owned : owns b (s .args .i) (s .args .x) ≡ true
+  owned = and-left (owns b (s .args .i) (s .args .x)) (shareConstraint (planOf b) (s .args .x) (s .args .y)) both
+
+  linked : shareConstraint (planOf b) (s .args .x) (s .args .y) ≡ true
+  linked = and-right (owns b (s .args .i) (s .args .x)) (shareConstraint (planOf b) (s .args .x) (s .args .y)) both
+
+  linked-too : shareConstraint (planOf b) (s .args .y) (s .args .x) ≡ true
+  linked-too = linked-symmetric (planOf b) (s .args .y) (s .args .x) ∙ linked
+
+  known : (s .args .x < variableCount b) × (s .args .y < variableCount b) × Numbered (memOf (now (s .args .cells))) (s .args .x) (s .args .y)
+  known = numbered b (s .pre .0 .sound) _ (s .pre .0 .index) (s .args .x) (s .args .y) linked
+
+size-requires : tie.Need-size-requires
+size-requires c κs =
+    let s = c .before .before .before in
+    (s .pre .0, known s .0)
+
+support-row-requires : tie.Need-support-row-requires
+support-row-requires c κs =
+    let s = c .before .before .before .before .before in
+    (s .pre .0, s .pre .2, linked-too s)
+
+counter-row-requires : tie.Need-counter-row-requires
+counter-row-requires c κs =
+    let s = c .before .before .before .before .before .before .before in
+    let few = few-sections (b s) (s .pre .0 .sound) in
+    (s .pre .0 .long, omega (arith, known s .0), omega (arith, known s .1), known s .2)
+
+touch-values-requires : tie.Need-touch-values-requires
+touch-values-requires c κs =
+    let k = c .before in
+    let z = k .before .before .before .before in
+    let s = z .before .before .before .before in
+    let few = few-sections (b s) (s .pre .0 .sound) in
+    omega (arith, known s .0, z .size .ensures, k .counter-row .ensures)
+
+same-length : tie.Need-same-length
+same-length c = search needs
+
+returns : tie.Need-returns
+unfolding systemOf networkOf owns
+returns c =
+    let k = c .before .before .before .before in
+    let r = k .before .before in
+    let z = r .before .before in
+    let s = z .before .before .before .before in
+    let a = s .args in
+    let sys = systemOf (planOf (b s)) in
+    variable-touched sys (a .i) (a .y) (a .w) (a .x) _ _ (z .size .result) (owned s) (linked s)
+    (z .size .ensures .0 ∙ size-is (b s) (a .x))
+    (c .before .before .touch-values .ensures sys (a .y) (a .w)
+    (supported (b s) _ (a .y) (a .w) (a .x) _ _ _ (linked-too s) (z .size .ensures .0) (r .support-row .ensures)
+    (k .counter-row .ensures .0)))
+
+pub touch-variable-spec : {M : Type 1} → statement M
+touch-variable-spec =
+    tie.close
+    (tie.spec size-requires support-row-requires counter-row-requires touch-values-requires same-length returns)

@@ -1,0 +1,163 @@
+-- `treating::touch_variables` follows the chain of the row's variables that are linked with the treated one. Invariant:
+-- what is done is what the definition does up to the chain's next variable. Assumes nothing.
+use Prim.Native.Nat.{ℕ, suc, _-_, _<_}
+use mathlib.Core.Bool.{true}
+use mathlib.Core.List.{List}
+use mathlib.Core.Path.{_≡_, refl, sym, _∙_, ap}
+use native.Mathlib.Omega.{arith}
+use denote.Ref.{now}
+use lib.ListN.{length}
+use Rattle.disac4.specs.System.{systemOf}
+use Rattle.format.specs.Format.{variableCount}
+use Rattle.plan.specs.Decode.{planOf}
+use Rattle.index.proofs.Labels.{variables-are}
+use Rattle.index.proofs.Places.{few-sections}
+use Rattle.index.specs.Index.{ownLinked, nextOwn, Ready}
+use Rattle.cells.proofs.Ranges.{may-get}
+use Rattle.cells.specs.Memory.{memOf}
+use Rattle.index.proofs.Kept.{ready-kept}
+use Rattle.treating.proofs.Kept.{touch-variable-kept}
+use Rattle.treating.proofs.TreatLaws.{Reached, reached-start, reached-next, left, left-falls}
+use Rattle.treating.specs.Treat.{touchVariablesM}
+use Rattle.treating.proofs.touch_variables.Statement.{statement}
+use Rattle.treating.proofs.touch_variables.Tie as tie
+
+abbrev Inv-loop : tie.InvT-loop
+Inv-loop b cells₀ i y w next₀ cells next =
+    Ready b cells × (length cells ≡ length cells₀) × Reached b i y w (memOf cells₀) (memOf cells) next
+
+abbrev μ-loop : tie.MeasureT-loop
+μ-loop b cells₀ i y w next₀ cells next = left (variableCount b) next
+
+get-requires : tie.Need-get-requires Inv-loop μ-loop
+get-requires c κs =
+    let s = c .before .before .before in
+    may-get _ _ _ refl _
+    (omega (arith, s .pre .0 .long, s .pre .1, s .pre .2 .variable, few-sections (now (s .args .b)) (s .pre .0 .sound)))
+
+loop-holds : tie.Need-loop-holds Inv-loop μ-loop
+loop-holds c =
+    let s = c .before .before .before .before in
+    let a = s .args in (
+      s .pre .0,
+      refl,
+      reached-start (now (a .b)) (a .i) (a .y) (a .w) (memOf (now (a .cells))) (c .get .result)
+          (c .get .ensures .0 ∙ s .pre .0 .index .first (a .i) (s .pre .1) (a .y) (s .pre .2 .variable)),
+    )
+
+-- the variable that the chain has come to
+module _ (t : tie.In-loop Inv-loop μ-loop) where
+  abbrev l : tie.At-loop Inv-loop μ-loop
+  l = t .before
+
+  abbrev s : tie.Start Inv-loop μ-loop
+  s = l .before .before .before .before .before
+
+  abbrev b : List ℕ
+  b = now (s .args .b)
+
+  abbrev x : ℕ
+  x = l .loop .next - 1
+
+  here : l .loop .next ≡ suc x
+  here = omega (arith, t .loop-test .taken)
+
+  inside : x < variableCount b
+  inside = l .loop .inv .2 .inside x here
+
+  mine : ownLinked b (s .args .i) (s .args .y) x ≡ true
+  mine = l .loop .inv .2 .mine x here
+
+sub-touch-variable : tie.Need-sub-touch-variable Inv-loop μ-loop
+sub-touch-variable c = omega (arith, here (c .before))
+
+touch-variable-requires : tie.Need-touch-variable-requires Inv-loop μ-loop
+touch-variable-requires c κs =
+    let t = c .before in
+    (l t .loop .inv .0, s t .pre .1, s t .pre .2, mine t)
+
+sub-get : tie.Need-sub-get Inv-loop μ-loop
+sub-get c = omega (arith, here (c .before .before .before .before .before))
+
+-- when it is done, the index is as it was
+module _ (v : tie.After-touch-variable Inv-loop μ-loop) where
+  abbrev t : tie.In-loop Inv-loop μ-loop
+  t = v .before .before
+
+  same-size : length (v .touch-variable .last .1 .0) ≡ length (l t .loop .cells)
+  same-size = v .touch-variable .kept .1 .0
+
+  ready : Ready (b t) (v .touch-variable .last .1 .0)
+  ready =
+      let a = s t .args in
+      ready-kept (b t) (l t .loop .cells) _ (l t .loop .inv .0) same-size (v .touch-variable .ensures)
+      (touch-variable-kept (systemOf (planOf (b t))) (a .i) (a .y) (a .w) (x t) _)
+
+get-requires-2 : tie.Need-get-requires-2 Inv-loop μ-loop
+get-requires-2 c κs =
+    let v = c .before .before .before in
+    let s = s (t v) in
+    may-get _ _ _ refl _
+    (omega (arith, ready v .long, inside (t v), s .pre .2 .variable, few-sections (now (s .args .b)) (s .pre .0 .sound)))
+
+-- what the chain goes on with
+follows : (c : tie.After-get2 Inv-loop μ-loop)
+    → c .get2 .result
+    ≡ nextOwn (b (t (c .before .before .before .before))) (s (t (c .before .before .before .before)) .args .i)
+    (s (t (c .before .before .before .before)) .args .y)
+    (variableCount (b (t (c .before .before .before .before))) - suc (x (t (c .before .before .before .before))))
+follows c =
+    let v = c .before .before .before .before in
+    let s = s (t v) in
+    c .get2 .ensures .0
+    ∙ ready v .index .follow (s .args .i) (s .pre .1) (x (t v)) (s .args .y) (inside (t v)) (s .pre .2 .variable) (mine (t v))
+
+loop-less : tie.Need-loop-less Inv-loop μ-loop
+loop-less c =
+    let t = t (c .before .before .before .before) in
+    let a = s t .args in
+    omega (
+      arith,
+      left-falls (b t) (a .i) (a .y) (x t) (c .get2 .result) (inside t) (follows c),
+      ap (left (variableCount (b t))) (here t),
+    )
+
+loop-again : tie.Need-loop-again Inv-loop μ-loop
+loop-again c =
+    let v = c .before .before .before .before in
+    let t = t v in
+    let a = s t .args in
+    let inv = l t .loop .inv in (
+      ready v,
+      same-size v ∙ inv .1,
+      reached-next (b t) (a .i) (a .y) (a .w) _ _ _ (x t) (c .get2 .result) (inside t) (inv .2 .before (x t) (here t))
+          (v .touch-variable .ensures) (follows c),
+    )
+
+same-length : tie.Need-same-length Inv-loop μ-loop
+same-length c = c .before .loop .inv .1
+
+returns : tie.Need-returns Inv-loop μ-loop
+returns c =
+    let l = c .before in
+    let a = l .before .before .before .before .before .args in
+    let b = now (a .b) in
+    l .loop .inv .2 .done (omega (arith, c .loop-test .left))
+    ∙ ap (λ (n : ℕ). touchVariablesM (systemOf (planOf b)) (a .i) (a .y) (a .w) n (memOf (now (a .cells)))) (sym (variables-are b))
+
+pub touch-variables-spec : {M : Type 1} → statement M
+touch-variables-spec =
+    tie.close
+    (tie.spec
+    Inv-loop
+    μ-loop
+    get-requires
+    loop-holds
+    sub-touch-variable
+    touch-variable-requires
+    sub-get
+    get-requires-2
+    loop-less
+    loop-again
+    same-length
+    returns)
