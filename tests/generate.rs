@@ -1,6 +1,6 @@
 // Random plans and turn lists, shared by the test program and the benchmark.
 
-use crate::reference::plan::{Plan, Relation, Rule, Value, Variable, NOT_RECORDED};
+use crate::reference::plan::{Constraint, Plan, Relation, Value, Variable, NOT_RECORDED};
 use crate::reference::run::Run;
 use crate::reference::state::Turn;
 use crate::rng::Rng;
@@ -11,12 +11,12 @@ pub struct Size {
     pub workers: usize,
     pub variables: usize,
     pub values: usize,
-    pub rules: usize,
+    pub constraints: usize,
 }
 
-pub const SMALL: Size = Size { workers: 3, variables: 4, values: 4, rules: 5 };
-pub const MEDIUM: Size = Size { workers: 8, variables: 12, values: 10, rules: 30 };
-pub const FULL: Size = Size { workers: 8, variables: 32, values: 16, rules: 128 };
+pub const SMALL: Size = Size { workers: 3, variables: 4, values: 4, constraints: 5 };
+pub const MEDIUM: Size = Size { workers: 8, variables: 12, values: 10, constraints: 30 };
+pub const FULL: Size = Size { workers: 8, variables: 32, values: 16, constraints: 128 };
 
 fn codes(rng: &mut Rng, count: usize) -> Vec<u16> {
     let narrow = rng.chance(1, 2);
@@ -50,9 +50,9 @@ fn variable(rng: &mut Rng, owner: usize, count: usize, scale: u16) -> Variable {
     Variable { owner, values: values.collect() }
 }
 
-/// A row of `columns` bits, each set in `part` of 16 cases.
-fn row(rng: &mut Rng, columns: usize, part: usize) -> u16 {
-    (0..columns).filter(|_| rng.chance(part, 16)).fold(0, |row, bit| row | 1 << bit)
+/// A row of `columns` bits, each set in `part` of `whole` cases.
+fn row(rng: &mut Rng, columns: usize, part: usize, whole: usize) -> u16 {
+    (0..columns).filter(|_| rng.chance(part, whole)).fold(0, |row, bit| row | 1 << bit)
 }
 
 fn table(rng: &mut Rng, rows: usize, columns: usize, part: usize) -> Vec<u16> {
@@ -61,13 +61,63 @@ fn table(rng: &mut Rng, rows: usize, columns: usize, part: usize) -> Vec<u16> {
     (0..rows)
         .map(|a| match style {
             // Strictly less, equal, and one column each: relations that
-            // strike one value after the other.
+            // delete one value after the other.
             0 => mask & !((2u32 << a) - 1) as u16,
             1 => mask & (1u32 << a) as u16,
             2 if columns > 0 => 1 << rng.below(columns),
-            _ => row(rng, columns, part),
+            _ => row(rng, columns, part, 16),
         })
         .collect()
+}
+
+/// Two of `n` variables, the first below the second.
+fn pair(rng: &mut Rng, n: usize) -> (usize, usize) {
+    let first = rng.between(1, n - 1);
+    (first, rng.between(first + 1, n))
+}
+
+fn limit(rng: &mut Rng, one: &Variable, other: &Variable, scale: u16) -> u16 {
+    match rng.below(8) {
+        0 => rng.pick(&[0, 65_535, 65_534]),
+        // The very sum of two figures, or one less.
+        1..=3 => {
+            let one = one.values.first().map_or(0, |value| value.sodium);
+            let other = other.values.last().map_or(0, |value| value.sodium);
+            one.wrapping_add(other).wrapping_sub(rng.below(2) as u16)
+        }
+        _ => rng.below(2 * usize::from(scale) + 1).min(65_535) as u16,
+    }
+}
+
+fn random_constraints(
+    rng: &mut Rng,
+    variables: &[Variable],
+    most: usize,
+    exactly: bool,
+    scale: u16,
+) -> Vec<Constraint> {
+    let part = rng.between(2, 14);
+    let count = match variables.len() {
+        1 => 0,
+        _ if exactly => most,
+        _ => rng.between(0, most),
+    };
+    let tables_only = rng.chance(1, 3);
+    let mut constraints: Vec<Constraint> = Vec::new();
+    for _ in 0..count {
+        let (first, second) = match constraints.last() {
+            Some(last) if rng.chance(1, 6) => (last.first, last.second),
+            _ => pair(rng, variables.len()),
+        };
+        let (one, other) = (&variables[first - 1], &variables[second - 1]);
+        let relation = if tables_only || rng.chance(1, 2) {
+            Relation::Table(table(rng, one.values.len(), other.values.len(), part))
+        } else {
+            Relation::Sodium(limit(rng, one, other, scale))
+        };
+        constraints.push(Constraint { first, second, relation });
+    }
+    constraints
 }
 
 /// A valid plan of at most that size; `exactly` takes the full size.
@@ -77,48 +127,23 @@ pub fn random_plan(rng: &mut Rng, size: Size, exactly: bool) -> Plan {
     let n = up_to(rng, 1, size.variables);
     let scale = rng.pick(&[4, 40, 1_000, 40_000, 65_534]);
     let spread = if rng.chance(1, 6) { 1 } else { workers };
-    let empty = rng.chance(1, 6);
+    let least = usize::from(!rng.chance(1, 6));
     let variables: Vec<Variable> = (0..n)
         .map(|_| {
-            let least = usize::from(!empty);
             let count = up_to(rng, least, size.values);
             let owner = rng.between(1, spread);
             variable(rng, owner, count, scale)
         })
         .collect();
-    let part = rng.between(2, 14);
-    let count = if n < 2 { 0 } else { up_to(rng, 0, size.rules) };
-    let tables_only = rng.chance(1, 3);
-    let mut rules: Vec<Rule> = Vec::new();
-    for _ in 0..count {
-        let (first, second) = match rules.last() {
-            Some(rule) if rng.chance(1, 6) => (rule.first, rule.second),
-            _ => {
-                let first = rng.between(1, n - 1);
-                (first, rng.between(first + 1, n))
-            }
-        };
-        let relation = if tables_only || rng.chance(1, 2) {
-            let (a, b) = (&variables[first - 1], &variables[second - 1]);
-            Relation::Table(table(rng, a.values.len(), b.values.len(), part))
-        } else {
-            Relation::Sodium(match rng.below(8) {
-                0 => rng.pick(&[0, 65_535, 65_534]),
-                // The very sum of two figures, or one less.
-                1..=3 => {
-                    let one = variables[first - 1].values.first().map_or(0, |v| v.sodium);
-                    let other = variables[second - 1].values.last().map_or(0, |v| v.sodium);
-                    one.wrapping_add(other).wrapping_sub(rng.below(2) as u16)
-                }
-                _ => rng.below(2 * usize::from(scale) + 1).min(65_535) as u16,
-            })
-        };
-        rules.push(Rule { first, second, relation });
-    }
-    Plan { workers, variables, rules }
+    let constraints = random_constraints(rng, &variables, size.constraints, exactly, scale);
+    Plan { workers, variables, constraints }
 }
 
-/// A chain or ring of relations that strikes its values one after the other,
+fn tabled(first: usize, second: usize, rows: Vec<u16>) -> Constraint {
+    Constraint { first, second, relation: Relation::Table(rows) }
+}
+
+/// A chain or ring of relations that deletes its values one after the other,
 /// from worker to worker.
 pub fn chain_plan(rng: &mut Rng, workers: usize, n: usize, values: usize) -> Plan {
     let variables: Vec<Variable> = (0..n)
@@ -127,7 +152,7 @@ pub fn chain_plan(rng: &mut Rng, workers: usize, n: usize, values: usize) -> Pla
             variable(rng, owner, values, 1_000)
         })
         .collect();
-    let mut rules = Vec::new();
+    let mut constraints = Vec::new();
     let mask = ((1u32 << values) - 1) as u16;
     // Mostly strictly less; sometimes at most, or less by at most two.
     let style = rng.below(4);
@@ -140,7 +165,7 @@ pub fn chain_plan(rng: &mut Rng, workers: usize, n: usize, values: usize) -> Pla
     };
     for first in 1..n {
         let rows = (0..values).map(rise).collect();
-        rules.push(Rule { first, second: first + 1, relation: Relation::Table(rows) });
+        constraints.push(tabled(first, first + 1, rows));
     }
     // Close rings: the last of some variables below an earlier one.
     if n >= 3 {
@@ -148,38 +173,40 @@ pub fn chain_plan(rng: &mut Rng, workers: usize, n: usize, values: usize) -> Pla
             let first = rng.between(1, n - 2);
             let second = rng.between(first + 2, n);
             let rows = (0..values).map(|a| mask & ((1u32 << a) - 1) as u16).collect();
-            rules.push(Rule { first, second, relation: Relation::Table(rows) });
+            constraints.push(tabled(first, second, rows));
         }
     }
-    Plan { workers, variables, rules }
+    Plan { workers, variables, constraints }
 }
 
 /// The full plan of the benchmark: 8 workers, 32 variables of 16 values, 128
-/// rules, and a chain through all of them that strikes hundreds of labels.
+/// constraints, and a chain through all variables that deletes hundreds of
+/// labels.
 pub fn full_plan(rng: &mut Rng, strictly: bool) -> Plan {
     let mut plan = chain_plan(rng, 8, 32, 16);
-    plan.rules.clear();
+    plan.constraints.clear();
     for first in 1..32 {
-        // Strictly less along 32 variables of 16 values strikes all labels;
+        // Strictly less along 32 variables of 16 values deletes all labels;
         // otherwise every fourth step is strict and a core stays.
         let strict = strictly || first % 4 == 0;
         let rows = (0..16).map(|a| (0xFFFFu32 << (a + usize::from(strict))) as u16).collect();
-        plan.rules.push(Rule { first, second: first + 1, relation: Relation::Table(rows) });
+        plan.constraints.push(tabled(first, first + 1, rows));
     }
-    while plan.rules.len() < 128 {
-        let first = rng.between(1, 31);
-        let second = rng.between(first + 1, 32);
+    while plan.constraints.len() < 128 {
+        let (first, second) = pair(rng, 32);
         let relation = if rng.chance(1, 3) {
             Relation::Sodium(65_535)
         } else {
             // At most as large, which the chain implies already.
             Relation::Table((0..16).map(|a| (0xFFFFu32 << a) as u16).collect())
         };
-        plan.rules.push(Rule { first, second, relation });
+        plan.constraints.push(Constraint { first, second, relation });
     }
     for variable in &mut plan.variables {
         for value in &mut variable.values {
-            value.sodium = if value.sodium == NOT_RECORDED { NOT_RECORDED } else { value.sodium / 4 };
+            if value.sodium != NOT_RECORDED {
+                value.sodium /= 4;
+            }
         }
     }
     plan
@@ -190,15 +217,11 @@ pub fn full_plan(rng: &mut Rng, strictly: bool) -> Plan {
 /// label, above about 100 only some.
 pub fn scattered_plan(rng: &mut Rng, part: usize) -> Plan {
     let mut plan = chain_plan(rng, 8, 32, 16);
-    plan.rules.clear();
+    plan.constraints.clear();
     for _ in 0..128 {
-        let first = rng.between(1, 31);
-        let second = rng.between(first + 1, 32);
-        let row = |rng: &mut Rng| {
-            (0..16).filter(|_| rng.chance(part, 256)).fold(0, |row, bit| row | 1 << bit)
-        };
-        let rows = (0..16).map(|_| row(rng)).collect();
-        plan.rules.push(Rule { first, second, relation: Relation::Table(rows) });
+        let (first, second) = pair(rng, 32);
+        let rows = (0..16).map(|_| row(rng, 16, part, 256)).collect();
+        plan.constraints.push(tabled(first, second, rows));
     }
     plan
 }
@@ -233,10 +256,8 @@ pub fn round_like_turns(rng: &mut Rng, workers: usize, rounds: usize) -> Vec<u8>
     turns.into_iter().flat_map(Turn::encode).collect()
 }
 
-/// Turns drawn by weights of this list's own, mostly such as have something
-/// to do. With `starving`, some deeds do not come at all for a long part.
-pub fn guided_turns(rng: &mut Rng, plan: &Plan, most: usize, starving: bool) -> Vec<u8> {
-    let all = Turn::all(plan.workers);
+/// How often each turn is drawn in a list, by weights of its own.
+fn turn_weights(rng: &mut Rng, all: &[Turn]) -> Vec<usize> {
     let mut weights: Vec<usize> = all.iter().map(|_| 1 << rng.below(8)).collect();
     // Sometimes workers seldom read each other's lists while all else goes
     // on, so that counts of lists agree though the lists differ.
@@ -248,16 +269,28 @@ pub fn guided_turns(rng: &mut Rng, plan: &Plan, most: usize, starving: bool) -> 
             };
         }
     }
-    let full = weights.clone();
-    if starving {
-        // A whole actor, or some deeds.
-        let actor = rng.between(0, plan.workers) as u8;
-        let whole = rng.chance(1, 2);
-        for (turn, weight) in all.iter().zip(&mut weights) {
-            if whole && turn.encode()[0] == actor || !whole && rng.chance(1, 5) {
-                *weight = 0;
-            }
+    weights
+}
+
+/// Leaves a whole actor out, or some actions.
+fn starve(rng: &mut Rng, workers: usize, all: &[Turn], weights: &mut [usize]) {
+    let actor = rng.between(0, workers) as u8;
+    let whole = rng.chance(1, 2);
+    for (turn, weight) in all.iter().zip(weights) {
+        if whole && turn.encode()[0] == actor || !whole && rng.chance(1, 5) {
+            *weight = 0;
         }
+    }
+}
+
+/// Turns drawn by weights of this list's own, mostly such as have something
+/// to do. With `starving`, some actions do not come at all for a long part.
+pub fn guided_turns(rng: &mut Rng, plan: &Plan, most: usize, starving: bool) -> Vec<u8> {
+    let all = Turn::all(plan.workers);
+    let full = turn_weights(rng, all);
+    let mut starved = full.clone();
+    if starving {
+        starve(rng, plan.workers, all, &mut starved);
     }
     let release = if rng.chance(1, 3) { most } else { rng.below(most + 1) };
     let idle = rng.below(5);
@@ -271,24 +304,15 @@ pub fn guided_turns(rng: &mut Rng, plan: &Plan, most: usize, starving: bool) -> 
             }
             after -= 1;
         }
-        let weights = if step < release { &weights } else { &full };
+        let weights = if step < release { &starved } else { &full };
         let any = rng.chance(idle, 16);
-        let weight_of = |at: usize| {
-            if any || run.state.has_use(all[at]) { weights[at] } else { 0 }
-        };
-        let total: usize = (0..all.len()).map(weight_of).sum();
-        let mut left = rng.below(total);
-        let mut chosen = rng.pick(all);
-        for at in 0..all.len() {
-            let weight = weight_of(at);
-            if left < weight {
-                chosen = all[at];
-                break;
-            }
-            left -= weight;
-        }
-        run.turn_uncounted(chosen);
-        turns.extend(chosen.encode());
+        let useful = |at: usize| any || run.state.has_use(all[at]);
+        let weight_of = |at: usize| if useful(at) { weights[at] } else { 0 };
+        let drawn = rng.weighted((0..all.len()).map(weight_of));
+        let other = rng.pick(all);
+        let turn = drawn.map_or(other, |at| all[at]);
+        run.turn_uncounted(turn);
+        turns.extend(turn.encode());
     }
     turns
 }

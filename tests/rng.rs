@@ -50,6 +50,19 @@ impl Rng {
         items[self.below(items.len())]
     }
 
+    /// The place of one of the weights, each drawn as often as it weighs;
+    /// nothing when all are 0.
+    pub fn weighted(&mut self, weights: impl Iterator<Item = usize> + Clone) -> Option<usize> {
+        let mut left = self.below(weights.clone().sum());
+        for (at, weight) in weights.enumerate() {
+            if left < weight {
+                return Some(at);
+            }
+            left -= weight;
+        }
+        None
+    }
+
     pub fn byte(&mut self) -> u8 {
         self.next() as u8
     }

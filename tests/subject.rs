@@ -6,10 +6,11 @@ use std::slice::{from_raw_parts, from_raw_parts_mut};
 use std::sync::atomic::{AtomicUsize, Ordering};
 
 use crate::fast::{self, fault, Fault, Faulty, Sound};
-use crate::reference::{run, Decline};
+use crate::reference::run::{self, Run};
+use crate::reference::Decline;
 
-pub type CheckPlan = unsafe extern "C" fn(*const u8, usize, *mut usize);
-pub type RunTurns = unsafe extern "C" fn(
+type CheckPlan = unsafe extern "C" fn(*const u8, usize, *mut usize);
+type RunTurns = unsafe extern "C" fn(
     *const u8,
     usize,
     *const u8,
@@ -20,16 +21,55 @@ pub type RunTurns = unsafe extern "C" fn(
     usize,
     *mut usize,
 );
-pub type RunRound =
+type RunRound =
     unsafe extern "C" fn(*const u8, usize, *mut u16, usize, *mut u16, usize, *mut usize);
 
 /// The three functions under test.
 #[derive(Clone, Copy)]
 pub struct Subject {
     pub name: &'static str,
-    pub check_plan: CheckPlan,
-    pub run_turns: RunTurns,
-    pub run_round: RunRound,
+    check_plan: CheckPlan,
+    run_turns: RunTurns,
+    run_round: RunRound,
+}
+
+impl Subject {
+    pub fn check_plan(&self, plan: &[u8], out: &mut [usize; 5]) {
+        // SAFETY: the plan is as long as stated, and `out` has 5 cells.
+        unsafe { (self.check_plan)(plan.as_ptr(), plan.len(), out.as_mut_ptr()) }
+    }
+
+    /// The turn run, or without a turn list the round run.
+    pub fn run(
+        &self,
+        plan: &[u8],
+        turns: Option<&[u8]>,
+        work: &mut [u16],
+        lists: &mut [u16],
+        out: &mut [usize; 6],
+    ) {
+        let (plan, plan_len) = (plan.as_ptr(), plan.len());
+        let (work, work_len) = (work.as_mut_ptr(), work.len());
+        let (lists, lists_len) = (lists.as_mut_ptr(), lists.len());
+        let out = out.as_mut_ptr();
+        // SAFETY: the slices are as long as stated, and `out` has 6 cells.
+        unsafe {
+            match turns {
+                Some(turns) => (self.run_turns)(
+                    plan,
+                    plan_len,
+                    turns.as_ptr(),
+                    turns.len(),
+                    work,
+                    work_len,
+                    lists,
+                    lists_len,
+                    out,
+                ),
+                None => (self.run_round)(plan, plan_len, work, work_len, lists, lists_len, out),
+            }
+        }
+    }
 }
 
 #[cfg(linked)]
@@ -73,7 +113,19 @@ pub fn library() -> Option<Subject> {
 }
 
 /// The numbers of an answer, or a decline's number and place.
-type Answer<const N: usize> = Result<[usize; N], (usize, usize)>;
+pub type Answer<const N: usize> = Result<[usize; N], (usize, usize)>;
+
+/// Writes an answer into N + 1 cells as the C interface does.
+pub fn write_answer<const N: usize>(answer: Answer<N>, out: &mut [usize]) {
+    out.fill(0);
+    match answer {
+        Ok(numbers) => out[1..].copy_from_slice(&numbers),
+        Err((number, place)) => {
+            out[0] = number;
+            out[1] = place;
+        }
+    }
+}
 
 /// An implementation that takes the library's place.
 trait StandIn {
@@ -87,19 +139,9 @@ trait StandIn {
     }
 }
 
-/// Writes an answer as the C interface does.
-///
 /// SAFETY: the caller lends N + 1 cells.
 unsafe fn write<const N: usize>(out: *mut usize, answer: Answer<N>) {
-    let out = from_raw_parts_mut(out, N + 1);
-    out.fill(0);
-    match answer {
-        Ok(numbers) => out[1..].copy_from_slice(&numbers),
-        Err((number, place)) => {
-            out[0] = number;
-            out[1] = place;
-        }
-    }
+    write_answer(answer, from_raw_parts_mut(out, N + 1));
 }
 
 unsafe extern "C" fn check_plan<S: StandIn>(plan: *const u8, plan_len: usize, out: *mut usize) {
@@ -149,7 +191,13 @@ fn subject<S: StandIn>(name: &'static str) -> Subject {
 
 struct Reference;
 
-fn numbers(result: Result<run::Run, Decline>) -> Answer<5> {
+/// The reference's answer to a plan check.
+pub fn reference_check(plan: &[u8]) -> Answer<4> {
+    run::check_plan(plan).map_err(|decline| (decline.number, decline.place))
+}
+
+/// The answer that a run of the reference comes to.
+pub fn reference_answer(result: &Result<Run, Decline>) -> Answer<5> {
     match result {
         Ok(run) => {
             let r = run.report();
@@ -161,15 +209,15 @@ fn numbers(result: Result<run::Run, Decline>) -> Answer<5> {
 
 impl StandIn for Reference {
     fn check_plan(plan: &[u8]) -> Answer<4> {
-        run::check_plan(plan).map_err(|d| (d.number, d.place))
+        reference_check(plan)
     }
 
     fn run_turns(plan: &[u8], turns: &[u8], work: &mut [u16], lists: &mut [u16]) -> Answer<5> {
-        numbers(run::run_turns(plan, turns, work, lists, &mut |_| {}))
+        reference_answer(&run::run_turns(plan, turns, work, lists, &mut |_| {}))
     }
 
     fn run_round(plan: &[u8], work: &mut [u16], lists: &mut [u16]) -> Answer<5> {
-        numbers(run::run_round(plan, work, lists, &mut |_| {}))
+        reference_answer(&run::run_round(plan, work, lists, &mut |_| {}))
     }
 }
 

@@ -16,11 +16,10 @@ use std::time::{Duration, Instant};
 use tinshrew_tests::fast::{self, Sound};
 use tinshrew_tests::generate::{full_plan, random_turns, scattered_plan};
 use tinshrew_tests::reference::state::Turn;
+use tinshrew_tests::reference::{LIST_CELLS, WORK_CELLS};
 use tinshrew_tests::rng::Rng;
-use tinshrew_tests::subject::{self, Subject};
+use tinshrew_tests::subject::{self, write_answer, Subject};
 
-const WORK: usize = 24_576;
-const LISTS: usize = 32;
 const LEAST_RUNS: usize = 15;
 const LEAST_TIME: Duration = Duration::from_millis(1500);
 
@@ -38,9 +37,12 @@ impl Buffers {
     }
 }
 
-/// The median times of calls that take turns, each time with buffers full of garbage, so that a busy machine slows all of
-/// them alike; and the median of how long the first took against each.
-fn time(buffers: &mut Buffers, calls: &mut [&mut dyn FnMut(&mut [u16], &mut [u16])]) -> Vec<(f64, f64)> {
+type Call<'a> = &'a mut dyn FnMut(&mut [u16], &mut [u16]);
+
+/// The median times of calls that take turns, each time with buffers full of
+/// garbage, so that a busy machine slows all of them alike; and the median of
+/// how long the first took against each.
+fn time(buffers: &mut Buffers, calls: &mut [Call]) -> Vec<(f64, f64)> {
     let mut times = vec![Vec::new(); calls.len()];
     let begin = Instant::now();
     while times[0].len() < LEAST_RUNS || begin.elapsed() < LEAST_TIME {
@@ -74,34 +76,35 @@ fn call(
     lists: &mut [u16],
 ) -> [usize; 6] {
     let mut out = [usize::MAX; 6];
-    let (w, l) = (work.len(), lists.len());
-    let (work, lists, answer) = (work.as_mut_ptr(), lists.as_mut_ptr(), out.as_mut_ptr());
-    // SAFETY: each pointer has as many elements as stated, `out` has 6.
-    unsafe {
-        match turns {
-            Some(turns) => (subject.run_turns)(
-                plan.as_ptr(), plan.len(), turns.as_ptr(), turns.len(), work, w, lists, l, answer,
-            ),
-            None => (subject.run_round)(plan.as_ptr(), plan.len(), work, w, lists, l, answer),
-        }
-    }
+    subject.run(plan, turns, work, lists, &mut out);
     out
 }
 
-fn rust(plan: &[u8], turns: Option<&[u8]>, work: &mut [u16], lists: &mut [u16], clear: bool) -> [usize; 6] {
-    let result = match turns {
+fn rust(
+    plan: &[u8],
+    turns: Option<&[u8]>,
+    work: &mut [u16],
+    lists: &mut [u16],
+    clear: bool,
+) -> [usize; 6] {
+    let answer = match turns {
         Some(turns) => fast::run_turns(Sound, plan, turns, work, lists, clear),
         None => fast::run_round(Sound, plan, work, lists, clear),
     };
-    match result {
-        Ok([a, b, c, d, e]) => [0, a, b, c, d, e],
-        Err((number, place)) => [number, place, 0, 0, 0, 0],
-    }
+    let mut out = [0; 6];
+    write_answer(answer, &mut out);
+    out
 }
 
-fn measure(subject: &Subject, what: &str, plan: &[u8], turns: Option<&[u8]>) {
-    let mut buffers =
-        Buffers { work: vec![0; WORK], lists: vec![0; LISTS], rng: Rng::new(3) };
+/// Both must give the same before they are timed. The answer, and how many
+/// labels were deleted.
+fn agree(
+    subject: &Subject,
+    what: &str,
+    plan: &[u8],
+    turns: Option<&[u8]>,
+    buffers: &mut Buffers,
+) -> ([usize; 6], usize) {
     buffers.fill();
     let found = call(subject, plan, turns, &mut buffers.work, &mut buffers.lists);
     let lists = buffers.lists.clone();
@@ -114,8 +117,15 @@ fn measure(subject: &Subject, what: &str, plan: &[u8], turns: Option<&[u8]>) {
     }
     let listed: usize = lists[..n].iter().map(|cell| cell.count_ones() as usize).sum();
     let loaded = fast::check_plan(Sound, plan).map_or(0, |numbers| numbers[3]);
+    (found, loaded - listed)
+}
+
+fn measure(subject: &Subject, what: &str, plan: &[u8], turns: Option<&[u8]>) {
+    let mut buffers =
+        Buffers { work: vec![0; WORK_CELLS], lists: vec![0; LIST_CELLS], rng: Rng::new(3) };
+    let (found, deleted) = agree(subject, what, plan, turns, &mut buffers);
     let status = ["open", "closed", "bare"][found[1]];
-    println!("{what}: {status}, {} strikes, {} changing turns", loaded - listed, found[2]);
+    println!("{what}: {status}, {deleted} strikes, {} changing turns", found[2]);
     let times = time(
         &mut buffers,
         &mut [
@@ -130,12 +140,13 @@ fn measure(subject: &Subject, what: &str, plan: &[u8], turns: Option<&[u8]>) {
             },
         ],
     );
-    for (name, (time, ratio)) in [subject.name, "Rust", "Rust, work cells cleared"].iter().zip(times) {
+    let names = [subject.name, "Rust", "Rust, work cells cleared"];
+    for (name, (time, ratio)) in names.iter().zip(times) {
         println!("  {name:32} {time:12.1} us   ratio {ratio:8.2}");
     }
 }
 
-/// 32,768 turns, most of them idle: one worker's deeds are left out so that
+/// 32,768 turns, most of them idle: one worker's actions are left out so that
 /// the plan stays open, and the others soon have nothing to do.
 fn idle_list(rng: &mut Rng) -> Vec<u8> {
     let turns: Vec<Turn> =
@@ -159,10 +170,10 @@ fn main() {
     };
     println!("median times; lent buffers hold garbage before each run, filled untimed");
     let mut rng = Rng::new(11);
-    let all_struck = full_plan(&mut rng, true).encode();
+    let all_deleted = full_plan(&mut rng, true).encode();
     let core_kept = full_plan(&mut rng, false).encode();
     let scattered = scattered_plan(&mut rng, 64).encode();
-    measure(&subject, "round, full plan, every label struck", &all_struck, None);
+    measure(&subject, "round, full plan, every label struck", &all_deleted, None);
     measure(&subject, "round, full plan, a core kept", &core_kept, None);
     measure(&subject, "round, full random plan", &scattered, None);
     let idle = idle_list(&mut rng);

@@ -2,14 +2,22 @@
 // the reference's, and the file that repeats it.
 
 use std::fmt::Write as _;
+use std::hint::black_box;
+use std::ops::Range;
 
 use tinshrew_tests::reference::largest::largest_lists;
-use tinshrew_tests::reference::run::{check_plan, run_round, run_turns, Run};
-use tinshrew_tests::reference::Decline;
+use tinshrew_tests::reference::run::{run_round, run_turns, Run};
+use tinshrew_tests::reference::worked::hex;
 use tinshrew_tests::rng::Rng;
-use tinshrew_tests::subject::Subject;
+use tinshrew_tests::subject::{reference_answer, reference_check, write_answer, Subject};
 
+/// Cells and bytes on either side of what is lent.
 const GUARD: usize = 64;
+
+/// Where so many lent cells or bytes lie between their guards.
+fn within(count: usize) -> Range<usize> {
+    GUARD..GUARD + count
+}
 
 #[derive(Clone, Debug, PartialEq, Eq)]
 pub struct Case {
@@ -35,7 +43,7 @@ pub struct Tally {
     pub declined: [usize; 13],
     pub status: [usize; 3],
     pub changed: usize,
-    pub most_strikes: usize,
+    pub most_deletions: usize,
     pub most_changed: usize,
     pub turns: usize,
     pub earlier_replies: usize,
@@ -54,11 +62,22 @@ impl Tally {
         }
         self.changed += other.changed;
         self.turns += other.turns;
-        self.most_strikes = self.most_strikes.max(other.most_strikes);
+        self.most_deletions = self.most_deletions.max(other.most_deletions);
         self.most_changed = self.most_changed.max(other.most_changed);
         self.earlier_replies += other.earlier_replies;
         self.late_replies += other.late_replies;
         self.samples += other.samples;
+    }
+
+    fn add_run(&mut self, run: &Run, samples: usize) {
+        self.status[run.report().status as usize] += 1;
+        self.changed += run.changed;
+        self.turns += run.turns;
+        self.most_deletions = self.most_deletions.max(run.trace.deletions.len());
+        self.most_changed = self.most_changed.max(run.changed);
+        self.earlier_replies += run.trace.earlier_replies;
+        self.late_replies += run.trace.late_replies;
+        self.samples += samples;
     }
 }
 
@@ -91,29 +110,6 @@ fn around(rng: &mut Rng, bytes: &[u8], after: &[u8]) -> Vec<u8> {
     all.extend_from_slice(after);
     all.extend((0..GUARD).map(|_| rng.byte()));
     all
-}
-
-fn out_numbers<const N: usize>(answer: Result<[usize; N], Decline>) -> Vec<usize> {
-    match answer {
-        Ok(numbers) => [vec![0], numbers.to_vec()].concat(),
-        Err(decline) => {
-            let mut out = vec![0; N + 1];
-            out[0] = decline.number;
-            out[1] = decline.place;
-            out
-        }
-    }
-}
-
-fn report_numbers(run: &Run) -> [usize; 5] {
-    let report = run.report();
-    [
-        report.status as usize,
-        report.changed,
-        report.lists_sent,
-        report.polls_sent,
-        report.lowest_empty,
-    ]
 }
 
 /// Compares all cells of an arena and names the first that differs.
@@ -163,14 +159,16 @@ impl Claims {
             return Err(format!("claim: {fault}"));
         }
         let largest = largest_lists(&run.plan, &run.network);
-        for (index, values) in largest.iter().enumerate() {
+        for (variable, values) in (1..).zip(&largest) {
             for (value, &kept) in values.iter().enumerate() {
-                let listed = run.is_listed(index + 1, value);
+                let listed = run.is_listed(variable, value);
                 if kept && !listed {
-                    return Err(format!("claim: label {} {value} of the largest lists struck", index + 1));
+                    return Err(format!(
+                        "claim: label {variable} {value} of the largest lists deleted"
+                    ));
                 }
                 if run.closed() && listed && !kept {
-                    return Err(format!("claim: closed with label {} {value}", index + 1));
+                    return Err(format!("claim: closed with label {variable} {value}"));
                 }
             }
         }
@@ -194,7 +192,7 @@ impl Case {
         let turns = around(&mut rng, &self.turns, &self.turns_after);
         let work = arena(&mut rng, self.work);
         let lists = arena(&mut rng, self.lists);
-        let mut bench = Bench {
+        let mut layout = Layout {
             case: self,
             subject,
             plan: plan.clone(),
@@ -204,19 +202,22 @@ impl Case {
             rng,
             tally: Tally::default(),
         };
-        bench.check_plan()?;
-        bench.run(Some(self.turns.len()))?;
+        layout.check_plan()?;
+        layout.run(Some(self.turns.len()))?;
         for &length in &self.prefixes {
-            bench.run(Some(length))?;
+            layout.run(Some(length))?;
         }
-        bench.run(None)?;
-        if bench.plan != plan {
+        layout.run(None)?;
+        // Both were lent as bytes that a call only reads; the compiler must
+        // not take that for granted here.
+        let layout = black_box(layout);
+        if layout.plan != plan {
             return Err("the plan's bytes were changed".to_string());
         }
-        if bench.turns != turns {
+        if layout.turns != turns {
             return Err("the turn list's bytes were changed".to_string());
         }
-        Ok(bench.tally)
+        Ok(layout.tally)
     }
 
     pub fn to_text(&self) -> String {
@@ -256,7 +257,7 @@ impl Case {
             if digits.len() % 2 != 0 || !digits.chars().all(|c| c.is_ascii_hexdigit()) {
                 return Err(format!("'{name}' is no hex"));
             }
-            Ok(tinshrew_tests::reference::worked::hex(digits))
+            Ok(hex(digits))
         };
         let prefixes: Result<Vec<usize>, _> =
             field("prefixes")?.split_whitespace().map(str::parse).collect();
@@ -275,7 +276,7 @@ impl Case {
 }
 
 /// A case laid out in memory.
-struct Bench<'a> {
+struct Layout<'a> {
     case: &'a Case,
     subject: &'a Subject,
     plan: Vec<u8>,
@@ -286,92 +287,87 @@ struct Bench<'a> {
     tally: Tally,
 }
 
-impl Bench<'_> {
+/// What a run must give: the answer, and all cells of both arenas.
+struct Expected {
+    out: [usize; 6],
+    work: Vec<u16>,
+    lists: Vec<u16>,
+}
+
+impl Layout<'_> {
     /// The out cells of a call, with guards, checked against `expected`.
-    fn compare_out(
+    fn compare_out<const N: usize>(
         &mut self,
         what: &str,
-        expected: &[usize],
-        call: impl FnOnce(*mut usize),
+        expected: &[usize; N],
+        call: impl FnOnce(&Self, &mut [usize; N]),
     ) -> Result<(), String> {
-        let size = expected.len();
-        let before: Vec<usize> = (0..size + 8).map(|_| self.rng.next() as usize).collect();
+        let before: Vec<usize> = (0..N + 8).map(|_| self.rng.next() as usize).collect();
         let mut out = before.clone();
-        call(out[4..].as_mut_ptr());
+        let answer = 4..4 + N;
+        call(self, (&mut out[answer.clone()]).try_into().expect("N cells"));
         self.tally.calls += 1;
         self.tally.declined[expected[0].min(12)] += 1;
-        if out[4..4 + size] != *expected {
-            return Err(format!("{what}: expected {expected:?}, found {:?}", &out[4..4 + size]));
+        let found = &out[answer.clone()];
+        if found != expected {
+            return Err(format!("{what}: expected {expected:?}, found {found:?}"));
         }
-        if out[..4] != before[..4] || out[4 + size..] != before[4 + size..] {
+        if out[..4] != before[..4] || out[answer.end..] != before[answer.end..] {
             return Err(format!("{what}: a cell next to the answer was written"));
         }
         Ok(())
     }
 
     fn check_plan(&mut self) -> Result<(), String> {
-        let expected = out_numbers(check_plan(&self.case.plan));
-        let (plan, length) = (self.plan[GUARD..].as_ptr(), self.case.plan.len());
-        let function = self.subject.check_plan;
-        // SAFETY: the slices are as long as stated and `out` has 5 cells.
-        self.compare_out("check_plan", &expected, |out| unsafe { function(plan, length, out) })
+        let mut expected = [0; 5];
+        write_answer(reference_check(&self.case.plan), &mut expected);
+        self.compare_out("check_plan", &expected, |layout, out| {
+            layout.subject.check_plan(&layout.plan[within(layout.case.plan.len())], out)
+        })
     }
 
     /// A turn run with that many bytes of the list, or a round run.
     fn run(&mut self, turn_bytes: Option<usize>) -> Result<(), String> {
-        let case = self.case;
         let what = match turn_bytes {
             Some(length) => format!("run_turns with {length} bytes"),
             None => "run_round".to_string(),
         };
-        let (work_part, lists_part) = (GUARD..GUARD + case.work, GUARD..GUARD + case.lists);
+        let expected = self.expect(turn_bytes).map_err(|text| format!("{what}: {text}"))?;
+        let case = self.case;
+        let (mut work, mut lists) = (self.work.clone(), self.lists.clone());
+        self.compare_out(&what, &expected.out, |layout, out| {
+            layout.subject.run(
+                &layout.plan[within(case.plan.len())],
+                turn_bytes.map(|length| &layout.turns[within(length)]),
+                &mut work[within(case.work)],
+                &mut lists[within(case.lists)],
+                out,
+            )
+        })?;
+        same_cells("list", case.lists, &expected.lists, &lists)
+            .and_then(|()| same_cells("work", case.work, &expected.work, &work))
+            .map_err(|text| format!("{what}: {text}"))
+    }
+
+    /// The reference's run, on which the claims are checked too.
+    fn expect(&mut self, turn_bytes: Option<usize>) -> Result<Expected, String> {
+        let case = self.case;
         let (mut work, mut lists) = (self.work.clone(), self.lists.clone());
         let mut claims = Claims { rng: Rng::new(case.fill ^ 5), samples: 0, stuck: None };
         let result = {
-            let (work, lists) = (&mut work[work_part.clone()], &mut lists[lists_part.clone()]);
+            let (work, lists) = (&mut work[within(case.work)], &mut lists[within(case.lists)]);
             let watch = &mut |run: &Run| claims.watch(run);
             match turn_bytes {
                 Some(length) => run_turns(&case.plan, &case.turns[..length], work, lists, watch),
                 None => run_round(&case.plan, work, lists, watch),
             }
         };
-        let expected = out_numbers(match &result {
-            Ok(run) => Ok(report_numbers(run)),
-            Err(decline) => Err(*decline),
-        });
         if let Ok(run) = &result {
-            claims.check(run).map_err(|text| format!("{what}: {text}"))?;
-            self.tally.status[run.report().status as usize] += 1;
-            self.tally.changed += run.changed;
-            self.tally.turns += run.turns;
-            self.tally.most_changed = self.tally.most_changed.max(run.changed);
-            self.tally.most_strikes = self.tally.most_strikes.max(run.trace.strikes.len());
-            self.tally.earlier_replies += run.trace.earlier_replies;
-            self.tally.late_replies += run.trace.late_replies;
-            self.tally.samples += claims.samples;
+            claims.check(run)?;
+            self.tally.add_run(run, claims.samples);
         }
-
-        let (mut work_found, mut lists_found) = (self.work.clone(), self.lists.clone());
-        let (plan, plan_len) = (self.plan[GUARD..].as_ptr(), case.plan.len());
-        let turns = self.turns[GUARD..].as_ptr();
-        let work_at = work_found[work_part].as_mut_ptr();
-        let lists_at = lists_found[lists_part].as_mut_ptr();
-        let subject = *self.subject;
-        self.compare_out(&what, &expected, |out| {
-            // SAFETY: the slices are as long as stated and `out` has 6 cells.
-            unsafe {
-                match turn_bytes {
-                    Some(length) => (subject.run_turns)(
-                        plan, plan_len, turns, length, work_at, case.work, lists_at, case.lists, out,
-                    ),
-                    None => (subject.run_round)(
-                        plan, plan_len, work_at, case.work, lists_at, case.lists, out,
-                    ),
-                }
-            }
-        })?;
-        same_cells("list", case.lists, &lists, &lists_found)
-            .and_then(|()| same_cells("work", case.work, &work, &work_found))
-            .map_err(|text| format!("{what}: {text}"))
+        let mut out = [0; 6];
+        write_answer(reference_answer(&result), &mut out);
+        Ok(Expected { out, work, lists })
     }
 }

@@ -1,8 +1,13 @@
 // Plans and calls with two faults at once, to see which one is declined.
 
 use tinshrew_tests::generate::random_turns;
-use tinshrew_tests::reference::plan::{Plan, Relation};
+use tinshrew_tests::reference::plan::{Constraint, Plan, Relation};
+use tinshrew_tests::reference::{LIST_CELLS, WORK_CELLS};
 use tinshrew_tests::rng::Rng;
+
+pub fn is_table(constraint: &Constraint) -> bool {
+    matches!(constraint.relation, Relation::Table(_))
+}
 
 /// A section as it will stand in the file.
 #[derive(Clone, Debug)]
@@ -30,13 +35,13 @@ pub struct Draft {
     version: u8,
     head: Raw,
     variables: Vec<Raw>,
-    rules: Vec<Raw>,
+    constraints: Vec<Raw>,
     tail: Vec<u8>,
     /// Bytes to keep, from the end.
     cut: usize,
     emptied: bool,
     variable: usize,
-    rule: usize,
+    constraint: usize,
     tables: Vec<usize>,
     limits: Vec<usize>,
     pub turns: Vec<u8>,
@@ -48,8 +53,8 @@ type Spoil = fn(&mut Draft, &mut Rng);
 
 /// Every single fault.
 pub const FAULTS: &[(&str, Spoil)] = &[
-    ("9 work", |d, r| d.work = r.pick(&[0, 1, 24_575])),
-    ("10 lists", |d, r| d.lists = r.pick(&[0, 1, 31])),
+    ("9 work", |d, r| d.work = r.pick(&[0, 1, WORK_CELLS - 1])),
+    ("10 lists", |d, r| d.lists = r.pick(&[0, 1, LIST_CELLS - 1])),
     ("11 odd", |d, _| d.turns.push(9)),
     ("11 long", |d, r| d.turns.resize(r.pick(&[65_537, 65_538, 65_540, 70_000]), 0)),
     ("12 bad turn", |d, r| {
@@ -62,8 +67,8 @@ pub const FAULTS: &[(&str, Spoil)] = &[
     ("1 cut by one", |d, _| d.cut = 1),
     ("1 head length", |d, r| d.head.length = Some(r.pick(&[256, 4_096, 65_535]))),
     ("1 variable length", |d, r| d.variable().length = Some(r.pick(&[1_024, 65_535]))),
-    ("1 rule length", |d, r| d.rule().length = Some(r.pick(&[1_024, 65_535]))),
-    ("1 one rule more", |d, _| d.head.set(2, d.rules.len() as u8 + 1)),
+    ("1 constraint length", |d, r| d.constraint().length = Some(r.pick(&[1_024, 65_535]))),
+    ("1 one constraint more", |d, _| d.head.set(2, d.constraints.len() as u8 + 1)),
     ("1 one variable more", |d, _| d.head.set(1, d.variables.len() as u8 + 1)),
     ("2 version", |d, r| d.version = r.pick(&[0, 2, 255])),
     ("3 head short", |d, r| d.head.content.truncate(r.below(3))),
@@ -85,26 +90,26 @@ pub const FAULTS: &[(&str, Spoil)] = &[
         let count = d.variable().get(1);
         d.variable().set(1, count + 1);
     }),
-    ("3 rule under 3", |d, r| {
+    ("3 constraint under 3", |d, r| {
         let length = r.below(3);
-        d.rule().content.truncate(length);
+        d.constraint().content.truncate(length);
     }),
-    ("3 rule short", |d, r| {
+    ("3 constraint short", |d, r| {
         let short = r.between(1, 2);
-        let length = d.rule().content.len().saturating_sub(short).max(3);
-        d.rule().content.truncate(length);
+        let length = d.constraint().content.len().saturating_sub(short).max(3);
+        d.constraint().content.truncate(length);
     }),
-    ("3 rule long", |d, r| {
+    ("3 constraint long", |d, r| {
         let more: Vec<u8> = (0..r.between(1, 2)).map(|_| r.byte()).collect();
-        d.rule().content.extend(more);
+        d.constraint().content.extend(more);
     }),
     ("3 other kind", |d, _| {
-        let kind = d.rule().get(2);
-        d.rule().set(2, kind ^ 1);
+        let kind = d.constraint().get(2);
+        d.constraint().set(2, kind ^ 1);
     }),
     ("4 workers", |d, r| d.head.set(0, r.pick(&[0, 9, 255]))),
     ("4 variables", |d, r| d.head.set(1, r.pick(&[0, 33, 255]))),
-    ("4 rules", |d, r| d.head.set(2, r.pick(&[129, 255]))),
+    ("4 constraints", |d, r| d.head.set(2, r.pick(&[129, 255]))),
     ("4 count", |d, r| {
         let count = r.pick(&[17, 18, 255]);
         d.variable().set(1, count);
@@ -121,19 +126,19 @@ pub const FAULTS: &[(&str, Spoil)] = &[
         let owner = r.pick(&[d.head.get(0).wrapping_add(1), 255]);
         d.variable().set(0, owner);
     }),
-    ("5 first 0", |d, _| d.rule().set(0, 0)),
+    ("5 first 0", |d, _| d.constraint().set(0, 0)),
     ("5 both the same", |d, _| {
-        let second = d.rule().get(1);
-        d.rule().set(0, second);
+        let second = d.constraint().get(1);
+        d.constraint().set(0, second);
     }),
     ("5 exchanged", |d, _| {
-        let (first, second) = (d.rule().get(0), d.rule().get(1));
-        d.rule().set(0, second);
-        d.rule().set(1, first);
+        let (first, second) = (d.constraint().get(0), d.constraint().get(1));
+        d.constraint().set(0, second);
+        d.constraint().set(1, first);
     }),
     ("5 second", |d, r| {
         let second = r.pick(&[d.head.get(1).wrapping_add(1), 255]);
-        d.rule().set(1, second);
+        d.constraint().set(1, second);
     }),
     ("6 code", |d, r| {
         let count = d.variable().content.len().saturating_sub(2) / 4;
@@ -148,21 +153,21 @@ pub const FAULTS: &[(&str, Spoil)] = &[
     }),
     ("7 kind", |d, r| {
         let kind = r.pick(&[2, 3, 128, 255]);
-        d.rule().set(2, kind);
+        d.constraint().set(2, kind);
     }),
     ("7 bits", |d, r| {
-        if !d.tables.is_empty() && !d.tables.contains(&d.rule) {
-            d.rule = r.pick(&d.tables);
+        if !d.tables.is_empty() && !d.tables.contains(&d.constraint) {
+            d.constraint = r.pick(&d.tables);
         }
-        let rows = d.rule().content.len().saturating_sub(3) / 2;
+        let rows = d.constraint().content.len().saturating_sub(3) / 2;
         if rows > 0 {
             let at = 3 + 2 * r.below(rows);
-            let high = d.rule().get(at) | 0x80 >> r.below(4);
-            d.rule().set(at, high);
+            let high = d.constraint().get(at) | 0x80 >> r.below(4);
+            d.constraint().set(at, high);
         }
     }),
     ("8 tail", |d, r| d.tail = (0..r.between(1, 9)).map(|_| r.byte()).collect()),
-    ("8 one rule fewer", |d, _| d.head.set(2, d.rules.len() as u8 - 1)),
+    ("8 one constraint fewer", |d, _| d.head.set(2, d.constraints.len() as u8 - 1)),
 ];
 
 impl Draft {
@@ -175,12 +180,12 @@ impl Draft {
             sections.push(Raw { length: None, content: bytes[at + 2..end].to_vec() });
             at = end;
         }
-        let rules = sections.split_off(1 + plan.variables.len());
+        let constraints = sections.split_off(1 + plan.variables.len());
         let variables = sections.split_off(1);
         let of_kind = |table: bool| -> Vec<usize> {
-            let numbered = plan.rules.iter().enumerate();
+            let numbered = plan.constraints.iter().enumerate();
             numbered
-                .filter(|(_, rule)| matches!(rule.relation, Relation::Table(_)) == table)
+                .filter(|(_, constraint)| is_table(constraint) == table)
                 .map(|(number, _)| number)
                 .collect()
         };
@@ -189,17 +194,17 @@ impl Draft {
             version: 1,
             head: sections.remove(0),
             variable: rng.below(variables.len()),
-            rule: rng.below(rules.len()),
+            constraint: rng.below(constraints.len()),
             tables: of_kind(true),
             limits: of_kind(false),
             variables,
-            rules,
+            constraints,
             tail: Vec::new(),
             cut: 0,
             emptied: false,
             turns: random_turns(rng, plan.workers, count),
-            work: 24_576 + rng.below(3),
-            lists: 32 + rng.below(3),
+            work: WORK_CELLS + rng.below(3),
+            lists: LIST_CELLS + rng.below(3),
         }
     }
 
@@ -207,24 +212,24 @@ impl Draft {
         &mut self.variables[self.variable]
     }
 
-    fn rule(&mut self) -> &mut Raw {
-        &mut self.rules[self.rule]
+    fn constraint(&mut self) -> &mut Raw {
+        &mut self.constraints[self.constraint]
     }
 
     /// Turns to other sections for the next fault.
     pub fn move_on(&mut self, rng: &mut Rng) {
         self.variable = rng.below(self.variables.len());
-        self.rule = match rng.below(3) {
+        self.constraint = match rng.below(3) {
             0 if !self.tables.is_empty() => rng.pick(&self.tables),
             1 if !self.limits.is_empty() => rng.pick(&self.limits),
-            _ => rng.below(self.rules.len()),
+            _ => rng.below(self.constraints.len()),
         };
     }
 
     /// The file's bytes, and the bytes that were cut off.
     pub fn encode(&self) -> (Vec<u8>, Vec<u8>) {
         let mut bytes = vec![self.version];
-        for raw in [&self.head].into_iter().chain(&self.variables).chain(&self.rules) {
+        for raw in [&self.head].into_iter().chain(&self.variables).chain(&self.constraints) {
             let length = raw.length.unwrap_or(raw.content.len()) as u16;
             bytes.extend_from_slice(&length.to_be_bytes());
             bytes.extend_from_slice(&raw.content);

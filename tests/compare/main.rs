@@ -37,69 +37,106 @@ struct Totals {
     tally: Tally,
 }
 
+impl Totals {
+    fn add_kind(&mut self, kind: String, (cases, seconds): (usize, f64)) {
+        let all = self.kinds.entry(kind).or_default();
+        all.0 += cases;
+        all.1 += seconds;
+    }
+
+    fn add(&mut self, other: Totals) {
+        self.tally.add(&other.tally);
+        for (kind, numbers) in other.kinds {
+            self.add_kind(kind, numbers);
+        }
+    }
+
+    fn cases(&self) -> usize {
+        self.kinds.values().map(|kind| kind.0).sum()
+    }
+}
+
 struct Difference {
     number: u64,
     case: Case,
     text: String,
 }
 
+/// What the threads share. They take the cases by number, so that each case is
+/// the same and the outcome too, however many threads there are.
+struct Shared<'a> {
+    subject: &'a Subject,
+    seed: u64,
+    next: AtomicU64,
+    /// The number of cases, or that of the lowest difference so far.
+    limit: AtomicU64,
+    found: Mutex<Option<Difference>>,
+    totals: Mutex<Totals>,
+}
+
+impl Shared<'_> {
+    fn take_cases(&self, thread: usize) {
+        let mut mine = Totals::default();
+        loop {
+            let number = self.next.fetch_add(1, Ordering::Relaxed);
+            if number >= self.limit.load(Ordering::Relaxed) {
+                break;
+            }
+            let start = Instant::now();
+            let case = cases::make(self.seed, number);
+            crash::at(thread, number);
+            match case.run(self.subject) {
+                Ok(tally) => {
+                    mine.tally.add(&tally);
+                    mine.add_kind(case.kind, (1, start.elapsed().as_secs_f64()));
+                }
+                Err(text) => self.keep_lowest(Difference { number, case, text }),
+            }
+        }
+        crash::at(thread, crash::NONE);
+        self.totals.lock().unwrap().add(mine);
+    }
+
+    fn keep_lowest(&self, difference: Difference) {
+        self.limit.fetch_min(difference.number, Ordering::Relaxed);
+        let mut found = self.found.lock().unwrap();
+        if found.as_ref().is_none_or(|earlier| difference.number < earlier.number) {
+            *found = Some(difference);
+        }
+    }
+}
+
 /// Runs cases 0 to `count` - 1 and gives the difference of the lowest number.
-fn run_all(subject: &Subject, count: u64, seed: u64, threads: usize) -> (Totals, Option<Difference>) {
-    let next = AtomicU64::new(0);
-    let limit = AtomicU64::new(count);
-    let found: Mutex<Option<Difference>> = Mutex::new(None);
-    let totals = Mutex::new(Totals::default());
+fn run_all(
+    subject: &Subject,
+    count: u64,
+    seed: u64,
+    threads: usize,
+) -> (Totals, Option<Difference>) {
+    let shared = Shared {
+        subject,
+        seed,
+        next: AtomicU64::new(0),
+        limit: AtomicU64::new(count),
+        found: Mutex::new(None),
+        totals: Mutex::new(Totals::default()),
+    };
     let done = AtomicBool::new(false);
     std::thread::scope(|scope| {
         let watchdog = scope.spawn(|| watch(&done, threads, seed));
-        let mut handles = Vec::new();
-        for thread in 0..threads {
-            let (next, limit, found, totals) = (&next, &limit, &found, &totals);
-            let work = move || {
-                let mut mine = Totals::default();
-                loop {
-                    let number = next.fetch_add(1, Ordering::Relaxed);
-                    if number >= limit.load(Ordering::Relaxed) {
-                        break;
-                    }
-                    let start = Instant::now();
-                    let case = cases::make(seed, number);
-                    crash::at(thread, number);
-                    match case.run(subject) {
-                        Ok(tally) => {
-                            mine.tally.add(&tally);
-                            let kind = mine.kinds.entry(case.kind).or_default();
-                            kind.0 += 1;
-                            kind.1 += start.elapsed().as_secs_f64();
-                        }
-                        Err(text) => {
-                            limit.fetch_min(number, Ordering::Relaxed);
-                            let mut found = found.lock().unwrap();
-                            if found.as_ref().is_none_or(|earlier| number < earlier.number) {
-                                *found = Some(Difference { number, case, text });
-                            }
-                        }
-                    }
-                }
-                crash::at(thread, crash::NONE);
-                let mut all = totals.lock().unwrap();
-                all.tally.add(&mine.tally);
-                for (kind, (cases, seconds)) in mine.kinds {
-                    let kind = all.kinds.entry(kind).or_default();
-                    kind.0 += cases;
-                    kind.1 += seconds;
-                }
-            };
+        let start = |thread| {
+            let shared = &shared;
             let builder = std::thread::Builder::new().stack_size(STACK);
-            handles.push(builder.spawn_scoped(scope, work).expect("a thread"));
-        }
+            builder.spawn_scoped(scope, move || shared.take_cases(thread)).expect("a thread")
+        };
+        let handles: Vec<_> = (0..threads).map(start).collect();
         for handle in handles {
             handle.join().expect("a thread that ends");
         }
         done.store(true, Ordering::Relaxed);
         watchdog.thread().unpark();
     });
-    (totals.into_inner().unwrap(), found.into_inner().unwrap())
+    (shared.totals.into_inner().unwrap(), shared.found.into_inner().unwrap())
 }
 
 /// Ends the program when a thread stays at the same case too long.
@@ -120,8 +157,12 @@ fn watch(done: &AtomicBool, threads: usize, seed: u64) {
     }
 }
 
+fn case_path(seed: u64, number: u64) -> String {
+    format!("difference-{seed}-{number}.txt")
+}
+
 fn write_case(seed: u64, number: u64, case: &Case, text: &str) {
-    let path = format!("difference-{seed}-{number}.txt");
+    let path = case_path(seed, number);
     let content = format!("# seed {seed}, case {number}: {text}\n{}", case.to_text());
     println!("compare: case {number} ({}) differs: {text}", case.kind);
     match std::fs::write(&path, content) {
@@ -175,7 +216,7 @@ fn print_totals(totals: &Totals) {
     println!("runs: {} open, {} closed, {} bare", t.status[0], t.status[1], t.status[2]);
     println!(
         "turns: {}, of them changing: {}; most in a run: {} changing, {} strikes",
-        t.turns, t.changed, t.most_changed, t.most_strikes
+        t.turns, t.changed, t.most_changed, t.most_deletions
     );
     println!(
         "dropped replies: {} to earlier polls, {} late; progress sampled: {}",
@@ -191,28 +232,51 @@ fn usage() -> ! {
     exit(2)
 }
 
-fn main() {
-    let mut numbers = Vec::new();
-    let (mut stand_in, mut file, mut only, mut wrong) = (None, None, None, false);
-    let mut threads = std::thread::available_parallelism().map_or(2, |cores| cores.get());
+fn cannot_run(why: String) -> ! {
+    eprintln!("compare: {why}");
+    exit(2)
+}
+
+struct Options {
+    /// The number of cases and the seed.
+    numbers: Vec<u64>,
+    stand_in: Option<Subject>,
+    mutants: bool,
+    file: Option<String>,
+    only: Option<u64>,
+    threads: usize,
+}
+
+fn options() -> Options {
+    let mut options = Options {
+        numbers: Vec::new(),
+        stand_in: None,
+        mutants: false,
+        file: None,
+        only: None,
+        threads: std::thread::available_parallelism().map_or(2, |cores| cores.get()),
+    };
     let mut arguments = std::env::args().skip(1);
     while let Some(argument) = arguments.next() {
         let mut value = || arguments.next().unwrap_or_else(|| usage());
         match argument.as_str() {
-            "--self" => stand_in = Some(subject::reference()),
-            "--fast" => stand_in = Some(subject::efficient()),
-            "--mutants" => wrong = true,
-            "--repeat" => file = Some(value()),
-            "--only" => only = Some(value().parse::<u64>().unwrap_or_else(|_| usage())),
-            "--threads" => threads = value().parse().unwrap_or_else(|_| usage()),
-            number => numbers.push(number.parse::<u64>().unwrap_or_else(|_| usage())),
+            "--self" => options.stand_in = Some(subject::reference()),
+            "--fast" => options.stand_in = Some(subject::efficient()),
+            "--mutants" => options.mutants = true,
+            "--repeat" => options.file = Some(value()),
+            "--only" => options.only = Some(value().parse().unwrap_or_else(|_| usage())),
+            "--threads" => options.threads = value().parse().unwrap_or_else(|_| usage()),
+            number => options.numbers.push(number.parse().unwrap_or_else(|_| usage())),
         }
     }
-    if numbers.len() > 2 || threads == 0 || threads > crash::THREADS {
+    if options.numbers.len() > 2 || !(1..=crash::THREADS).contains(&options.threads) {
         usage();
     }
-    let seed = numbers.get(1).copied().unwrap_or(1);
-    crash::install();
+    options
+}
+
+/// A panic names its case as a difference does.
+fn write_case_on_panic(seed: u64) {
     std::panic::set_hook(Box::new(move |panic| {
         println!("compare: {panic}");
         if let Some(number) = crash::mine() {
@@ -220,45 +284,58 @@ fn main() {
         }
         exit(1)
     }));
+}
 
-    if wrong {
-        let count = numbers.first().copied().unwrap_or(30_000);
-        exit(i32::from(!mutants(count, seed, threads)));
-    }
-    let Some(subject) = stand_in.or_else(subject::library) else {
-        eprintln!("compare: built without the library; set TINSHREW_LIB and build again");
-        exit(2)
-    };
-    if let Some(path) = file {
-        let text = std::fs::read_to_string(&path).unwrap_or_else(|error| {
-            eprintln!("compare: {path}: {error}");
-            exit(2)
-        });
-        let case = Case::from_text(&text).unwrap_or_else(|error| {
-            eprintln!("compare: {path}: {error}");
-            exit(2)
-        });
-        exit(i32::from(!repeat(&subject, &case)));
-    }
-    if let Some(number) = only {
-        let case = cases::make(seed, number);
-        let path = format!("difference-{seed}-{number}.txt");
-        if let Err(error) = std::fs::write(&path, case.to_text()) {
-            eprintln!("compare: {path}: {error}");
-            exit(2);
-        }
-        println!("compare: case {number} is in {path}");
-        exit(i32::from(!repeat(&subject, &case)));
-    }
+fn case_from_file(path: &str) -> Case {
+    let text = std::fs::read_to_string(path).map_err(|error| error.to_string());
+    text.and_then(|text| Case::from_text(&text))
+        .unwrap_or_else(|error| cannot_run(format!("{path}: {error}")))
+}
 
-    let count = numbers.first().copied().unwrap_or(100_000);
+/// The case of that number, written to a file first.
+fn case_of_number(seed: u64, number: u64) -> Case {
+    let case = cases::make(seed, number);
+    let path = case_path(seed, number);
+    if let Err(error) = std::fs::write(&path, case.to_text()) {
+        cannot_run(format!("{path}: {error}"));
+    }
+    println!("compare: case {number} is in {path}");
+    case
+}
+
+/// Runs all cases; true when they agree.
+fn compare(subject: &Subject, count: u64, seed: u64, threads: usize) -> bool {
     let start = Instant::now();
-    let (totals, difference) = run_all(&subject, count, seed, threads);
+    let (totals, difference) = run_all(subject, count, seed, threads);
     if let Some(Difference { number, case, text }) = difference {
         write_case(seed, number, &case, &text);
-        exit(1);
+        return false;
     }
     print_totals(&totals);
-    println!("subject: {}; {:.1} s on {threads} threads", subject.name, start.elapsed().as_secs_f64());
-    println!("compare: {count} cases agree (seed {seed})");
+    let seconds = start.elapsed().as_secs_f64();
+    println!("subject: {}; {seconds:.1} s on {threads} threads", subject.name);
+    println!("compare: {} cases agree (seed {seed})", totals.cases());
+    true
+}
+
+fn main() {
+    let options = options();
+    let threads = options.threads;
+    let count_or = |default| options.numbers.first().copied().unwrap_or(default);
+    let seed = options.numbers.get(1).copied().unwrap_or(1);
+    crash::install();
+    write_case_on_panic(seed);
+    let agrees = if options.mutants {
+        mutants(count_or(30_000), seed, threads)
+    } else {
+        let Some(subject) = options.stand_in.or_else(subject::library) else {
+            cannot_run("built without the library; set TINSHREW_LIB and build again".to_string())
+        };
+        match (&options.file, options.only) {
+            (Some(path), _) => repeat(&subject, &case_from_file(path)),
+            (None, Some(number)) => repeat(&subject, &case_of_number(seed, number)),
+            (None, None) => compare(&subject, count_or(100_000), seed, threads),
+        }
+    };
+    exit(i32::from(!agrees));
 }

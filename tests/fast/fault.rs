@@ -35,17 +35,17 @@ macro_rules! faults {
 
 faults! {
     // Plan bytes.
-    CutPlaceIsEnd BoundaryPlaceIsHead HeadRangeFirst Rules129 LengthBeforeCount
+    CutPlaceIsEnd BoundaryPlaceIsHead HeadRangeFirst Constraints129 LengthBeforeCount
     OwnerBeforeCount CodeBeforeOwner OwnerZero LastCodeUnseen SameVariable
-    SlotsBeforeKind LastRowUnseen TailPlaceIsEnd
-    // Rules.
+    VariablesBeforeKind LastRowUnseen TailPlaceIsEnd
+    // Constraints.
     Wraps LimitExcluded UnrecordedJudged ZeroUnrecorded UnjudgedUntied
-    EitherRule LastRuleOnly OneWay
-    // Loading and strikes.
-    CountAfterStrikes NoStrikeAtLoading AllAtLoading OwnStrikeUntreated
-    UnlistedLoses StruckAtOne Descending NewestFirst
+    EitherConstraint LastConstraintOnly OneWay
+    // Loading and deletions.
+    CountAfterDeletions NoDeletionAtLoading AllAtLoading OwnDeletionUntreated
+    UnlistedLoses DeletedAtOne Descending NewestFirst
     // Messages and polls.
-    EmptySend SendsOne DeskNotSent SendsCountedEach SenderUncounted
+    EmptySend SendsOne ControllerNotSent SendsCountedEach SenderUncounted
     ReadGoesFirst CountsLabels FirstPollKept AnswerWithWork AnswerWithOut
     AnswerAnyCount AnswerMoreLists UnreadyDropsPoll UnreadyCounts AnswersAgain
     ReplyCarriesWanted IdlePollCounted PollWhenOpen PollsCountedEach MarksKept
@@ -59,5 +59,5 @@ faults! {
     EmptyOnlyWhenClosed DeclineClears BadTurnLeavesLists
     // The order of declines and the turn list.
     ListsBeforeWork WorkOneLess LongestRefused PlanBeforeLength
-    TurnsBeforePlan DeskSends ReadsItself WorkerPolls TurnPlaceInBytes
+    TurnsBeforePlan ControllerSends ReadsItself WorkerPolls TurnPlaceInBytes
 }

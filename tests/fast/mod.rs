@@ -4,36 +4,17 @@
 // the sound one compiles to code without any of those branches.
 
 pub mod fault;
+mod plan;
 
 use std::collections::VecDeque;
 
 pub use fault::{Fault, Faults, Faulty, Sound};
+use plan::{decode, Net};
 
 const WORK: usize = 24_576;
 const MAX: usize = 32;
 
 pub type Declined = (usize, usize);
-
-/// A decoded plan. A label is 16 * variable + value, both from 0.
-pub struct Net {
-    pub p: usize,
-    pub n: usize,
-    pub rules: usize,
-    owner: [u8; MAX],
-    size: [u8; MAX],
-    /// By variable: the variables it shares a rule with.
-    tied: [u32; MAX],
-    /// By worker: its variables.
-    own: [u32; 9],
-    /// By label and other variable: the values that support it.
-    rows: Vec<[u16; MAX]>,
-}
-
-impl Net {
-    pub fn labels(&self) -> usize {
-        self.size[..self.n].iter().map(|&size| usize::from(size)).sum()
-    }
-}
 
 fn bits(mut mask: u32) -> impl Iterator<Item = usize> {
     std::iter::from_fn(move || {
@@ -50,223 +31,27 @@ fn below(count: u8) -> u16 {
     ((1u32 << count) - 1) as u16
 }
 
-fn word(bytes: &[u8], at: usize) -> u16 {
-    u16::from(bytes[at]) << 8 | u16::from(bytes[at + 1])
-}
-
-/// The bounds of the section at `start`.
-fn section<F: Faults>(f: F, bytes: &[u8], start: usize) -> Result<usize, Declined> {
-    let cut = if f.has(Fault::CutPlaceIsEnd) { bytes.len() } else { start };
-    if f.has(Fault::BoundaryPlaceIsHead) && start == bytes.len() {
-        return Err((1, 1));
-    }
-    if bytes.len() - start < 2 {
-        return Err((1, cut));
-    }
-    let length = usize::from(word(bytes, start));
-    if bytes.len() - start - 2 < length {
-        return Err((1, cut));
-    }
-    Ok(length)
-}
-
-pub fn decode<F: Faults>(f: F, bytes: &[u8]) -> Result<Net, Declined> {
-    let Some(&version) = bytes.first() else {
-        return Err((1, 0));
-    };
-    if version != 1 {
-        return Err((2, 0));
-    }
-    let length = section(f, bytes, 1)?;
-    if f.has(Fault::HeadRangeFirst) && length > 0 && !(1..=8).contains(&bytes[3]) {
-        return Err((4, 1));
-    }
-    if length != 3 {
-        return Err((3, 1));
-    }
-    let (p, n, rules) = (usize::from(bytes[3]), usize::from(bytes[4]), usize::from(bytes[5]));
-    let most = if f.has(Fault::Rules129) { 129 } else { 128 };
-    if p == 0 || p > 8 || n == 0 || n > MAX || rules > most {
-        return Err((4, 1));
-    }
-    let mut net = Net {
-        p,
-        n,
-        rules,
-        owner: [0; MAX],
-        size: [0; MAX],
-        tied: [0; MAX],
-        own: [0; 9],
-        rows: vec![[0; MAX]; n * 16],
-    };
-    let mut sodium = [0u16; MAX * 16];
-    let mut start = 6;
-    for s in 0..n {
-        let length = section(f, bytes, start)?;
-        if length < 2 {
-            return Err((3, start));
-        }
-        let body = &bytes[start + 2..start + 2 + length];
-        let (owner, size) = (body[0], body[1]);
-        let expected = 2 + 4 * usize::from(size);
-        if f.has(Fault::LengthBeforeCount) && length != expected {
-            return Err((3, start));
-        }
-        if f.has(Fault::OwnerBeforeCount) && (owner == 0 || usize::from(owner) > p) {
-            return Err((5, start));
-        }
-        if size > 16 {
-            return Err((4, start));
-        }
-        if length != expected {
-            return Err((3, start));
-        }
-        if f.has(Fault::CodeBeforeOwner) && repeats(body, usize::from(size)) {
-            return Err((6, start));
-        }
-        if owner == 0 && !f.has(Fault::OwnerZero) || usize::from(owner) > p {
-            return Err((5, start));
-        }
-        let scanned = usize::from(size) - usize::from(f.has(Fault::LastCodeUnseen) && size > 0);
-        if repeats(body, scanned) {
-            return Err((6, start));
-        }
-        net.owner[s] = owner;
-        net.size[s] = size;
-        net.own[usize::from(owner)] |= 1 << s;
-        for d in 0..usize::from(size) {
-            sodium[16 * s + d] = word(body, 4 + 4 * d);
-        }
-        start += 2 + length;
-    }
-    for _ in 0..rules {
-        let length = section(f, bytes, start)?;
-        if length < 3 {
-            return Err((3, start));
-        }
-        let body = &bytes[start + 2..start + 2 + length];
-        let (first, second, kind) = (usize::from(body[0]), usize::from(body[1]), body[2]);
-        let outside = first == 0
-            || second > n
-            || first > second
-            || first == second && !f.has(Fault::SameVariable);
-        if f.has(Fault::SlotsBeforeKind) && outside {
-            return Err((5, start));
-        }
-        if kind > 1 {
-            return Err((7, start));
-        }
-        if outside {
-            return Err((5, start));
-        }
-        let (a, b) = (first - 1, second - 1);
-        let count = usize::from(net.size[a]);
-        if length != if kind == 1 { 5 } else { 3 + 2 * count } {
-            return Err((3, start));
-        }
-        let full = below(net.size[b]);
-        let mut rows = [0u16; 16];
-        if kind == 0 {
-            for (d, row) in rows.iter_mut().enumerate().take(count) {
-                *row = word(body, 3 + 2 * d);
-                let last = f.has(Fault::LastRowUnseen) && d + 1 == count;
-                if *row & !full != 0 && !last {
-                    return Err((7, start));
-                }
-                *row &= full;
-            }
-        } else {
-            let limit = word(body, 3);
-            for (d, row) in rows.iter_mut().enumerate().take(count) {
-                for e in 0..usize::from(net.size[b]) {
-                    if sodium_allows(f, sodium[16 * a + d], sodium[16 * b + e], limit) {
-                        *row |= 1 << e;
-                    }
-                }
-            }
-        }
-        let known = net.tied[a] >> b & 1 == 1;
-        let unjudged = |s: usize| {
-            (0..usize::from(net.size[s])).all(|d| sodium[16 * s + d] == u16::MAX)
-        };
-        if f.has(Fault::UnjudgedUntied) && kind == 1 && (unjudged(a) || unjudged(b)) {
-            start += 2 + length;
-            continue;
-        }
-        net.tied[a] |= 1 << b;
-        net.tied[b] |= 1 << a;
-        for d in 0..count {
-            let mut row = rows[d];
-            if known {
-                let earlier = net.rows[16 * a + d][b];
-                row = if f.has(Fault::EitherRule) {
-                    row | earlier
-                } else if f.has(Fault::LastRuleOnly) {
-                    row
-                } else {
-                    row & earlier
-                };
-            }
-            net.rows[16 * a + d][b] = row;
-        }
-        for e in 0..usize::from(net.size[b]) {
-            let mut column = 0;
-            for d in 0..count {
-                column |= (net.rows[16 * a + d][b] >> e & 1) << d;
-            }
-            if f.has(Fault::OneWay) {
-                column = below(net.size[a]);
-            }
-            net.rows[16 * b + e][a] = column;
-        }
-        start += 2 + length;
-    }
-    if start < bytes.len() {
-        return Err((8, if f.has(Fault::TailPlaceIsEnd) { bytes.len() - 1 } else { start }));
-    }
-    Ok(net)
-}
-
-fn repeats(body: &[u8], size: usize) -> bool {
-    (1..size).any(|d| (0..d).any(|e| word(body, 2 + 4 * d) == word(body, 2 + 4 * e)))
-}
-
-fn sodium_allows<F: Faults>(f: F, one: u16, other: u16, limit: u16) -> bool {
-    if f.has(Fault::ZeroUnrecorded) && (one == 0 || other == 0) {
-        return true;
-    }
-    if f.has(Fault::Wraps) && one != u16::MAX && other != u16::MAX {
-        return one.wrapping_add(other) <= limit;
-    }
-    if f.has(Fault::LimitExcluded) && one != u16::MAX && other != u16::MAX {
-        return u32::from(one) + u32::from(other) < u32::from(limit);
-    }
-    if !f.has(Fault::UnrecordedJudged) && (one == u16::MAX || other == u16::MAX) {
-        return true;
-    }
-    u32::from(one) + u32::from(other) <= u32::from(limit)
-}
-
 #[derive(Clone, Copy)]
-enum Mail {
+enum Message {
     List(u16),
-    Poll { number: u32, wanted: u32 },
-    Reply { number: u32 },
+    Poll { timestamp: u32, wanted: u32 },
+    Reply { timestamp: u32 },
 }
 
+/// A run in progress. Actor 0 is the controller, the others are workers.
 struct Sim<'a, F: Faults> {
     f: F,
     net: &'a Net,
-    listed: [u16; MAX],
-    counts: Vec<[u8; MAX]>,
+    domains: [u16; MAX],
+    counters: Vec<[u8; MAX]>,
     work: [VecDeque<u16>; 9],
     out: [Vec<u16>; 9],
-    lists: [u32; 9],
+    list_counters: [u32; 9],
     held: [Option<(u32, u32)>; 9],
-    mail: [[VecDeque<Mail>; 9]; 9],
-    /// Every list message sent, so that mailboxes hold its number only.
+    channels: [[VecDeque<Message>; 9]; 9],
+    /// Every list message sent, so that channels hold its number only.
     sent: Vec<Vec<u16>>,
-    number: u32,
+    timestamp: u32,
     open: bool,
     marks: u16,
     closed: bool,
@@ -276,19 +61,20 @@ struct Sim<'a, F: Faults> {
 }
 
 impl<'a, F: Faults> Sim<'a, F> {
-    fn load(f: F, net: &'a Net) -> Self {
+    /// Full domains, and nothing counted yet.
+    fn new(f: F, net: &'a Net) -> Self {
         let mut sim = Sim {
             f,
             net,
-            listed: [0; MAX],
-            counts: vec![[0; MAX]; net.n * 16],
+            domains: [0; MAX],
+            counters: vec![[0; MAX]; net.n * 16],
             work: Default::default(),
             out: Default::default(),
-            lists: [0; 9],
+            list_counters: [0; 9],
             held: [None; 9],
-            mail: Default::default(),
+            channels: Default::default(),
             sent: Vec::new(),
-            number: 0,
+            timestamp: 0,
             open: false,
             marks: 0,
             closed: false,
@@ -297,44 +83,62 @@ impl<'a, F: Faults> Sim<'a, F> {
             polls_sent: 0,
         };
         for s in 0..net.n {
-            sim.listed[s] = below(net.size[s]);
-        }
-        let loaded = sim.listed;
-        for s in 0..net.n {
-            for d in bits(u32::from(loaded[s])) {
-                let label = 16 * s + d;
-                let mut least = u32::MAX;
-                for t in bits(net.tied[s]) {
-                    let mut row = net.rows[label][t];
-                    if f.has(Fault::CountAfterStrikes) {
-                        row &= sim.listed[t];
-                    }
-                    let count = row.count_ones();
-                    sim.counts[label][t] = count as u8;
-                    least = least.min(count);
-                }
-                if least == 0 && !f.has(Fault::NoStrikeAtLoading) {
-                    sim.strike(usize::from(net.owner[s]), s, d);
-                }
-            }
-        }
-        if f.has(Fault::AllAtLoading) {
-            let mut done = [0; 9];
-            while let Some(k) = (1..=net.p).find(|&k| done[k] < sim.work[k].len()) {
-                let gone = sim.work[k][done[k]];
-                done[k] += 1;
-                for other in 1..=net.p {
-                    sim.take_off(other, gone);
-                }
-            }
+            sim.domains[s] = below(net.size[s]);
         }
         sim
     }
 
-    fn strike(&mut self, k: usize, s: usize, d: usize) {
-        self.listed[s] &= !(1 << d);
+    fn load(f: F, net: &'a Net) -> Self {
+        let mut sim = Sim::new(f, net);
+        let loaded = sim.domains;
+        for s in 0..net.n {
+            for d in bits(u32::from(loaded[s])) {
+                let least = sim.count_supports(s, d);
+                if least == 0 && !f.has(Fault::NoDeletionAtLoading) {
+                    sim.delete(usize::from(net.owner[s]), s, d);
+                }
+            }
+        }
+        if f.has(Fault::AllAtLoading) {
+            sim.treat_all();
+        }
+        sim
+    }
+
+    /// Counts a label's supports against each tied variable; the least count.
+    fn count_supports(&mut self, s: usize, d: usize) -> u32 {
+        let net = self.net;
+        let label = 16 * s + d;
+        let mut least = u32::MAX;
+        for t in bits(net.tied[s]) {
+            let mut row = net.rows[label][t];
+            if self.f.has(Fault::CountAfterDeletions) {
+                row &= self.domains[t];
+            }
+            let count = row.count_ones();
+            self.counters[label][t] = count as u8;
+            least = least.min(count);
+        }
+        least
+    }
+
+    /// Treats all that any worker has, as no sound variant does.
+    fn treat_all(&mut self) {
+        let p = self.net.p;
+        let mut done = [0; 9];
+        while let Some(k) = (1..=p).find(|&k| done[k] < self.work[k].len()) {
+            let gone = self.work[k][done[k]];
+            done[k] += 1;
+            for other in 1..=p {
+                self.take_off(other, gone);
+            }
+        }
+    }
+
+    fn delete(&mut self, k: usize, s: usize, d: usize) {
+        self.domains[s] &= !(1 << d);
         let label = (16 * s + d) as u16;
-        if !self.f.has(Fault::OwnStrikeUntreated) {
+        if !self.f.has(Fault::OwnDeletionUntreated) {
             self.work[k].push_back(label);
         }
         self.out[k].push(label);
@@ -347,15 +151,15 @@ impl<'a, F: Faults> Sim<'a, F> {
         for t in bits(net.tied[s] & net.own[k]) {
             let mut mask = row[t];
             if !self.f.has(Fault::UnlistedLoses) {
-                mask &= self.listed[t];
+                mask &= self.domains[t];
             }
             for e in bits(u32::from(mask)) {
-                let count = &mut self.counts[16 * t + e][s];
+                let counter = &mut self.counters[16 * t + e][s];
                 // Only a wrong variant can go below 0.
-                *count = count.wrapping_sub(1);
-                let lowest = if self.f.has(Fault::StruckAtOne) { 1 } else { 0 };
-                if *count == lowest {
-                    self.strike(k, t, e);
+                *counter = counter.wrapping_sub(1);
+                let lowest = if self.f.has(Fault::DeletedAtOne) { 1 } else { 0 };
+                if *counter == lowest {
+                    self.delete(k, t, e);
                 }
             }
         }
@@ -369,19 +173,19 @@ impl<'a, F: Faults> Sim<'a, F> {
 
     /// Plays a turn; true when it did something.
     #[inline]
-    fn play(&mut self, actor: usize, deed: usize) -> bool {
+    fn play(&mut self, actor: usize, action: usize) -> bool {
         if self.closed && !self.f.has(Fault::PollsWhenClosed) {
             return false;
         }
-        if self.f.has(Fault::DeskSends) && actor == 0 && deed == 10
-            || self.f.has(Fault::WorkerPolls) && actor > 0 && deed == 12
+        if self.f.has(Fault::ControllerSends) && actor == 0 && action == 10
+            || self.f.has(Fault::WorkerPolls) && actor > 0 && action == 12
         {
             return false;
         }
         if actor == 0 {
-            return if deed == 12 { self.poll() } else { self.read_desk(deed) };
+            return if action == 12 { self.poll() } else { self.read_controller(action) };
         }
-        match deed {
+        match action {
             9 => {
                 let oldest = if self.f.has(Fault::NewestFirst) {
                     self.work[actor].pop_back()
@@ -400,7 +204,7 @@ impl<'a, F: Faults> Sim<'a, F> {
             }
             10 => self.send(actor),
             11 => self.answer(actor),
-            _ => self.read(actor, deed),
+            _ => self.read(actor, action),
         }
     }
 
@@ -408,7 +212,7 @@ impl<'a, F: Faults> Sim<'a, F> {
         if self.out[k].is_empty() && !self.f.has(Fault::EmptySend) {
             return false;
         }
-        let message = Mail::List(self.sent.len() as u16);
+        let message = Message::List(self.sent.len() as u16);
         self.lists_sent += 1;
         let mut labels = std::mem::take(&mut self.out[k]);
         if self.f.has(Fault::SendsOne) {
@@ -416,23 +220,23 @@ impl<'a, F: Faults> Sim<'a, F> {
         }
         self.sent.push(labels);
         for to in 0..=self.net.p {
-            if to != k && !(self.f.has(Fault::DeskNotSent) && to == 0) {
-                self.mail[k][to].push_back(message);
+            if to != k && !(self.f.has(Fault::ControllerNotSent) && to == 0) {
+                self.channels[k][to].push_back(message);
                 if self.f.has(Fault::SendsCountedEach) && to != 0 {
                     self.lists_sent += 1;
                 }
             }
         }
         if !self.f.has(Fault::SenderUncounted) {
-            self.lists[k] += 1;
+            self.list_counters[k] += 1;
         }
         true
     }
 
     fn read(&mut self, k: usize, from: usize) -> bool {
-        match self.mail[from][k].pop_front() {
+        match self.channels[from][k].pop_front() {
             None => false,
-            Some(Mail::List(index)) => {
+            Some(Message::List(index)) => {
                 let labels = &self.sent[usize::from(index)];
                 if self.f.has(Fault::ReadGoesFirst) {
                     for &label in labels.iter().rev() {
@@ -442,32 +246,32 @@ impl<'a, F: Faults> Sim<'a, F> {
                     self.work[k].extend(labels.iter().copied());
                 }
                 if self.f.has(Fault::CountsLabels) {
-                    self.lists[k] += labels.len() as u32;
+                    self.list_counters[k] += labels.len() as u32;
                 } else {
-                    self.lists[k] += 1;
+                    self.list_counters[k] += 1;
                 }
                 true
             }
-            Some(Mail::Poll { number, wanted }) => {
+            Some(Message::Poll { timestamp, wanted }) => {
                 if !(self.f.has(Fault::FirstPollKept) && self.held[k].is_some()) {
-                    self.held[k] = Some((number, wanted));
+                    self.held[k] = Some((timestamp, wanted));
                 }
                 true
             }
-            Some(Mail::Reply { .. }) => false,
+            Some(Message::Reply { .. }) => false,
         }
     }
 
     fn answer(&mut self, k: usize) -> bool {
-        let Some((number, wanted)) = self.held[k] else {
+        let Some((timestamp, wanted)) = self.held[k] else {
             return false;
         };
         let f = self.f;
         let ready = (self.work[k].is_empty() || f.has(Fault::AnswerWithWork))
             && (self.out[k].is_empty() || f.has(Fault::AnswerWithOut))
-            && (self.lists[k] == wanted
+            && (self.list_counters[k] == wanted
                 || f.has(Fault::AnswerAnyCount)
-                || f.has(Fault::AnswerMoreLists) && self.lists[k] > wanted);
+                || f.has(Fault::AnswerMoreLists) && self.list_counters[k] > wanted);
         if !ready {
             if f.has(Fault::UnreadyDropsPoll) {
                 self.held[k] = None;
@@ -478,8 +282,8 @@ impl<'a, F: Faults> Sim<'a, F> {
         if !f.has(Fault::AnswersAgain) {
             self.held[k] = None;
         }
-        let number = if f.has(Fault::ReplyCarriesWanted) { wanted } else { number };
-        self.mail[k][0].push_back(Mail::Reply { number });
+        let timestamp = if f.has(Fault::ReplyCarriesWanted) { wanted } else { timestamp };
+        self.channels[k][0].push_back(Message::Reply { timestamp });
         true
     }
 
@@ -491,13 +295,17 @@ impl<'a, F: Faults> Sim<'a, F> {
             return false;
         }
         self.open = true;
-        self.number += 1;
+        self.timestamp += 1;
         if !self.f.has(Fault::MarksKept) {
             self.marks = 0;
         }
-        let wanted = if self.f.has(Fault::WantedIsSent) { self.lists_sent as u32 } else { self.lists[0] };
+        let wanted = if self.f.has(Fault::WantedIsSent) {
+            self.lists_sent as u32
+        } else {
+            self.list_counters[0]
+        };
         for to in 1..=self.net.p {
-            self.mail[0][to].push_back(Mail::Poll { number: self.number, wanted });
+            self.channels[0][to].push_back(Message::Poll { timestamp: self.timestamp, wanted });
         }
         if !self.f.has(Fault::IdlePollCounted) {
             self.polls_sent += if self.f.has(Fault::PollsCountedEach) { self.net.p } else { 1 };
@@ -505,23 +313,23 @@ impl<'a, F: Faults> Sim<'a, F> {
         true
     }
 
-    fn read_desk(&mut self, from: usize) -> bool {
-        match self.mail[from][0].pop_front() {
+    fn read_controller(&mut self, from: usize) -> bool {
+        match self.channels[from][0].pop_front() {
             None => false,
-            Some(Mail::List(_)) => {
-                self.lists[0] += 1;
+            Some(Message::List(_)) => {
+                self.list_counters[0] += 1;
                 if !self.f.has(Fault::ListLeavesPoll) {
                     self.open = false;
                 }
                 true
             }
-            Some(Mail::Reply { number }) => {
-                let right = number == self.number || self.f.has(Fault::EarlierReply);
+            Some(Message::Reply { timestamp }) => {
+                let right = timestamp == self.timestamp || self.f.has(Fault::EarlierReply);
                 if right && (self.open || self.f.has(Fault::LateReply)) {
                     self.marks |= 1 << from;
                     let marked = self.marks.count_ones() as usize;
-                    let needed = self.net.p - usize::from(self.f.has(Fault::OneMarkLess) && self.net.p > 1);
-                    self.closed |= marked >= needed;
+                    let less = self.f.has(Fault::OneMarkLess) && self.net.p > 1;
+                    self.closed |= marked >= self.net.p - usize::from(less);
                     if self.f.has(Fault::PollsWhenClosed) && self.closed {
                         self.open = false;
                     }
@@ -530,7 +338,7 @@ impl<'a, F: Faults> Sim<'a, F> {
                 }
                 true
             }
-            Some(Mail::Poll { .. }) => false,
+            Some(Message::Poll { .. }) => false,
         }
     }
 
@@ -540,8 +348,8 @@ impl<'a, F: Faults> Sim<'a, F> {
     }
 
     #[inline]
-    fn turn(&mut self, actor: usize, deed: usize) {
-        let done = self.play(actor, deed);
+    fn turn(&mut self, actor: usize, action: usize) {
+        let done = self.play(actor, action);
         self.changed += usize::from(done || self.f.has(Fault::EveryTurnCounts));
         if self.f.has(Fault::ClosesWhenIdle) && actor == 0 {
             self.close_if_idle();
@@ -593,11 +401,11 @@ impl<'a, F: Faults> Sim<'a, F> {
             };
             work[..cleared].fill(0);
         }
-        lists[..n].copy_from_slice(&self.listed[..n]);
+        lists[..n].copy_from_slice(&self.domains[..n]);
         if f.has(Fault::WritesAllLists) {
-            lists[..MAX].copy_from_slice(&self.listed);
+            lists[..MAX].copy_from_slice(&self.domains);
         }
-        let empty = self.listed[..n].iter().position(|&mask| mask == 0).map_or(0, |s| s + 1);
+        let empty = self.domains[..n].iter().position(|&mask| mask == 0).map_or(0, |s| s + 1);
         let status = match (self.closed, empty) {
             (false, _) => 0,
             (true, 0) => 1,
@@ -622,21 +430,34 @@ fn buffers<F: Faults>(f: F, work: &[u16], lists: &[u16]) -> Result<(), Declined>
     Ok(())
 }
 
-fn allowed<F: Faults>(f: F, p: usize, actor: usize, deed: usize) -> bool {
+fn allowed<F: Faults>(f: F, p: usize, actor: usize, action: usize) -> bool {
     if actor == 0 {
-        return (1..=p).contains(&deed) || deed == 12 || f.has(Fault::DeskSends) && deed == 10;
+        return (1..=p).contains(&action)
+            || action == 12
+            || f.has(Fault::ControllerSends) && action == 10;
     }
     if actor > p {
         return false;
     }
-    deed <= p && (deed != actor || f.has(Fault::ReadsItself))
-        || (9..=11).contains(&deed)
-        || f.has(Fault::WorkerPolls) && deed == 12
+    action <= p && (action != actor || f.has(Fault::ReadsItself))
+        || (9..=11).contains(&action)
+        || f.has(Fault::WorkerPolls) && action == 12
+}
+
+/// Declines the first turn that is not allowed. Not inlined, as `tie` is not.
+#[inline(never)]
+fn check_turns<F: Faults>(f: F, p: usize, turns: &[u8]) -> Result<(), Declined> {
+    for (number, turn) in turns.chunks_exact(2).enumerate() {
+        if !allowed(f, p, usize::from(turn[0]), usize::from(turn[1])) {
+            return Err((12, if f.has(Fault::TurnPlaceInBytes) { 2 * number } else { number }));
+        }
+    }
+    Ok(())
 }
 
 pub fn check_plan<F: Faults>(f: F, plan: &[u8]) -> Result<[usize; 4], Declined> {
     let net = decode(f, plan)?;
-    Ok([net.p, net.n, net.rules, net.labels()])
+    Ok([net.p, net.n, net.constraints, net.labels()])
 }
 
 /// The turn run; `clear` sets the work cells to 0 as the document asks.
@@ -665,15 +486,11 @@ pub fn run_turns<F: Faults>(
     if wrong_length {
         return Err((11, 0));
     }
-    for (number, turn) in turns.chunks_exact(2).enumerate() {
-        if !allowed(f, net.p, usize::from(turn[0]), usize::from(turn[1])) {
-            if f.has(Fault::BadTurnLeavesLists) {
-                lists[0] = 0;
-            }
-            let place = if f.has(Fault::TurnPlaceInBytes) { 2 * number } else { number };
-            return Err((12, place));
-        }
+    let checked = check_turns(f, net.p, turns);
+    if f.has(Fault::BadTurnLeavesLists) && checked.is_err() {
+        lists[0] = 0;
     }
+    checked?;
     let mut sim = Sim::load(f, &net);
     for turn in turns.chunks_exact(2) {
         sim.turn(usize::from(turn[0]), usize::from(turn[1]));

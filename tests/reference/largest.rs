@@ -1,4 +1,4 @@
-// The largest arc-consistent lists, by the naive fixpoint: strike a label
+// The largest arc-consistent lists, by the naive fixpoint: delete a label
 // without a listed support against some tied variable until nothing changes.
 
 use super::plan::{Network, Plan};

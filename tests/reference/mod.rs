@@ -1,7 +1,7 @@
 // A plain implementation of the scope document, written from that document
 // alone. Everything is done in the simplest way that can be read next to the
-// text: mailboxes are queues of messages, states are compared as values, the
-// largest lists come from striking unsupported labels until nothing changes.
+// text: channels are queues of messages, states are compared as values, the
+// largest lists come from deleting unsupported labels until nothing changes.
 
 pub mod largest;
 pub mod plan;

@@ -1,5 +1,5 @@
 // The plan as bytes: every check in the document's order, and the relations
-// between variables (slots) that follow from the rules.
+// between variables (slots) that follow from the constraints (rules).
 
 use super::{decline, Decline};
 
@@ -28,7 +28,7 @@ pub enum Relation {
 
 /// Variables are numbered from 1, as in the document.
 #[derive(Clone, Debug, PartialEq, Eq)]
-pub struct Rule {
+pub struct Constraint {
     pub first: usize,
     pub second: usize,
     pub relation: Relation,
@@ -38,7 +38,7 @@ pub struct Rule {
 pub struct Plan {
     pub workers: usize,
     pub variables: Vec<Variable>,
-    pub rules: Vec<Rule>,
+    pub constraints: Vec<Constraint>,
 }
 
 fn word(bytes: &[u8], at: usize) -> u16 {
@@ -84,7 +84,11 @@ fn decode_variable(content: &[u8], start: usize, workers: usize) -> Result<Varia
     Ok(Variable { owner, values })
 }
 
-fn decode_rule(content: &[u8], start: usize, variables: &[Variable]) -> Result<Rule, Decline> {
+fn decode_constraint(
+    content: &[u8],
+    start: usize,
+    variables: &[Variable],
+) -> Result<Constraint, Decline> {
     if content.len() < 3 {
         return decline(3, start);
     }
@@ -103,7 +107,7 @@ fn decode_rule(content: &[u8], start: usize, variables: &[Variable]) -> Result<R
             return decline(3, start);
         }
         let relation = Relation::Sodium(word(content, 3));
-        return Ok(Rule { first, second, relation });
+        return Ok(Constraint { first, second, relation });
     }
     let rows_count = variables[first - 1].values.len();
     let columns = variables[second - 1].values.len();
@@ -118,7 +122,7 @@ fn decode_rule(content: &[u8], start: usize, variables: &[Variable]) -> Result<R
             }
         }
     }
-    Ok(Rule { first, second, relation: Relation::Table(rows) })
+    Ok(Constraint { first, second, relation: Relation::Table(rows) })
 }
 
 /// Decodes a plan or gives the first decline, 1 to 8.
@@ -137,8 +141,11 @@ pub fn decode(bytes: &[u8]) -> Result<Plan, Decline> {
     }
     let workers = usize::from(head[0]);
     let variable_count = usize::from(head[1]);
-    let rule_count = usize::from(head[2]);
-    if !(1..=8).contains(&workers) || !(1..=32).contains(&variable_count) || rule_count > 128 {
+    let constraint_count = usize::from(head[2]);
+    if !(1..=8).contains(&workers)
+        || !(1..=32).contains(&variable_count)
+        || constraint_count > 128
+    {
         return decline(4, start);
     }
     start += 2 + head.len();
@@ -150,22 +157,22 @@ pub fn decode(bytes: &[u8]) -> Result<Plan, Decline> {
         start += 2 + content.len();
     }
 
-    let mut rules = Vec::new();
-    for _ in 0..rule_count {
+    let mut constraints = Vec::new();
+    for _ in 0..constraint_count {
         let content = section(bytes, start)?;
-        rules.push(decode_rule(content, start, &variables)?);
+        constraints.push(decode_constraint(content, start, &variables)?);
         start += 2 + content.len();
     }
 
     if start < bytes.len() {
         return decline(8, start);
     }
-    Ok(Plan { workers, variables, rules })
+    Ok(Plan { workers, variables, constraints })
 }
 
-impl Rule {
-    /// Whether this rule allows value `a` of its first variable with value
-    /// `b` of its second.
+impl Constraint {
+    /// Whether this constraint allows value `a` of its first variable with
+    /// value `b` of its second.
     fn allows(&self, plan: &Plan, a: usize, b: usize) -> bool {
         match &self.relation {
             Relation::Table(rows) => rows[a] >> b & 1 == 1,
@@ -197,7 +204,7 @@ impl Plan {
         let mut bytes = vec![1, 0, 3];
         bytes.push(self.workers as u8);
         bytes.push(self.variables.len() as u8);
-        bytes.push(self.rules.len() as u8);
+        bytes.push(self.constraints.len() as u8);
         for variable in &self.variables {
             let length = 2 + 4 * variable.values.len();
             bytes.extend_from_slice(&(length as u16).to_be_bytes());
@@ -208,14 +215,14 @@ impl Plan {
                 bytes.extend_from_slice(&value.sodium.to_be_bytes());
             }
         }
-        for rule in &self.rules {
-            let words: &[u16] = match &rule.relation {
+        for constraint in &self.constraints {
+            let words: &[u16] = match &constraint.relation {
                 Relation::Table(rows) => rows,
                 Relation::Sodium(limit) => std::slice::from_ref(limit),
             };
-            let kind = u8::from(matches!(rule.relation, Relation::Sodium(_)));
+            let kind = u8::from(matches!(constraint.relation, Relation::Sodium(_)));
             bytes.extend_from_slice(&((3 + 2 * words.len()) as u16).to_be_bytes());
-            bytes.extend_from_slice(&[rule.first as u8, rule.second as u8, kind]);
+            bytes.extend_from_slice(&[constraint.first as u8, constraint.second as u8, kind]);
             for word in words {
                 bytes.extend_from_slice(&word.to_be_bytes());
             }
@@ -224,12 +231,12 @@ impl Plan {
     }
 }
 
-/// The relation between each two variables that share a rule: a pair is
-/// allowed when each rule over the two variables allows it, read from either.
+/// The relation between each two variables that share a constraint: a pair is
+/// allowed when each constraint over the two allows it, read from either.
 #[derive(Clone, Debug)]
 pub struct Network {
     /// By variable and other variable (from 0): the allowed pairs by value
-    /// and other value, or nothing when no rule ties the two.
+    /// and other value, or nothing when no constraint ties the two.
     pairs: Vec<Vec<Option<Vec<Vec<bool>>>>>,
 }
 
@@ -239,12 +246,12 @@ impl Network {
         let mut pairs = vec![vec![None; n]; n];
         for first in 1..=n {
             for second in first + 1..=n {
-                let rules: Vec<&Rule> = plan
-                    .rules
+                let constraints: Vec<&Constraint> = plan
+                    .constraints
                     .iter()
-                    .filter(|rule| rule.first == first && rule.second == second)
+                    .filter(|constraint| constraint.first == first && constraint.second == second)
                     .collect();
-                if rules.is_empty() {
+                if constraints.is_empty() {
                     continue;
                 }
                 let rows = plan.variables[first - 1].values.len();
@@ -253,7 +260,7 @@ impl Network {
                 let mut backward = vec![vec![false; rows]; columns];
                 for a in 0..rows {
                     for b in 0..columns {
-                        let allowed = rules.iter().all(|rule| rule.allows(plan, a, b));
+                        let allowed = constraints.iter().all(|one| one.allows(plan, a, b));
                         forward[a][b] = allowed;
                         backward[b][a] = allowed;
                     }
@@ -265,12 +272,12 @@ impl Network {
         Network { pairs }
     }
 
-    /// Whether two variables (from 1) share a rule.
+    /// Whether two variables (from 1) share a constraint.
     pub fn tied(&self, one: usize, other: usize) -> bool {
         self.pairs[one - 1][other - 1].is_some()
     }
 
-    /// Whether the pair of two labels is allowed; false without a rule.
+    /// Whether the pair of two labels is allowed; false without a constraint.
     pub fn allowed(&self, one: usize, a: usize, other: usize, b: usize) -> bool {
         match &self.pairs[one - 1][other - 1] {
             Some(rows) => rows[a][b],

@@ -121,10 +121,10 @@ impl Run {
     }
 }
 
-/// The plan check: p, n, number of rules and L.
+/// The plan check: p, n, number of constraints and L.
 pub fn check_plan(plan: &[u8]) -> Result<[usize; 4], Decline> {
     let plan = decode(plan)?;
-    Ok([plan.workers, plan.variables.len(), plan.rules.len(), plan.labels()])
+    Ok([plan.workers, plan.variables.len(), plan.constraints.len(), plan.labels()])
 }
 
 /// The turns of a list, or decline 12.

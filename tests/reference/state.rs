@@ -30,16 +30,17 @@ impl Label {
 
 #[derive(Clone, Copy, Debug, PartialEq, Eq)]
 pub struct Poll {
-    pub number: usize,
+    /// The poll's number.
+    pub timestamp: usize,
     pub wanted: usize,
 }
 
 #[derive(Clone, Debug, PartialEq, Eq)]
 pub enum Message {
-    /// Shared between the mailboxes; compared by its labels.
+    /// Shared between the channels; compared by its labels.
     List(Rc<[Label]>),
     Poll(Poll),
-    Reply { number: usize },
+    Reply { timestamp: usize },
 }
 
 /// A kitchen.
@@ -47,15 +48,15 @@ pub enum Message {
 pub struct Worker {
     pub work: VecDeque<Label>,
     pub out: Vec<Label>,
-    pub lists: usize,
+    pub list_counter: usize,
     pub held: Option<Poll>,
 }
 
 /// The desk.
 #[derive(Clone, Debug, PartialEq, Eq)]
 pub struct Controller {
-    pub lists: usize,
-    pub number: usize,
+    pub list_counter: usize,
+    pub timestamp: usize,
     pub open: bool,
     pub marks: Vec<bool>,
     pub closed: bool,
@@ -66,12 +67,12 @@ pub struct State {
     /// By label: still listed.
     listed: Vec<bool>,
     /// By label and tied variable: the count of supports; 0 where untied.
-    counts: Vec<u8>,
+    counters: Vec<u8>,
     /// By worker, from 1; entry 0 is unused.
     pub workers: Vec<Worker>,
     pub controller: Controller,
-    /// By sender and receiver.
-    mail: Vec<VecDeque<Message>>,
+    /// The mailboxes, by sender and receiver.
+    channels: Vec<VecDeque<Message>>,
 }
 
 #[derive(Clone, Copy, Debug, PartialEq, Eq)]
@@ -84,10 +85,10 @@ pub enum Turn {
     Poll,
 }
 
-/// What a turn (or loading) did, for the claims about strikes.
+/// What a turn (or loading) did, for the claims about deletions.
 #[derive(Clone, Debug, PartialEq, Eq)]
 pub enum Event {
-    Struck { by: usize, label: Label },
+    Deleted { by: usize, label: Label },
     Sent { by: usize, labels: Rc<[Label]> },
     Read { by: usize, labels: Rc<[Label]> },
     Treated { by: usize, label: Label },
@@ -99,12 +100,13 @@ pub enum Event {
 }
 
 impl Turn {
-    /// The turn that two bytes name, if it is allowed with `workers` workers.
-    pub fn decode(workers: usize, actor: u8, deed: u8) -> Option<Turn> {
+    /// The turn that two bytes name, the actor and the action (deed), if it is
+    /// allowed with `workers` workers.
+    pub fn decode(workers: usize, actor: u8, action: u8) -> Option<Turn> {
         let by = usize::from(actor);
-        let deed = usize::from(deed);
+        let action = usize::from(action);
         if by == 0 {
-            return match deed {
+            return match action {
                 12 => Some(Turn::Poll),
                 from if 1 <= from && from <= workers => Some(Turn::Read { by, from }),
                 _ => None,
@@ -113,7 +115,7 @@ impl Turn {
         if by > workers {
             return None;
         }
-        match deed {
+        match action {
             9 => Some(Turn::Treat { by }),
             10 => Some(Turn::Send { by }),
             11 => Some(Turn::Answer { by }),
@@ -132,13 +134,14 @@ impl Turn {
         }
     }
 
-    /// Every allowed turn: of all actors and deeds, those that decode.
+    /// Every allowed turn: of all actors and actions, those that decode.
     pub fn all(workers: usize) -> &'static [Turn] {
         static ALL: OnceLock<Vec<Vec<Turn>>> = OnceLock::new();
         let all = ALL.get_or_init(|| {
             let of = |workers| {
-                let pairs = (0..=255).flat_map(|actor| (0..=255).map(move |deed| (actor, deed)));
-                pairs.filter_map(|(actor, deed)| Turn::decode(workers, actor, deed)).collect()
+                let pairs =
+                    (0..=255).flat_map(|actor| (0..=255).map(move |action| (actor, action)));
+                pairs.filter_map(|(actor, action)| Turn::decode(workers, actor, action)).collect()
             };
             (0..=8).map(of).collect()
         });
@@ -171,7 +174,7 @@ impl State {
         (label.variable() - 1) * 16 + label.value()
     }
 
-    fn count_at(plan: &Plan, label: Label, other: usize) -> usize {
+    fn counter_at(plan: &Plan, label: Label, other: usize) -> usize {
         Self::at(label) * plan.variables.len() + other - 1
     }
 
@@ -179,32 +182,32 @@ impl State {
         self.listed[Self::at(label)]
     }
 
-    pub fn mailbox(&self, from: usize, to: usize) -> &VecDeque<Message> {
-        &self.mail[from * self.workers.len() + to]
+    pub fn channel(&self, from: usize, to: usize) -> &VecDeque<Message> {
+        &self.channels[from * self.workers.len() + to]
     }
 
-    fn mailbox_mut(&mut self, from: usize, to: usize) -> &mut VecDeque<Message> {
+    fn channel_mut(&mut self, from: usize, to: usize) -> &mut VecDeque<Message> {
         let width = self.workers.len();
-        &mut self.mail[from * width + to]
+        &mut self.channels[from * width + to]
     }
 
     /// The state after loading.
     pub fn load(plan: &Plan, network: &Network, events: &mut Vec<Event>) -> State {
         let n = plan.variables.len();
         let p = plan.workers;
-        let idle = Worker { work: VecDeque::new(), out: Vec::new(), lists: 0, held: None };
+        let idle = Worker { work: VecDeque::new(), out: Vec::new(), list_counter: 0, held: None };
         let mut state = State {
             listed: vec![false; n * 16],
-            counts: vec![0; n * 16 * n],
+            counters: vec![0; n * 16 * n],
             workers: vec![idle; p + 1],
             controller: Controller {
-                lists: 0,
-                number: 0,
+                list_counter: 0,
+                timestamp: 0,
                 open: false,
                 marks: vec![false; p + 1],
                 closed: false,
             },
-            mail: vec![VecDeque::new(); (p + 1) * (p + 1)],
+            channels: vec![VecDeque::new(); (p + 1) * (p + 1)],
         };
         for variable in 1..=n {
             for value in 0..plan.variables[variable - 1].values.len() {
@@ -214,7 +217,7 @@ impl State {
                     let supports = (0..plan.variables[other - 1].values.len())
                         .filter(|&b| network.allowed(variable, value, other, b))
                         .count();
-                    state.counts[Self::count_at(plan, label, other)] = supports as u8;
+                    state.counters[Self::counter_at(plan, label, other)] = supports as u8;
                 }
             }
         }
@@ -223,23 +226,23 @@ impl State {
                 let label = Label::new(variable, value);
                 let without = (1..=n).any(|other| {
                     network.tied(variable, other)
-                        && state.counts[Self::count_at(plan, label, other)] == 0
+                        && state.counters[Self::counter_at(plan, label, other)] == 0
                 });
                 if without {
-                    state.strike(plan, label, events);
+                    state.delete(plan, label, events);
                 }
             }
         }
         state
     }
 
-    /// The owner strikes a label and puts it at the end of both its lists.
-    fn strike(&mut self, plan: &Plan, label: Label, events: &mut Vec<Event>) {
+    /// The owner deletes a label and puts it at the end of both its lists.
+    fn delete(&mut self, plan: &Plan, label: Label, events: &mut Vec<Event>) {
         let by = plan.variables[label.variable() - 1].owner;
         self.listed[Self::at(label)] = false;
         self.workers[by].work.push_back(label);
         self.workers[by].out.push(label);
-        events.push(Event::Struck { by, label });
+        events.push(Event::Deleted { by, label });
     }
 
     /// Plays one allowed turn.
@@ -273,10 +276,10 @@ impl State {
                 {
                     continue;
                 }
-                let count = &mut self.counts[Self::count_at(plan, label, gone.variable())];
-                *count -= 1;
-                if *count == 0 {
-                    self.strike(plan, label, events);
+                let counter = &mut self.counters[Self::counter_at(plan, label, gone.variable())];
+                *counter -= 1;
+                if *counter == 0 {
+                    self.delete(plan, label, events);
                 }
             }
         }
@@ -289,23 +292,23 @@ impl State {
         let labels: Rc<[Label]> = std::mem::take(&mut self.workers[by].out).into();
         for to in 0..=plan.workers {
             if to != by {
-                self.mailbox_mut(by, to).push_back(Message::List(labels.clone()));
+                self.channel_mut(by, to).push_back(Message::List(labels.clone()));
             }
         }
-        self.workers[by].lists += 1;
+        self.workers[by].list_counter += 1;
         events.push(Event::Sent { by, labels });
     }
 
     fn read_worker(&mut self, by: usize, from: usize, events: &mut Vec<Event>) {
-        match self.mailbox_mut(from, by).pop_front() {
+        match self.channel_mut(from, by).pop_front() {
             None => {}
             Some(Message::List(labels)) => {
                 self.workers[by].work.extend(labels.iter().copied());
-                self.workers[by].lists += 1;
+                self.workers[by].list_counter += 1;
                 events.push(Event::Read { by, labels });
             }
             Some(Message::Poll(poll)) => self.workers[by].held = Some(poll),
-            Some(Message::Reply { .. }) => unreachable!("a reply goes to the desk"),
+            Some(Message::Reply { .. }) => unreachable!("a reply goes to the controller"),
         }
     }
 
@@ -314,9 +317,9 @@ impl State {
         let Some(poll) = worker.held else {
             return;
         };
-        if worker.work.is_empty() && worker.out.is_empty() && worker.lists == poll.wanted {
+        if worker.work.is_empty() && worker.out.is_empty() && worker.list_counter == poll.wanted {
             worker.held = None;
-            self.mailbox_mut(by, 0).push_back(Message::Reply { number: poll.number });
+            self.channel_mut(by, 0).push_back(Message::Reply { timestamp: poll.timestamp });
         }
     }
 
@@ -325,27 +328,30 @@ impl State {
             return;
         }
         self.controller.open = true;
-        self.controller.number += 1;
+        self.controller.timestamp += 1;
         self.controller.marks.fill(false);
-        let poll = Poll { number: self.controller.number, wanted: self.controller.lists };
+        let poll = Poll {
+            timestamp: self.controller.timestamp,
+            wanted: self.controller.list_counter,
+        };
         for to in 1..=plan.workers {
-            self.mailbox_mut(0, to).push_back(Message::Poll(poll));
+            self.channel_mut(0, to).push_back(Message::Poll(poll));
         }
         events.push(Event::Polled);
     }
 
     fn read_controller(&mut self, plan: &Plan, from: usize, events: &mut Vec<Event>) {
-        match self.mailbox_mut(from, 0).pop_front() {
+        match self.channel_mut(from, 0).pop_front() {
             None => {}
             Some(Message::List(labels)) => {
-                self.controller.lists += 1;
+                self.controller.list_counter += 1;
                 self.controller.open = false;
                 events.push(Event::Read { by: 0, labels });
             }
-            Some(Message::Reply { number }) => {
+            Some(Message::Reply { timestamp }) => {
                 let controller = &mut self.controller;
-                if !controller.open || number != controller.number {
-                    events.push(Event::Dropped { earlier: number != controller.number });
+                if !controller.open || timestamp != controller.timestamp {
+                    events.push(Event::Dropped { earlier: timestamp != controller.timestamp });
                     return;
                 }
                 controller.marks[from] = true;
@@ -354,17 +360,17 @@ impl State {
                     events.push(Event::Closed);
                 }
             }
-            Some(Message::Poll(_)) => unreachable!("a poll goes to a kitchen"),
+            Some(Message::Poll(_)) => unreachable!("a poll goes to a worker"),
         }
     }
 
-    /// Whether the turn has something to do. Written from the deeds' own
+    /// Whether the turn has something to do. Written from the actions' own
     /// conditions, apart from the comparison of states; used to make turn
     /// lists that get somewhere.
     pub fn has_use(&self, turn: Turn) -> bool {
         !self.controller.closed
             && match turn {
-                Turn::Read { by, from } => !self.mailbox(from, by).is_empty(),
+                Turn::Read { by, from } => !self.channel(from, by).is_empty(),
                 Turn::Treat { by } => !self.workers[by].work.is_empty(),
                 Turn::Send { by } => !self.workers[by].out.is_empty(),
                 Turn::Poll => !self.controller.open,
@@ -372,7 +378,7 @@ impl State {
                     let worker = &self.workers[by];
                     worker.work.is_empty()
                         && worker.out.is_empty()
-                        && worker.held.is_some_and(|poll| poll.wanted == worker.lists)
+                        && worker.held.is_some_and(|poll| poll.wanted == worker.list_counter)
                 }
             }
     }

@@ -1,12 +1,12 @@
-// What became of each strike: who struck it, whether a send carried it, who
-// has read that message and who has treated it.
+// What became of each deletion (strike): who deleted the label, whether a send
+// carried it, who has read that message and who has treated it.
 
 use std::collections::{BTreeMap, BTreeSet};
 
 use super::state::{Event, Label};
 
 #[derive(Clone, Debug, Default)]
-pub struct Strike {
+pub struct Deletion {
     pub owner: usize,
     pub sent: bool,
     pub read_by: BTreeSet<usize>,
@@ -15,7 +15,7 @@ pub struct Strike {
 
 #[derive(Clone, Debug, Default)]
 pub struct Trace {
-    pub strikes: BTreeMap<Label, Strike>,
+    pub deletions: BTreeMap<Label, Deletion>,
     pub lists_sent: usize,
     pub polls_sent: usize,
     pub earlier_replies: usize,
@@ -31,25 +31,27 @@ impl Trace {
 
     pub fn note(&mut self, event: Event) {
         match event {
-            Event::Struck { by, label } => {
-                let strike = Strike { owner: by, ..Strike::default() };
-                if self.strikes.insert(label, strike).is_some() {
-                    self.fail(format!("{label:?} struck twice"));
+            Event::Deleted { by, label } => {
+                let deletion = Deletion { owner: by, ..Deletion::default() };
+                if self.deletions.insert(label, deletion).is_some() {
+                    self.fail(format!("{label:?} deleted twice"));
                 }
             }
             Event::Sent { by, labels } => {
                 self.lists_sent += 1;
                 for &label in labels.iter() {
-                    match self.strikes.get_mut(&label) {
-                        Some(strike) if strike.owner == by && !strike.sent => strike.sent = true,
+                    match self.deletions.get_mut(&label) {
+                        Some(deletion) if deletion.owner == by && !deletion.sent => {
+                            deletion.sent = true
+                        }
                         _ => self.fail(format!("{label:?} sent wrongly by {by}")),
                     }
                 }
             }
             Event::Read { by, labels } => {
                 for &label in labels.iter() {
-                    let right = self.strikes.get_mut(&label).is_some_and(|strike| {
-                        strike.sent && by != strike.owner && strike.read_by.insert(by)
+                    let right = self.deletions.get_mut(&label).is_some_and(|deletion| {
+                        deletion.sent && by != deletion.owner && deletion.read_by.insert(by)
                     });
                     if !right {
                         self.fail(format!("{label:?} read wrongly by {by}"));
@@ -57,9 +59,9 @@ impl Trace {
                 }
             }
             Event::Treated { by, label } => {
-                let right = self.strikes.get_mut(&label).is_some_and(|strike| {
-                    (by == strike.owner || strike.read_by.contains(&by))
-                        && strike.treated_by.insert(by)
+                let right = self.deletions.get_mut(&label).is_some_and(|deletion| {
+                    (by == deletion.owner || deletion.read_by.contains(&by))
+                        && deletion.treated_by.insert(by)
                 });
                 if !right {
                     self.fail(format!("{label:?} treated wrongly by {by}"));
@@ -72,18 +74,18 @@ impl Trace {
         }
     }
 
-    /// A strike that is still unsent, unread or untreated, if there is one.
+    /// A deletion that is still unsent, unread or untreated, if there is one.
     pub fn unfinished(&self, workers: usize) -> Option<(Label, &'static str)> {
-        for (&label, strike) in &self.strikes {
-            if !strike.sent {
+        for (&label, deletion) in &self.deletions {
+            if !deletion.sent {
                 return Some((label, "unsent"));
             }
-            let all_read =
-                (0..=workers).all(|actor| actor == strike.owner || strike.read_by.contains(&actor));
+            let all_read = (0..=workers)
+                .all(|actor| actor == deletion.owner || deletion.read_by.contains(&actor));
             if !all_read {
                 return Some((label, "unread"));
             }
-            if !(1..=workers).all(|worker| strike.treated_by.contains(&worker)) {
+            if !(1..=workers).all(|worker| deletion.treated_by.contains(&worker)) {
                 return Some((label, "untreated"));
             }
         }

@@ -1,7 +1,7 @@
 // The plans worked by hand, for the test program, and the reference's own
 // tests on them.
 
-use super::plan::{Plan, Relation, Rule, Value, Variable, NOT_RECORDED};
+use super::plan::{Constraint, Plan, Relation, Value, Variable, NOT_RECORDED};
 
 /// Bytes from hex digits; blanks do not count.
 pub fn hex(text: &str) -> Vec<u8> {
@@ -24,16 +24,16 @@ fn variable(owner: usize, values: &[(u16, u16)]) -> Variable {
     Variable { owner, values }
 }
 
-fn table(first: usize, second: usize, rows: &[u16]) -> Rule {
-    Rule { first, second, relation: Relation::Table(rows.to_vec()) }
+fn table(first: usize, second: usize, rows: &[u16]) -> Constraint {
+    Constraint { first, second, relation: Relation::Table(rows.to_vec()) }
 }
 
-fn sodium(first: usize, second: usize, limit: u16) -> Rule {
-    Rule { first, second, relation: Relation::Sodium(limit) }
+fn sodium(first: usize, second: usize, limit: u16) -> Constraint {
+    Constraint { first, second, relation: Relation::Sodium(limit) }
 }
 
 pub fn no_values() -> Vec<u8> {
-    Plan { workers: 1, variables: vec![variable(1, &[])], rules: vec![] }.encode()
+    Plan { workers: 1, variables: vec![variable(1, &[])], constraints: vec![] }.encode()
 }
 
 /// One value against one, under a sodium rule.
@@ -41,7 +41,7 @@ pub fn two_figures(limit: u16, one: u16, other: u16) -> Vec<u8> {
     Plan {
         workers: 1,
         variables: vec![variable(1, &[(1, one)]), variable(1, &[(2, other)])],
-        rules: vec![sodium(1, 2, limit)],
+        constraints: vec![sodium(1, 2, limit)],
     }
     .encode()
 }
@@ -51,7 +51,7 @@ pub fn half_supports() -> Vec<u8> {
     Plan {
         workers: 2,
         variables: vec![variable(1, &[(1, 0)]), variable(2, &[(1, 0), (2, 0)])],
-        rules: vec![table(1, 2, &[1]), table(1, 2, &[2])],
+        constraints: vec![table(1, 2, &[1]), table(1, 2, &[2])],
     }
     .encode()
 }
@@ -62,7 +62,7 @@ pub fn three_differ() -> Vec<u8> {
     Plan {
         workers: 1,
         variables: vec![variable(1, &values); 3],
-        rules: vec![table(1, 2, &[2, 1]), table(1, 3, &[2, 1]), table(2, 3, &[2, 1])],
+        constraints: vec![table(1, 2, &[2, 1]), table(1, 3, &[2, 1]), table(2, 3, &[2, 1])],
     }
     .encode()
 }
@@ -101,12 +101,13 @@ pub fn worked() -> Vec<(Vec<u8>, Vec<u8>)> {
     second_version[0] = 2;
     cases.push((second_version, t.clone()));
     let seventeen: Vec<(u16, u16)> = (0..17).map(|code| (code, 0)).collect();
-    let too_many = Plan { workers: 1, variables: vec![variable(1, &seventeen)], rules: vec![] };
+    let too_many =
+        Plan { workers: 1, variables: vec![variable(1, &seventeen)], constraints: vec![] };
     cases.push((too_many.encode(), vec![]));
     let pair = vec![variable(1, &[(1, 1)]), variable(1, &[(1, 1)])];
-    for rules in [128, 129] {
-        let rules = vec![sodium(1, 2, 2); rules];
-        cases.push((Plan { workers: 1, variables: pair.clone(), rules }.encode(), vec![]));
+    for count in [128, 129] {
+        let constraints = vec![sodium(1, 2, 2); count];
+        cases.push((Plan { workers: 1, variables: pair.clone(), constraints }.encode(), vec![]));
     }
     cases.push((p, hex("0101")));
     cases
@@ -206,18 +207,18 @@ mod tests {
     }
 
     #[test]
-    fn rules_act_together() {
+    fn constraints_act_together() {
         assert_eq!(play(&half_supports(), &[]).unwrap().1, vec![0, 0]);
         let (result, cells) = round(&three_differ()).unwrap();
         assert_eq!((result.status, result.lists_sent, cells), (Status::Closed, 0, vec![3, 3, 3]));
     }
 
     #[test]
-    fn unjudged_rule_ties() {
+    fn unjudged_constraint_ties() {
         let plan = Plan {
             workers: 1,
             variables: vec![variable(1, &[(1, NOT_RECORDED)]), variable(1, &[])],
-            rules: vec![sodium(1, 2, 0)],
+            constraints: vec![sodium(1, 2, 0)],
         };
         assert_eq!(play(&plan.encode(), &[]).unwrap().1, vec![0, 0]);
     }
@@ -273,11 +274,11 @@ mod tests {
     #[test]
     fn allowed_turns() {
         for p in 1..=8 {
-            // A worker reads from p actors and has three more deeds.
+            // A worker reads from p actors and has three more actions.
             assert_eq!(Turn::all(p).len(), p * (p + 3) + p + 1);
             for &turn in Turn::all(p) {
-                let [actor, deed] = turn.encode();
-                assert_eq!(Turn::decode(p, actor, deed), Some(turn));
+                let [actor, action] = turn.encode();
+                assert_eq!(Turn::decode(p, actor, action), Some(turn));
             }
         }
     }

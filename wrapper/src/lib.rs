@@ -7,8 +7,13 @@ pub const WORK_CELLS: usize = 24_576;
 pub const LIST_CELLS: usize = 32;
 
 mod library {
+    /// What a plan check writes.
+    pub type CheckOut = [usize; 5];
+    /// What a run writes.
+    pub type RunOut = [usize; 6];
+
     extern "C" {
-        pub fn tinshrew_check_plan(plan: *const u8, plan_len: usize, out: *mut [usize; 5]);
+        pub fn tinshrew_check_plan(plan: *const u8, plan_len: usize, out: *mut CheckOut);
         pub fn tinshrew_run_turns(
             plan: *const u8,
             plan_len: usize,
@@ -18,7 +23,7 @@ mod library {
             work_len: usize,
             lists: *mut u16,
             lists_len: usize,
-            out: *mut [usize; 6],
+            out: *mut RunOut,
         );
         pub fn tinshrew_run_round(
             plan: *const u8,
@@ -27,12 +32,13 @@ mod library {
             work_len: usize,
             lists: *mut u16,
             lists_len: usize,
-            out: *mut [usize; 6],
+            out: *mut RunOut,
         );
     }
 }
 
-/// A declined call: its number, 1 to 12, and its place. It changed no lent cell.
+/// A declined call: its number, 1 to 12 as the header lists them, and the place that goes with it. It changed no lent
+/// cell.
 #[derive(Clone, Copy, Debug, PartialEq, Eq)]
 pub struct Decline {
     pub number: usize,
@@ -42,22 +48,24 @@ pub struct Decline {
 /// What a plan holds.
 #[derive(Clone, Copy, Debug, PartialEq, Eq)]
 pub struct Figures {
-    /// Kitchens.
+    /// Kitchens, 1 to 8.
     pub workers: usize,
-    /// Slots.
+    /// Slots, 1 to 32.
     pub variables: usize,
-    /// Rules.
+    /// Rules, 0 to 128.
     pub constraints: usize,
-    /// Dishes in all slots together.
+    /// Dishes in all slots together, 0 to 512.
     pub labels: usize,
 }
 
 /// Where a run ends.
 #[derive(Clone, Copy, Debug, PartialEq, Eq)]
 pub enum Status {
+    /// Not closed yet.
     Open,
+    /// Closed, and every variable has a value left.
     Closed,
-    /// Closed, with an empty list.
+    /// Closed, and some variable's list is empty.
     Bare,
 }
 
@@ -71,26 +79,27 @@ pub struct Report {
     pub sends: usize,
     /// Polls sent, each poll turn once.
     pub polls: usize,
-    /// The lowest slot, from 1, with an empty list; 0 if none.
+    /// The lowest variable, from 1, with an empty list; 0 if none.
     pub empty: usize,
 }
 
 /// Checks a plan.
 pub fn check_plan(plan: &[u8]) -> Result<Figures, Decline> {
-    let mut out = [0; 5];
-    // SAFETY: the slice is valid for its length, and `out` is a local of the size that is written.
+    let mut out = library::CheckOut::default();
+    // SAFETY: the slice is valid for its length and never null, and `out` is a local of the size that is written.
     unsafe { library::tinshrew_check_plan(plan.as_ptr(), plan.len(), &mut out) };
     let [number, workers, variables, constraints, labels] = out;
     accepted(number, workers)?;
     Ok(Figures { workers, variables, constraints, labels })
 }
 
-/// Plays the turns of a list on a plan. On success `lists` has a cell for each slot, and the first `WORK_CELLS` work
-/// cells are 0; all later cells of both keep what they had.
+/// Plays the turns of a list on a plan, two bytes each: the actor and the action. On success `lists` has a cell for
+/// each variable, lowest bit for its first value, 1 where it is still listed; the first `WORK_CELLS` work cells are 0;
+/// all later cells of both keep what they had. What `work` held before plays no part.
 pub fn run_turns(plan: &[u8], turns: &[u8], work: &mut [u16], lists: &mut [u16]) -> Result<Report, Decline> {
-    let mut out = [0; 6];
-    // SAFETY: each slice is valid for its length; those that are written are borrowed as `&mut`, so overlap no other;
-    // `out` is a local of the size that is written.
+    let mut out = library::RunOut::default();
+    // SAFETY: each slice is valid for its length and never null; those that are written are borrowed as `&mut`, so
+    // overlap no other; `out` is a local of the size that is written.
     unsafe {
         library::tinshrew_run_turns(
             plan.as_ptr(),
@@ -107,9 +116,9 @@ pub fn run_turns(plan: &[u8], turns: &[u8], work: &mut [u16], lists: &mut [u16])
     report(out)
 }
 
-/// Plays rounds on a plan until it is closed; the buffers are as in `run_turns`.
+/// Plays rounds on a plan until it is closed, so that the status is never `Open`; the buffers are as in `run_turns`.
 pub fn run_round(plan: &[u8], work: &mut [u16], lists: &mut [u16]) -> Result<Report, Decline> {
-    let mut out = [0; 6];
+    let mut out = library::RunOut::default();
     // SAFETY: as in `run_turns`.
     unsafe {
         library::tinshrew_run_round(
@@ -125,7 +134,7 @@ pub fn run_round(plan: &[u8], work: &mut [u16], lists: &mut [u16]) -> Result<Rep
     report(out)
 }
 
-/// The first two numbers of a call: 0, or a decline and its place.
+/// The first two numbers of a call: 0 and a value, or a decline and its place.
 fn accepted(number: usize, place: usize) -> Result<(), Decline> {
     match number {
         0 => Ok(()),
@@ -133,7 +142,7 @@ fn accepted(number: usize, place: usize) -> Result<(), Decline> {
     }
 }
 
-fn report([number, second, changes, sends, polls, empty]: [usize; 6]) -> Result<Report, Decline> {
+fn report([number, second, changes, sends, polls, empty]: library::RunOut) -> Result<Report, Decline> {
     accepted(number, second)?;
     let status = match second {
         0 => Status::Open,

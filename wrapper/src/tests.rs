@@ -37,12 +37,12 @@ impl Buffers {
         run_round(&hex(plan), &mut self.work, &mut self.lists)
     }
 
-    /// The cells of the slots, once all other cells are seen to be as a run leaves them.
-    fn cells(&self, slots: usize) -> &[u16] {
+    /// The cells of the variables, once all other cells are seen to be as a run leaves them.
+    fn cells(&self, variables: usize) -> &[u16] {
         assert!(self.work[..WORK_CELLS].iter().all(|&c| c == 0));
         assert!(self.work[WORK_CELLS..].iter().all(|&c| c == HELD));
-        assert!(self.lists[slots..].iter().all(|&c| c == HELD));
-        &self.lists[..slots]
+        assert!(self.lists[variables..].iter().all(|&c| c == HELD));
+        &self.lists[..variables]
     }
 
     fn unchanged(&self) -> bool {
@@ -81,7 +81,7 @@ fn p_with_t_less_its_last_turn() {
 }
 
 #[test]
-fn an_empty_slot_is_bare() {
+fn a_variable_without_values_is_bare() {
     let mut b = Buffers::ample();
     let report = Report { status: Status::Bare, changes: 4, sends: 0, polls: 1, empty: 1 };
     assert_eq!(b.turns("01 0003 010100 0002 0100", "000C 0100 010B 0001"), Ok(report));
