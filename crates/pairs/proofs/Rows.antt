@@ -6,12 +6,13 @@ use mathlib.Core.Logic.{⊎-elim}
 use mathlib.Core.Option.{none}
 use mathlib.Core.Path.{_≡_, refl, sym, _∙_, ap, ap₂, subst}
 use native.Mathlib.Nat.{add-comm, mul-le-mul-right}
+use native.Mathlib.Decide.{ℕ-discrete}
 use native.Mathlib.Omega.{arith}
-use borrow.Author.Tests.{ltb-true, ltb-false}
+use borrow.Author.Tests.{ltb-true, ltb-false, leb-true, le-leb}
 use lib.Bits.{bitAnd, and-le-l}
 use lib.Dec.{leb, ltb, eqb}
 use lib.Pow.{pow-pos}
-use Rattle.base.proofs.Bools.{decided, and-comm, or-comm}
+use Rattle.base.proofs.Bools.{decided, and-comm, or-comm, bool-ext}
 use Rattle.base.proofs.Choice.{cond-true, cond-false}
 use Rattle.base.proofs.Row.{bit-and, bit-low, bit-high, row-bit, row-doubled, row-ext, row-full, row-of-bits}
 use Rattle.base.specs.Below.{one}
@@ -22,7 +23,7 @@ use Rattle.index.proofs.Chains.{and-true, over-turned}
 use Rattle.index.proofs.Permitted.{acceptsAt, Placed, Along, along-start, along-next, Rest, rest-start, rest-next, permits-table, permits-limit, permitted, row-low}
 use Rattle.index.specs.Allowed.{permitsAt, permitsFrom, limited, inColumn, Listed}
 use Rattle.index.specs.Index.{over, chainBelow}
-use Rattle.plan.proofs.Limits.{unrecorded-allows}
+use Rattle.plan.proofs.Limits.{unrecorded-allows, recorded-judges}
 use Rattle.plan.specs.Decode.{planFault, planOf}
 use Rattle.plan.specs.Network.{unrecorded, withinLimit, permits, joins, accepts, pairAllowed}
 use Rattle.plan.specs.WellFormed.{constraintOf}
@@ -60,6 +61,21 @@ limit-turned : (limit f g : ℕ) → withinLimit limit f g ≡ withinLimit limit
 unfolding withinLimit
 limit-turned limit f g =
     ap₂ _||_ (or-comm (unrecorded f) (unrecorded g)) (ap (λ (k : ℕ). leb k limit) (add-comm f g))
+
+-- one test for a figure beside a recorded one
+pub room-judges : (limit f g room : ℕ) → f < 65535 → g < 65536 → room ≡ limit + 1 - f
+    → leb ((g + 1) % 65536) room ≡ withinLimit limit f g
+room-judges limit f g room h k e =
+    elim (ℕ-discrete g 65535) [
+      | yes q ↦ rw q (le-leb 0 room (omega arith) ∙ sym (unrecorded-allows limit f .1))
+      | no d ↦
+          let small : (g + 1) % 65536 ≡ g + 1 = omega arith in
+          rw small
+          (bool-ext (leb (g + 1) room) (leb (f + g) limit)
+          (λ t. le-leb (f + g) limit (omega (arith, leb-true (g + 1) room t)))
+          (λ t. le-leb (g + 1) room (omega (arith, leb-true (f + g) limit t))))
+          ∙ sym (recorded-judges limit f g (λ q. omega arith) d)
+    ]
 
 -- with a figure that is not recorded, a limit permits all values
 pub limit-free : (b : List ℕ) (limit place n p f : ℕ) → f ≡ 65535 → p ≡ 2 ^ n → p - 1 ≡ rowOf n (limited b limit f place)

@@ -14,10 +14,10 @@ use Rattle.index.specs.Allowed.{limited}
 use Rattle.plan.specs.Network.{withinLimit}
 
 abbrev Inv-loop : tie.InvT-loop
-Inv-loop b limit f place values row₀ w₀ row w = Upper (limited b limit f place) values row w
+Inv-loop b limit f place values room row₀ w₀ row w = Upper (limited b limit f place) values row w
 
 abbrev μ-loop : tie.MeasureT-loop
-μ-loop b limit f place values row₀ w₀ row w = w
+μ-loop b limit f place values room row₀ w₀ row w = w
 
 power-requires : tie.Need-power-requires Inv-loop μ-loop
 power-requires c κs = search needs
@@ -32,9 +32,12 @@ returns c =
     limit-free (now (a .b)) (a .limit) (a .place) (a .values) (c .power .result) (a .f) (c .before .if1 .taken)
     (c .power .ensures)
 
+room-beside-requires : tie.Need-room-beside-requires Inv-loop μ-loop
+room-beside-requires c κs = c .before .before .pre .3
+
 loop-holds : tie.Need-loop-holds Inv-loop μ-loop
 loop-holds c =
-    let a = c .before .before .args in
+    let a = c .before .before .before .args in
     upper-start (limited (now (a .b)) (a .limit) (a .f) (a .place)) (a .values)
 
 sub-w : tie.Need-sub-w Inv-loop μ-loop
@@ -43,7 +46,7 @@ sub-w c = omega (arith, c .loop-test .taken)
 mul-row : tie.Need-mul-row Inv-loop μ-loop
 mul-row c =
     let l = c .before in
-    let s = l .before .before .before in
+    let s = l .before .before .before .before in
     let a = s .args in
     omega (
       arith,
@@ -52,12 +55,10 @@ mul-row c =
     )
 
 figure-requires : tie.Need-figure-requires Inv-loop μ-loop
-figure-requires c κs = omega (arith, c .before .before .before .before .pre, c .before .loop .inv .low)
+figure-requires c κs = omega (arith, c .before .before .before .before .before .pre, c .before .loop .inv .low)
 
 permits-figure-requires : tie.Need-permits-figure-requires Inv-loop μ-loop
-permits-figure-requires c κs =
-    let e = c .before .before .before in
-    omega (arith, e .before .before .pre, e .if1 .left, c .figure .ensures)
+permits-figure-requires c κs = omega (arith, c .figure .ensures)
 
 row-if-requires : tie.Need-row-if-requires Inv-loop μ-loop
 row-if-requires c κs = omega arith
@@ -68,7 +69,7 @@ module _ (c : tie.After-row-if Inv-loop μ-loop) where
   l = c .before .before .before .before
 
   abbrev s : tie.Start Inv-loop μ-loop
-  s = l .before .before .before
+  s = l .before .before .before .before
 
   more : Upper (limited (now (s .args .b)) (s .args .limit) (s .args .f) (s .args .place)) (s .args .values)
       (2 * l .loop .row + c .row-if .result) (l .loop .w - 1)
@@ -79,7 +80,10 @@ module _ (c : tie.After-row-if Inv-loop μ-loop) where
       (upper-here t (s .args .values) (l .loop .row) (l .loop .w) (c .before .before .before .loop-test .taken) (l .loop .inv))
       (c .row-if .result)
       (c .row-if .ensures
-      ∙ ap one (c .before .permits-figure .ensures ∙ ap (withinLimit (s .args .limit) (s .args .f)) (c .before .before .figure .ensures .0)))
+      ∙ ap one
+      (c .before .permits-figure .ensures (s .args .limit) (s .args .f)
+      (omega (arith, s .pre .1, l .before .before .if1 .left)) (l .before .room-beside .ensures)
+      ∙ ap (withinLimit (s .args .limit) (s .args .f)) (c .before .before .figure .ensures .0)))
 
 add-row : tie.Need-add-row Inv-loop μ-loop
 add-row c =
@@ -99,7 +103,7 @@ loop-again c = more c
 returns-2 : tie.Need-returns-2 Inv-loop μ-loop
 returns-2 c =
     let l = c .before in
-    let a = l .before .before .before .args in
+    let a = l .before .before .before .before .args in
     upper-all (limited (now (a .b)) (a .limit) (a .f) (a .place)) (a .values) (l .loop .row) (l .loop .w)
     (omega (arith, c .loop-test .left)) (l .loop .inv)
 
@@ -112,6 +116,7 @@ limit-row-spec =
     power-requires
     sub-result
     returns
+    room-beside-requires
     loop-holds
     sub-w
     mul-row
