@@ -1,8 +1,8 @@
--- `tinshrew::list_fits` says whether a turn list is of even length and not too long. Assumes nothing.
+-- `turns::list_fits` says whether a turn list is of even length and not too long. Assumes nothing.
 use borrow.Author.Tests.{eq-eqb, ne-eqb}
 use Rattle.disac4.specs.Turn.{turnListFits}
-use Rattle.tinshrew.proofs.list_fits.Statement.{statement}
-use Rattle.tinshrew.proofs.list_fits.Tie as tie
+use Rattle.turns.proofs.list_fits.Statement.{statement}
+use Rattle.turns.proofs.list_fits.Tie as tie
 
 returns : tie.Need-returns
 unfolding turnListFits

@@ -1,8 +1,8 @@
--- `tinshrew::load` loads an accepted plan. Assumes nothing.
+-- `runs::load` loads an accepted plan. Assumes nothing.
 use borrow.Author.Needs.{needs}
-use Rattle.tinshrew.proofs.Outcomes.{begins}
-use Rattle.tinshrew.proofs.load.Statement.{statement}
-use Rattle.tinshrew.proofs.load.Tie as tie
+use Rattle.runs.proofs.Runs.{begins}
+use Rattle.runs.proofs.load.Statement.{statement}
+use Rattle.runs.proofs.load.Tie as tie
 
 start-requires : tie.Need-start-requires
 start-requires c κs = search needs

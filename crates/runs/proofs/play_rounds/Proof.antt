@@ -1,4 +1,4 @@
--- `tinshrew::play_rounds` plays rounds on an accepted plan until it is closed. Assumes nothing.
+-- `runs::play_rounds` plays rounds on an accepted plan until it is closed. Assumes nothing.
 use borrow.Author.Needs.{needs}
 use denote.Ref.{now}
 use mathlib.Core.Path.{_∙_}
@@ -7,9 +7,9 @@ use Rattle.disac4.specs.Outcome.{systemAt}
 use Rattle.disac4.specs.Round.{roundRunTurns}
 use Rattle.cells.specs.Memory.{memOf}
 use Rattle.refinement.specs.Run.{At}
-use Rattle.tinshrew.proofs.Outcomes.{loaded, goes, rounds-from, ends}
-use Rattle.tinshrew.proofs.play_rounds.Statement.{statement}
-use Rattle.tinshrew.proofs.play_rounds.Tie as tie
+use Rattle.runs.proofs.Runs.{loaded, goes, rounds-from, ends}
+use Rattle.runs.proofs.play_rounds.Statement.{statement}
+use Rattle.runs.proofs.play_rounds.Tie as tie
 
 load-requires : tie.Need-load-requires
 load-requires c κs = search needs

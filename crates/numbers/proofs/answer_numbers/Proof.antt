@@ -1,8 +1,8 @@
--- `tinshrew::c::answer_numbers` gives the numbers of a run's answer. Assumes nothing.
-use Rattle.tinshrew.specs.Numbers.{answerNumbers}
+-- `numbers::answer_numbers` gives the numbers of a run's answer. Assumes nothing.
+use Rattle.numbers.specs.Numbers.{answerNumbers}
 use borrow.Author.Needs.{needs}
-use Rattle.tinshrew.proofs.c.answer_numbers.Statement.{statement}
-use Rattle.tinshrew.proofs.c.answer_numbers.Tie as tie
+use Rattle.numbers.proofs.answer_numbers.Statement.{statement}
+use Rattle.numbers.proofs.answer_numbers.Tie as tie
 
 enum-known-answer : tie.Need-enum-known-answer
 enum-known-answer c = search needs

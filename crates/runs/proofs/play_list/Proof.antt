@@ -1,4 +1,4 @@
--- `tinshrew::play_list` plays a list of allowed turns on an accepted plan. Assumes nothing.
+-- `runs::play_list` plays a list of allowed turns on an accepted plan. Assumes nothing.
 use borrow.Author.Needs.{needs}
 use denote.Ref.{now}
 use mathlib.Core.Path.{_∙_}
@@ -6,9 +6,9 @@ use native.Mathlib.Omega.{arith}
 use Rattle.disac4.specs.Turn.{turnsOf}
 use Rattle.cells.specs.Memory.{memOf}
 use Rattle.refinement.specs.Run.{At}
-use Rattle.tinshrew.proofs.Outcomes.{goes, turns-from, ends}
-use Rattle.tinshrew.proofs.play_list.Statement.{statement}
-use Rattle.tinshrew.proofs.play_list.Tie as tie
+use Rattle.runs.proofs.Runs.{goes, turns-from, ends}
+use Rattle.runs.proofs.play_list.Statement.{statement}
+use Rattle.runs.proofs.play_list.Tie as tie
 
 load-requires : tie.Need-load-requires
 load-requires c κs = search needs

@@ -1,8 +1,8 @@
--- `tinshrew::c::checked_numbers` gives the numbers of a plan check. Assumes nothing.
-use Rattle.tinshrew.specs.Numbers.{checkedNumbers}
+-- `numbers::checked_numbers` gives the numbers of a plan check. Assumes nothing.
+use Rattle.numbers.specs.Numbers.{checkedNumbers}
 use borrow.Author.Needs.{needs}
-use Rattle.tinshrew.proofs.c.checked_numbers.Statement.{statement}
-use Rattle.tinshrew.proofs.c.checked_numbers.Tie as tie
+use Rattle.numbers.proofs.checked_numbers.Statement.{statement}
+use Rattle.numbers.proofs.checked_numbers.Tie as tie
 
 enum-known-checked : tie.Need-enum-known-checked
 enum-known-checked c = search needs
