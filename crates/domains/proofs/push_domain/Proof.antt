@@ -1,10 +1,10 @@
--- `text::slots::push_slot` puts the line of a slot. Assumes nothing.
+-- `domains::push_domain` puts the line of a variable. Assumes nothing.
 use mathlib.Core.Path.{sym}
 use borrow.Author.Needs.{needs}
 use Rattle.buffer.proofs.Puts.{_then_}
-use Rattle.text.proofs.slots.push_slot.Statement.{statement}
-use Rattle.text.proofs.slots.push_slot.Tie as tie
-use Rattle.text.specs.Printed.{slotLine}
+use Rattle.domains.proofs.push_domain.Statement.{statement}
+use Rattle.domains.proofs.push_domain.Tie as tie
+use Rattle.domains.specs.Lines.{domainLine}
 
 push-number-requires : tie.Need-push-number-requires
 push-number-requires c κs = search needs
@@ -31,22 +31,22 @@ same-length : tie.Need-same-length
 same-length c = search needs
 
 returns : tie.Need-returns
-unfolding slotLine
+unfolding domainLine
 returns c =
     let at-push = c .before .before in
     let at-codes = at-push .before .before .before .before in
     let at-colon = at-codes .before .before .before .before in
     let at-owner = at-colon .before .before .before .before in
-    let at-slot = at-owner .before .before .before .before .before in
+    let at-number = at-owner .before .before .before .before .before in
     rw (sym (at-owner .before .byte-at .ensures .0))
-    (at-slot .push-number .ensures
+    (at-number .push-number .ensures
     then at-owner .push-spaced .ensures
     then at-colon .push .ensures
     then at-codes .push-codes .ensures
     then at-push .push2 .ensures)
 
-pub push-slot-spec : {M : Type 1} → statement M
-push-slot-spec =
+pub push-domain-spec : {M : Type 1} → statement M
+push-domain-spec =
     tie.close
     (tie.spec
     push-number-requires

@@ -1,10 +1,10 @@
--- `text::slots::push_code` puts the code where the row's lowest bit is set. Assumes nothing.
+-- `domains::push_code` puts the code where the row's lowest bit is set. Assumes nothing.
 use Prim.Native.Nat.{_%_}
 use borrow.Author.Tests.{eq-eqb, ne-eqb}
 use Rattle.buffer.proofs.Puts.{adds-none}
 use borrow.Author.Needs.{needs}
-use Rattle.text.proofs.slots.push_code.Statement.{statement}
-use Rattle.text.proofs.slots.push_code.Tie as tie
+use Rattle.domains.proofs.push_code.Statement.{statement}
+use Rattle.domains.proofs.push_code.Tie as tie
 
 push-spaced-requires : tie.Need-push-spaced-requires
 push-spaced-requires c κs = search needs

@@ -1,4 +1,4 @@
-// A line for each slot. The plan's bytes are read by the place of the slot's section, 0 past the end.
+// The lines of the variables' domains. The plan's bytes are read by the place of the variable's section, 0 past the end.
 use buffer::push;
 use buffer::push_number;
 use buffer::push_spaced;
@@ -15,7 +15,7 @@ ghost use Rattle.plan.specs.Decode.{planOf};
 ghost use Rattle.format.specs.Format.{ownerAt, valueCountAt, codeAt};
 ghost use Rattle.buffer.specs.Buffer.{Adds};
 ghost use Rattle.buffer.specs.Decimal.{spaced};
-ghost use Rattle.text.specs.Printed.{listedCodes, slotLine, variableLines};
+ghost use Rattle.domains.specs.Lines.{listedCodes, domainLine, variableLines};
 
 // A cell as a number.
 fn wide(x: u16) -> usize
@@ -42,7 +42,7 @@ fn push_code(out: &mut [u8], at: usize, row: usize, code: usize) -> usize
     }
 }
 
-// The codes of the dishes whose bits the row has, each after a space.
+// The codes of the values whose bits the row has, each after a space.
 fn push_codes(out: &mut [u8], at: usize, plan: &[u8], section: usize, row: usize) -> usize
     requires { ⌜ section < 16777216 ⌝ }
     ensures { λ r. ⌜ Adds (listedCodes (valueCountAt (now (plan .entry)) section) (codeAt (now (plan .entry)) section) row) (now (out .entry)) at (now (out .exit)) r ⌝ }
@@ -59,27 +59,27 @@ fn push_codes(out: &mut [u8], at: usize, plan: &[u8], section: usize, row: usize
     place
 }
 
-// Slot, kitchen, colon, the listed codes.
-fn push_slot(
+// The variable's number, its worker, a colon, the listed codes.
+fn push_domain(
     out: &mut [u8],
     at: usize,
     plan: &[u8],
     section: usize,
-    slot: usize,
+    number: usize,
     row: usize,
 ) -> usize
     requires { ⌜ section < 16777216 ⌝ }
-    ensures { λ r. ⌜ Adds (slotLine slot (ownerAt (now (plan .entry)) section) (valueCountAt (now (plan .entry)) section) (codeAt (now (plan .entry)) section) row) (now (out .entry)) at (now (out .exit)) r ⌝ }
+    ensures { λ r. ⌜ Adds (domainLine number (ownerAt (now (plan .entry)) section) (valueCountAt (now (plan .entry)) section) (codeAt (now (plan .entry)) section) row) (now (out .entry)) at (now (out .exit)) r ⌝ }
 {
-    let mut place = push_number(out, at, slot);
+    let mut place = push_number(out, at, number);
     place = push_spaced(out, place, byte_at(plan, section + 2));
     place = push(out, place, b':');
     place = push_codes(out, place, plan, section, row);
     push(out, place, b'\n')
 }
 
-// The lines of all slots, in one pass over their sections.
-pub fn push_slots(out: &mut [u8], at: usize, plan: &[u8], lists: &[u16]) -> usize
+// The lines of all variables, in one pass over their sections.
+pub fn push_domains(out: &mut [u8], at: usize, plan: &[u8], lists: &[u16]) -> usize
     ensures { λ r. ⌜ Adds (variableLines (planOf (now (plan .entry))) (now (lists .entry))) (now (out .entry)) at (now (out .exit)) r ⌝ }
 {
     let count = variable_count(plan);
@@ -87,7 +87,7 @@ pub fn push_slots(out: &mut [u8], at: usize, plan: &[u8], lists: &[u16]) -> usiz
     let mut section = 3 + word_at(plan, 1);
     let mut x = 0;
     while x < count {
-        place = push_slot(out, place, plan, section, x + 1, cell_at(lists, x));
+        place = push_domain(out, place, plan, section, x + 1, cell_at(lists, x));
         section = section + 2 + word_at(plan, section);
         x += 1;
     }

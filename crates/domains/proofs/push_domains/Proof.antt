@@ -1,4 +1,4 @@
--- `text::slots::push_slots` puts the lines of all slots. The loop's invariant: those of the slots passed are put, and `section` is
+-- `domains::push_domains` puts the lines of all variables. The loop's invariant: those of the variables passed are put, and `section` is
 -- the place of the next one's section. The measure is what is left. Assumes nothing.
 use Prim.Native.Nat.{suc, _+_, _-_, _*_, _≤_}
 use mathlib.Core.Path.{_≡_, refl}
@@ -11,11 +11,11 @@ use Rattle.base.specs.Below.{gatherBelow}
 use Rattle.plan.specs.Decode.{planOf}
 use Rattle.format.specs.Format.{sectionStart}
 use Rattle.buffer.proofs.Puts.{adds-none, then-more}
-use Rattle.text.proofs.Read.{line-read, start-first, start-more, lines-all}
+use Rattle.domains.proofs.Read.{line-read, start-first, start-more, lines-all}
 use Rattle.buffer.specs.Buffer.{Adds}
-use Rattle.text.specs.Printed.{variableLine}
-use Rattle.text.proofs.slots.push_slots.Statement.{statement}
-use Rattle.text.proofs.slots.push_slots.Tie as tie
+use Rattle.domains.specs.Lines.{variableLine}
+use Rattle.domains.proofs.push_domains.Statement.{statement}
+use Rattle.domains.proofs.push_domains.Tie as tie
 
 abbrev Inv-loop : tie.InvT-loop
 Inv-loop out₀ at plan lists count place₀ section₀ x₀ out place section x =
@@ -42,14 +42,14 @@ loop-holds c =
     let plan = now (c .before .before .before .before .before .args .plan) in
     (omega arith, refl, start-first plan (c .word-at .result) (c .word-at .ensures .0), omega arith, adds-none)
 
-add-push-slot : tie.Need-add-push-slot Inv-loop μ-loop
-add-push-slot c = omega arith
+add-push-domain : tie.Need-add-push-domain Inv-loop μ-loop
+add-push-domain c = omega arith
 
 cell-at-requires : tie.Need-cell-at-requires Inv-loop μ-loop
 cell-at-requires c κs = search needs
 
-push-slot-requires : tie.Need-push-slot-requires Inv-loop μ-loop
-push-slot-requires c κs = omega arith
+push-domain-requires : tie.Need-push-domain-requires Inv-loop μ-loop
+push-domain-requires c κs = omega arith
 
 add-section-2 : tie.Need-add-section-2 Inv-loop μ-loop
 add-section-2 c = omega arith
@@ -82,7 +82,7 @@ loop-again c =
       then-more x (variableLine (planOf plan) lists) (l .loop .inv .4)
           (line-read plan lists x (l .loop .section) (x + 1) (at-cell .cell-at .result)
           (omega (arith, l .before .before .variable-count .ensures .0)) (l .loop .inv .2) (add-one x) (at-cell .cell-at .ensures))
-          (at-push .push-slot .ensures),
+          (at-push .push-domain .ensures),
     )
 
 same-length : tie.Need-same-length Inv-loop μ-loop
@@ -96,8 +96,8 @@ returns c =
     rw (lines-all plan (now (start .args .lists)) (l .loop .x) (omega (arith, l .before .before .variable-count .ensures .0)))
     at (l .loop .inv .4)
 
-pub push-slots-spec : {M : Type 1} → statement M
-push-slots-spec =
+pub push-domains-spec : {M : Type 1} → statement M
+push-domains-spec =
     tie.close
     (tie.spec
     Inv-loop
@@ -106,9 +106,9 @@ push-slots-spec =
     word-at-requires
     add-section
     loop-holds
-    add-push-slot
+    add-push-domain
     cell-at-requires
-    push-slot-requires
+    push-domain-requires
     add-section-2
     word-at-requires-2
     add-section-3

@@ -1,12 +1,13 @@
--- The printed lines of slots by the bytes of their sections.
-use Prim.Native.Nat.{ℕ, zero, suc, _+_, _/_, _^_, _<_}
+-- The printed lines of the variables by the bytes of their sections.
+use Prim.Native.Nat.{ℕ, suc, _+_, _/_, _^_, _<_}
 use mathlib.Core.Bool.{cond}
 use mathlib.Core.List.{List, []}
-use mathlib.Core.Path.{_≡_, refl, ap}
-use native.Mathlib.Nat.{le-step, le-refl, div-div-eq-div-mul, pow-suc}
+use mathlib.Core.Path.{_≡_, ap}
+use native.Mathlib.Nat.{div-div-eq-div-mul, pow-suc}
 use native.Mathlib.Numerals.{add-one}
 use native.Mathlib.Omega.{arith}
 use lib.ListN.{getD}
+use Rattle.base.proofs.Below.{gather-ext}
 use Rattle.base.specs.Below.{gatherBelow}
 use Rattle.base.specs.Bytes.{wordAt}
 use Rattle.base.specs.Row.{isOdd, bit}
@@ -17,15 +18,15 @@ use Rattle.plan.specs.Plan.{Value, valueOf}
 use Rattle.buffer.proofs.Puts.{then-more}
 use Rattle.buffer.specs.Buffer.{Adds}
 use Rattle.buffer.specs.Decimal.{spaced}
-use Rattle.text.specs.Printed.{listedCodes, slotLine, variableLine, variableLines}
+use Rattle.domains.specs.Lines.{listedCodes, domainLine, variableLine, variableLines}
 
--- ---- the codes of one slot
+-- ---- the codes of one variable
 
--- the row's rest behind one more dish
+-- the row's rest behind one more value
 pub half-more : (rest row v : ℕ) → rest ≡ row / 2 ^ v → rest / 2 ≡ row / 2 ^ (v + 1)
 half-more rest row v e = rw (e, add-one, pow-suc) (div-div-eq-div-mul row (2 ^ v) 2)
 
--- one dish more, by the lowest bit of the row's rest
+-- one value more, by the lowest bit of the row's rest
 pub codes-more : (row rest v : ℕ) (code : ℕ → ℕ) (c : ℕ) {l m n : List ℕ} {at next last : ℕ} → rest ≡ row / 2 ^ v → c ≡ code v
     → Adds (listedCodes v code row) l at m next → Adds (cond (isOdd rest) (spaced c) []) m next n last
     → Adds (listedCodes (v + 1) code row) l at n last
@@ -33,11 +34,7 @@ unfolding listedCodes bit
 codes-more row rest v code c e p a b =
     then-more v (λ v. cond (bit row v) (spaced (code v)) []) a (rw (e, p)) b
 
--- ---- the line of one slot
-
-gather-ext : (n : ℕ) (f g : ℕ → List ℕ) → ((i : ℕ) → i < n → f i ≡ g i) → gatherBelow n f ≡ gatherBelow n g
-gather-ext zero f g e = refl
-gather-ext (suc n) f g e = rw (gather-ext n f g (λ i h. e i (le-step h)), e n (le-refl (suc n)))
+-- ---- the line of one variable
 
 codes-ext : (n : ℕ) (f g : ℕ → ℕ) (row : ℕ) → ((v : ℕ) → v < n → f v ≡ g v) → listedCodes n f row ≡ listedCodes n g row
 unfolding listedCodes
@@ -46,11 +43,11 @@ codes-ext n f g row e =
     (λ v h. ap (λ (c : ℕ). cond (bit row v) (spaced c) []) (e v h))
 
 -- the line of variable `x`, whose section starts at `at`
-pub line-read : (b lists : List ℕ) (x at slot row : ℕ) → x < variableCount b → at ≡ sectionStart b (suc x) → slot ≡ suc x
+pub line-read : (b lists : List ℕ) (x at number row : ℕ) → x < variableCount b → at ≡ sectionStart b (suc x) → number ≡ suc x
     → row ≡ getD lists x 0
-    → slotLine slot (ownerAt b at) (valueCountAt b at) (codeAt b at) row ≡ variableLine (planOf b) lists x
-unfolding variableLine slotLine variableAt
-line-read b lists x at slot row h e p q =
+    → domainLine number (ownerAt b at) (valueCountAt b at) (codeAt b at) row ≡ variableLine (planOf b) lists x
+unfolding variableLine domainLine variableAt
+line-read b lists x at number row h e p q =
     rw (
       e,
       p,
@@ -63,7 +60,7 @@ line-read b lists x at slot row h e p q =
 
 -- ---- the places of the sections
 
--- the first slot's section stands behind the head
+-- the first variable's section stands behind the head
 pub start-first : (b : List ℕ) (first : ℕ) → first ≡ wordAt b 1 → 3 + first ≡ sectionStart b 1
 unfolding sectionStart
 start-first b first e = omega arith
@@ -74,7 +71,7 @@ pub start-more : (b : List ℕ) (at word x : ℕ) → at ≡ sectionStart b (suc
 unfolding sectionStart
 start-more b at word x e p = rw (p, e, add-one)
 
--- the lines of all slots
+-- the lines of all variables
 pub lines-all : (b lists : List ℕ) (x : ℕ) → x ≡ variableCount b
     → gatherBelow x (variableLine (planOf b) lists) ≡ variableLines (planOf b) lists
 unfolding variableLines

@@ -1,10 +1,10 @@
--- `text::slots::cell_at` gives the cell at an index, 0 past the end. Assumes nothing.
+-- `domains::cell_at` gives the cell at an index, 0 past the end. Assumes nothing.
 use mathlib.Core.Path.{sym}
 use denote.Ref.{now}
 use lib.ListN.{List·getD-eq-default}
 use borrow.Author.Needs.{needs}
-use Rattle.text.proofs.slots.cell_at.Statement.{statement}
-use Rattle.text.proofs.slots.cell_at.Tie as tie
+use Rattle.domains.proofs.cell_at.Statement.{statement}
+use Rattle.domains.proofs.cell_at.Tie as tie
 
 mul-wide : tie.Need-mul-wide
 mul-wide c = search needs

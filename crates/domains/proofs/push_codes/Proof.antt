@@ -1,4 +1,4 @@
--- `text::slots::push_codes` puts the listed codes. The loop's invariant: those of the dishes passed are put, and `rest` has the bits
+-- `domains::push_codes` puts the listed codes. The loop's invariant: those of the values passed are put, and `rest` has the bits
 -- of the others. The measure is what is left. Assumes nothing.
 use Prim.Native.Nat.{_-_, _/_, _^_, _≤_}
 use mathlib.Core.Path.{_≡_, refl, sym}
@@ -9,11 +9,11 @@ use denote.Ref.{now}
 use lib.ListN.{length}
 use Rattle.format.specs.Format.{codeAt, valueCountAt}
 use Rattle.buffer.proofs.Puts.{adds-none}
-use Rattle.text.proofs.Read.{codes-more, half-more}
+use Rattle.domains.proofs.Read.{codes-more, half-more}
 use Rattle.buffer.specs.Buffer.{Adds}
-use Rattle.text.specs.Printed.{listedCodes}
-use Rattle.text.proofs.slots.push_codes.Statement.{statement}
-use Rattle.text.proofs.slots.push_codes.Tie as tie
+use Rattle.domains.specs.Lines.{listedCodes}
+use Rattle.domains.proofs.push_codes.Statement.{statement}
+use Rattle.domains.proofs.push_codes.Tie as tie
 
 abbrev Inv-loop : tie.InvT-loop
 Inv-loop out₀ at plan section row size place₀ rest₀ v₀ out place rest v =
