@@ -1,8 +1,7 @@
 // A text, put byte by byte into a lent buffer: each function takes the place of the next byte and returns the one behind.
 ghost use mathlib.Core.List.{[], _∷_};
 ghost use Rattle.buffer.specs.Buffer.{Adds};
-ghost use Rattle.buffer.specs.Decimal.{decimal};
-ghost use Rattle.buffer.specs.Decimal.{spaced as spacedText};
+ghost use Rattle.buffer.specs.Decimal.{decimal, spaced as spacedText};
 
 // One byte, dropped where the buffer is full.
 pub fn push(out: &mut [u8], at: usize, byte: u8) -> usize

@@ -14,8 +14,7 @@ ghost use mathlib.Core.Path.{_≡_};
 ghost use Prim.Native.Nat.{_<_, _≤_};
 ghost use lib.ListN.{length};
 ghost use Rattle.disac4.specs.System.{System};
-ghost use Rattle.controller.specs.Controller.{askedT, asksT, countedT, withMark, markedT, toldT};
-ghost use Rattle.controller.specs.Controller.{pollM, hearM, Hears};
+ghost use Rattle.controller.specs.Controller.{askedT, asksT, countedT, withMark, markedT, toldT, pollM, hearM, Hears};
 
 pub mod tally;
 

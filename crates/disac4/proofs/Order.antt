@@ -12,24 +12,24 @@ use Rattle.plan.specs.Fault.{decline}
 use Rattle.format.specs.Format.{workerCount}
 use Rattle.plan.specs.declared.Decline.{Decline}
 use Rattle.plan.specs.declared.Fault.the-variants.{ShortWork, ShortLists, BadTurnList}
-use Rattle.disac4.specs.Outcome.{bufferFault, inputFault, turnRun, roundRun, refused, workNeed, listNeed}
+use Rattle.disac4.specs.Outcome.{bufferChecks, bufferFault, inputFault, turnRun, roundRun, refused, workNeed, listNeed}
 use Rattle.disac4.specs.Turn.{turnListFits, turnFault}
 use Rattle.disac4.specs.declared.Answer.the-variants.{Declined}
 
 -- 9 comes first, whatever else is wrong
 pub short-work : (work lists : List ℕ) → length work < workNeed → bufferFault work lists ≡ some (decline ShortWork 0)
-unfolding bufferFault
+unfolding bufferFault bufferChecks
 short-work work lists h = rw (lt-leb workNeed (length work) h)
 
 -- then 10
 pub short-lists : (work lists : List ℕ) → workNeed ≤ length work → length lists < listNeed
     → bufferFault work lists ≡ some (decline ShortLists 0)
-unfolding bufferFault
+unfolding bufferFault bufferChecks
 short-lists work lists g h = rw (le-leb workNeed (length work) g, lt-leb listNeed (length lists) h)
 
 -- buffers of these sizes are never declined
 pub buffers-fit : (work lists : List ℕ) → workNeed ≤ length work → listNeed ≤ length lists → bufferFault work lists ≡ none
-unfolding bufferFault
+unfolding bufferFault bufferChecks
 buffers-fit work lists g h = rw (le-leb workNeed (length work) g, le-leb listNeed (length lists) h)
 
 -- 11 comes before any fault of the plan

@@ -2,10 +2,11 @@
 use Prim.Native.Nat.{ℕ}
 use mathlib.Core.List.{List, [], _∷_, _++_}
 use mathlib.Core.Option.{Option, none, some}
+use mathlib.Core.Path.{_≡_}
 use lib.Dec.{leb}
 use lib.ListN.{length, drop, replicate}
 use Rattle.base.specs.Choice.{firstOf}
-use Rattle.plan.specs.Check.{_orElse_, firstFault, faultAt}
+use Rattle.plan.specs.Check.{Check, _orElse_, firstFault, faultAt}
 use Rattle.plan.specs.Decode.{planFault, planOf}
 use Rattle.format.specs.Format.{workerCount}
 use Rattle.plan.specs.declared.Decline.{Decline}
@@ -22,6 +23,12 @@ pub record Outcome : Type 0 where
   -- the lent buffers afterwards
   pub work : List ℕ
   pub lists : List ℕ
+
+-- a call leaves its caller this outcome: the answer and both lent buffers
+pub record Gives (o : Outcome) (r : Answer) (work lists : List ℕ) : Type 0 where
+  pub answer : r ≡ o .answer
+  pub work-cells : work ≡ o .work
+  pub list-cells : lists ≡ o .lists
 
 unfoldable pub workNeed : ℕ
 workNeed = 24576
@@ -45,12 +52,13 @@ played work lists sys turns = record {
   lists = overwrite (listCells sys (final sys turns)) lists;
 }
 
--- 9 and 10: the buffers are too small
+-- 9 and 10: the buffers are long enough
+unfoldable pub bufferChecks : List ℕ → List ℕ → List Check
+bufferChecks work lists =
+    (leb workNeed (length work) orElse ShortWork) ∷ (leb listNeed (length lists) orElse ShortLists) ∷ []
+
 unfoldable pub bufferFault : List ℕ → List ℕ → Option Decline
-bufferFault work lists =
-    faultAt 0
-    (firstFault
-    ((leb workNeed (length work) orElse ShortWork) ∷ (leb listNeed (length lists) orElse ShortLists) ∷ []))
+bufferFault work lists = faultAt 0 (firstFault (bufferChecks work lists))
 
 -- 11; the plan's faults; 12
 unfoldable pub inputFault : List ℕ → List ℕ → Option Decline

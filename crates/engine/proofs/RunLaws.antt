@@ -1,9 +1,9 @@
 -- From what the actions' code ensures to what the code of a turn ensures.
-use Prim.Native.Nat.{ℕ, _+_, _-_, _<_, _≤_}
+use Prim.Native.Nat.{ℕ, _-_, _<_, _≤_}
 use mathlib.Core.Bool.{Bool, true, false, cond, _&&_, _||_, not}
-use mathlib.Core.List.{List, [], _∷_}
+use mathlib.Core.List.{List}
 use mathlib.Core.Option.{Option, none, some, Option·getD}
-use mathlib.Core.Path.{_≡_, refl, sym, _∙_, ap, ap₂, subst}
+use mathlib.Core.Path.{_≡_, refl, sym, _∙_, ap, subst}
 use native.Mathlib.Omega.{arith}
 use mathlib.Core.Logic.{⊎-elim}
 use borrow.Author.Tests.{leb-true, eqb-true, eq-eqb, ne-eqb}
@@ -15,16 +15,16 @@ use Rattle.base.specs.Below.{one}
 use Rattle.base.specs.Choice.{between}
 use Rattle.disac4.specs.Outcome.{overwrite, workNeed, systemAt}
 use Rattle.disac4.specs.System.{System, systemOf}
-use Rattle.disac4.specs.Turn.{Turn, turn, isSome, allowed, treatNumber, sendNumber, answerNumber, pollNumber}
+use Rattle.disac4.specs.Turn.{turn, allowed, pollNumber}
 use Rattle.disac4.specs.declared.Tally.{Tally}
 use Rattle.refinement.proofs.Behind.{cleared-memory}
 use Rattle.index.proofs.Chains.{indexed}
 use Rattle.index.specs.Index.{Ready, Indexed, indexM}
-use Rattle.cells.specs.Layout.{HEADS}
-use Rattle.cells.specs.Memory.{clearedM}
 use Rattle.loading.specs.Load.{loadM}
-use Rattle.cells.specs.Memory.{Mem, memOf, left, changed, Acts}
-use Rattle.messages.specs.Messages.{sendM, answerM, readPollM, readListM}
+use Rattle.cells.specs.Memory.{Mem, memOf, clearedM, left, changed, Acts}
+use Rattle.sends.specs.Sends.{sendM}
+use Rattle.reads.specs.Reads.{readPollM, readListM}
+use Rattle.answers.specs.Answers.{answerM}
 use Rattle.refinement.specs.Run.{freshTally, startM, readOn, workerOn, turnOn}
 use Rattle.controller.specs.Controller.{Machine, machine, Hears, hearM, pollM}
 use Rattle.refinement.specs.Step.{withMem, readM, workerM, stepM}

@@ -53,9 +53,9 @@ fn read(cells: &mut [u16], t: Tally, i: usize, d: usize) -> usize
     if d == 0 {
         let at = t.timestamp;
         let n = at.0 as usize;
-        return messages::read_poll(cells, i, n);
+        return reads::read_poll(cells, i, n);
     }
-    messages::read_list(cells, d - 1, i)
+    reads::read_list(cells, d - 1, i)
 }
 
 // The action `d` of row `i`.
@@ -67,10 +67,10 @@ fn work(b: &[u8], cells: &mut [u16], t: Tally, i: usize, d: usize) -> usize
         return treating::treat(b, cells, i);
     }
     if d == 10 {
-        return messages::send(cells, i);
+        return sends::send(cells, i);
     }
     if d == 11 {
-        return messages::answer(cells, i);
+        return answers::answer(cells, i);
     }
     read(cells, t, i, d)
 }

@@ -16,7 +16,7 @@ use Rattle.cells.proofs.Queue.{labels-empty, queue, queue-put}
 use Rattle.cells.proofs.Stores.{store-other}
 use Rattle.cells.specs.Layout.{WORKERS, BOUNDS, WORK, OUT, WANTED, HEAD, TAIL, LOGEND, SENDS, LISTS, HELD, OUTEND}
 use Rattle.cells.specs.Memory.{Mem}
-use Rattle.messages.specs.Messages.{answeredM, answerM}
+use Rattle.answers.specs.Answers.{answeredM, emptyM, answerM}
 use Rattle.controller.specs.Controller.{Machine}
 use Rattle.cells.specs.View.{messageOf, pollAt, viewWork, viewLists, viewOut, view}
 use Rattle.refinement.proofs.Actors.{at-worker, counter-worker}
@@ -28,8 +28,8 @@ use Rattle.refinement.specs.Inv.{Small, Inv}
 use Rattle.refinement.proofs.Seen.{mapO, mapO-cond, viewOf, view-parts, rowsOf, reply-code, same-state, workOf}
 use Rattle.refinement.proofs.Sent.{nothing-to-send}
 
--- three tests one in another are one test
-nested : {A : Type 0} (a b c : Bool) (x y : A) → cond a (cond b (cond c x y) y) y ≡ cond (a && b && c) x y
+-- the tests of both lists and of the count are one test
+nested : {A : Type 0} (a b c : Bool) (x y : A) → cond (a && true && b) (cond c x y) y ≡ cond (a && b && c) x y
 nested true true c x y = refl
 nested true false c x y = refl
 nested false b c x y = refl
@@ -130,7 +130,7 @@ module _ (sys : System) (small : Small sys) (s : Machine) (inv : Inv sys s) (i :
 
   -- there is room for every reply
   answer-room : answerM i m ≡ cond (eqb (m WORKERS i HELD) 0) none (cond isReady (some m′) none)
-  unfolding answerM
+  unfolding answerM emptyM
   answer-room =
       rw (
         lt-ltb (m WORKERS i HELD) 520 held-small,

@@ -1,6 +1,6 @@
 -- Answering keeps the invariant: a worker replies once at each value of its list counter.
 use Prim.Native.Nat.{ℕ, _+_, _-_, _<_, _≤_}
-use mathlib.Core.Bool.{false}
+use mathlib.Core.Bool.{false, _&&_}
 use mathlib.Core.Logic.{inl, inr, ⊎-elim}
 use mathlib.Core.Option.{some}
 use mathlib.Core.Path.{_≡_, refl, sym, _∙_, ap}
@@ -8,7 +8,7 @@ use native.Mathlib.Decide.{ℕ-discrete}
 use native.Mathlib.Omega.{arith}
 use borrow.Author.Tests.{ltb-true, eqb-true, eqb-false, lt-leb, ne-eqb}
 use lib.Dec.{ltb, eqb}
-use Rattle.base.proofs.Bools.{decided, and-never}
+use Rattle.base.proofs.Bools.{decided, and-never, and-left, and-right}
 use Rattle.base.proofs.Choice.{if-some, unless-some, some-same}
 use Rattle.base.specs.Below.{one}
 use Rattle.disac4.specs.System.{System}
@@ -16,7 +16,7 @@ use Rattle.disac4.specs.declared.Tally.{Tally}
 use Rattle.cells.proofs.Stores.{store-same, store-other}
 use Rattle.cells.specs.Layout.{WORKERS, BOUNDS, OUT, WANTED, HEAD, TAIL, LOGEND, SENDS, LISTS, HELD, OUTEND}
 use Rattle.cells.specs.Memory.{Mem}
-use Rattle.messages.specs.Messages.{answerM, answeredM}
+use Rattle.answers.specs.Answers.{answerM, answeredM, emptyM}
 use Rattle.cells.specs.View.{LISTMARK}
 use Rattle.refinement.proofs.Capacity.{risen}
 use Rattle.refinement.proofs.Frame.{OnlyRow, Answered, worker-action}
@@ -162,20 +162,19 @@ module _ (sys : System) (m : Mem) (t : Tally) (i : ℕ) (inv : Inv sys (record {
 -- answering keeps the invariant
 pub answer-keeps : (sys : System) (m m′ : Mem) (t : Tally) (i : ℕ) → Inv sys (record { mem = m; tally = t })
     → i < sys .workers → answerM i m ≡ some m′ → Inv sys (record { mem = m′; tally = t })
-unfolding answerM
+unfolding answerM emptyM
 answer-keeps sys m m′ t i inv h e =
     let e₁ = unless-some (eqb (m WORKERS i HELD) 0) e in
     let e₂ = if-some (ltb (m WORKERS i HELD) 520) (e₁ .1) in
-    let e₃ = if-some (eqb (m WORKERS i HEAD) (m WORKERS i TAIL)) (e₂ .1) in
-    let e₄ = if-some (ltb (m WORKERS i SENDS) 519) (e₃ .1) in
-    let e₅ = if-some (eqb (m BOUNDS i (m WORKERS i SENDS)) (m WORKERS i LOGEND)) (e₄ .1) in
-    let e₆ = if-some (eqb (m WORKERS i LISTS) (m WANTED 0 (m WORKERS i HELD))) (e₅ .1) in
-    let e₇ = if-some (ltb (m WORKERS i OUTEND) 520) (e₆ .1) in
-    some-same (λ x. Inv sys (record { mem = x; tally = t })) (e₇ .1)
+    let e₃ = if-some (emptyM i m) (e₂ .1) in
+    let e₄ = if-some (eqb (m WORKERS i LISTS) (m WANTED 0 (m WORKERS i HELD))) (e₃ .1) in
+    let e₅ = if-some (ltb (m WORKERS i OUTEND) 520) (e₄ .1) in
+    some-same (λ x. Inv sys (record { mem = x; tally = t })) (e₅ .1)
     (answered-keeps sys m t i inv h (record {
       held = omega (arith, eqb-false (m WORKERS i HELD) 0 (e₁ .0));
       low = omega (arith, ltb-true (m WORKERS i HELD) 520 (e₂ .0));
-      no-work = eqb-true (m WORKERS i HEAD) (m WORKERS i TAIL) (e₃ .0);
-      no-send = eqb-true (m BOUNDS i (m WORKERS i SENDS)) (m WORKERS i LOGEND) (e₅ .0);
-      wanted = eqb-true (m WORKERS i LISTS) (m WANTED 0 (m WORKERS i HELD)) (e₆ .0);
+      no-work = eqb-true (m WORKERS i HEAD) (m WORKERS i TAIL) (and-left _ _ (and-left _ _ (e₃ .0)));
+      no-send = eqb-true (m BOUNDS i (m WORKERS i SENDS)) (m WORKERS i LOGEND)
+          (and-right (eqb (m WORKERS i HEAD) (m WORKERS i TAIL) && ltb (m WORKERS i SENDS) 519) _ (e₃ .0));
+      wanted = eqb-true (m WORKERS i LISTS) (m WANTED 0 (m WORKERS i HELD)) (e₄ .0);
     }))

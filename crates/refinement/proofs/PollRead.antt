@@ -14,7 +14,7 @@ use Rattle.disac4.specs.declared.Tally.{Tally}
 use Rattle.cells.proofs.Queue.{queue-taken, queue-none}
 use Rattle.cells.specs.Layout.{WORKERS, HELD, POLLS}
 use Rattle.cells.specs.Memory.{Mem, store}
-use Rattle.messages.specs.Messages.{readPollM}
+use Rattle.reads.specs.Reads.{readPollM}
 use Rattle.controller.specs.Controller.{Machine}
 use Rattle.cells.specs.View.{pollAt, viewPolls, view}
 use Rattle.refinement.proofs.ChannelRows.{at-polls, Stays, Beside, channels-update}

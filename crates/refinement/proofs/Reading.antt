@@ -19,7 +19,7 @@ use Rattle.cells.specs.Layout.{WORKERS, CURSORS, BOUNDS, LOG, WORK, OUT, WANTED
 use Rattle.cells.specs.Lists.{copyM}
 use Rattle.cells.specs.Memory.{Mem, store}
 use Rattle.cells.specs.View.{LISTED, labelsBetween, listAt}
-use Rattle.messages.specs.Messages.{letterStart, letterEnd, takenM, readListM}
+use Rattle.reads.specs.Reads.{letterStart, letterEnd, takenM, readListM}
 use Rattle.controller.specs.Controller.{Machine}
 use Rattle.refinement.proofs.Capacity.{letter-room, bound-logged}
 use Rattle.refinement.proofs.Frame.{OnlyRow, Answered, row-grown, lists-out-kept, logged-kept, heard-kept, worker-action}

@@ -16,7 +16,7 @@ use Rattle.disac4.specs.declared.Tally.{Tally}
 use Rattle.cells.proofs.Stores.{store-same, store-other}
 use Rattle.cells.specs.Layout.{WORKERS, CURSORS, BOUNDS, OUT, LOGEND, SENDS, LISTS, OUTEND}
 use Rattle.cells.specs.Memory.{Mem}
-use Rattle.messages.specs.Messages.{sendM, sentM}
+use Rattle.sends.specs.Sends.{sendM, sentM}
 use Rattle.cells.specs.View.{LISTMARK}
 use Rattle.refinement.proofs.Frame.{OnlyRow, Answered, worker-action}
 use Rattle.refinement.specs.Inv.{Row, Totals, Inv}

@@ -17,7 +17,7 @@ use Rattle.cells.proofs.Queue.{labels-same, labels-none, labels-empty, queue-pu
 use Rattle.cells.proofs.Stores.{store-same, store-other}
 use Rattle.cells.specs.Layout.{WORKERS, BOUNDS, LOG, OUT, LOGEND, SENDS, LISTS, OUTEND}
 use Rattle.cells.specs.Memory.{Mem}
-use Rattle.messages.specs.Messages.{sentM, sendM}
+use Rattle.sends.specs.Sends.{sentM, sendM}
 use Rattle.controller.specs.Controller.{Machine}
 use Rattle.cells.specs.View.{LISTMARK, listAt, messageOf, viewSend, viewLetters, viewOut, view}
 use Rattle.refinement.proofs.Actors.{at-worker, actors-update, counters-more}

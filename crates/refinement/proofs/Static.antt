@@ -13,7 +13,9 @@ use Rattle.disac4.specs.declared.Tally.{Tally}
 use Rattle.cells.proofs.Stores.{store-apart, copy-other}
 use Rattle.cells.specs.Layout.{WORKERS, CURSORS, BOUNDS, WORK, OUT, WANTED, HEADS, HEAD, TAIL, LOGEND, SENDS, LISTS, HELD, POLLS, OUTEND, OUTREAD}
 use Rattle.cells.specs.Memory.{Mem, store}
-use Rattle.messages.specs.Messages.{letterEnd, letterStart, sentM, sendM, takenM, readListM, readPollM, answeredM, answerM}
+use Rattle.sends.specs.Sends.{sentM, sendM}
+use Rattle.reads.specs.Reads.{letterEnd, letterStart, takenM, readListM, readPollM}
+use Rattle.answers.specs.Answers.{answeredM, emptyM, answerM}
 use Rattle.controller.specs.Controller.{askM, askedT, asksT, hasOut, outReadM, toldT}
 use Rattle.refinement.specs.Run.{playM}
 use Rattle.controller.specs.Controller.{Machine, hearM, pollM}
@@ -72,13 +74,9 @@ module _ (r a b : ℕ) (h : HEADS ≤ r) where
   answer-kept i m =
       kept-if (eqb (m WORKERS i HELD) 0) idle
       (kept-if (ltb (m WORKERS i HELD) 520)
-      (kept-if (eqb (m WORKERS i HEAD) (m WORKERS i TAIL))
-      (kept-if (ltb (m WORKERS i SENDS) 519)
-      (kept-if (eqb (m BOUNDS i (m WORKERS i SENDS)) (m WORKERS i LOGEND))
+      (kept-if (emptyM i m)
       (kept-if (eqb (m WORKERS i LISTS) (m WANTED 0 (m WORKERS i HELD)))
       (kept-if (ltb (m WORKERS i OUTEND) 520) (agrees (rw (far WORKERS (omega arith), far OUT (omega arith)))) idle)
-      idle)
-      idle)
       idle)
       idle)
       idle)

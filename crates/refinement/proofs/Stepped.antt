@@ -13,7 +13,7 @@ use Rattle.disac4.specs.State.{State}
 use Rattle.disac4.specs.System.{System}
 use Rattle.disac4.specs.Turn.{Turn, treatNumber, sendNumber, answerNumber, pollNumber, allowed, workerStep, controllerStep, step}
 use Rattle.cells.specs.Memory.{Mem}
-use Rattle.messages.specs.Messages.{readPollM, readListM}
+use Rattle.reads.specs.Reads.{readPollM, readListM}
 use Rattle.controller.specs.Controller.{Machine, hearM, pollM}
 use Rattle.refinement.specs.Step.{withMem, readM, workerM, stepM}
 use Rattle.treating.specs.Treat.{treatM}

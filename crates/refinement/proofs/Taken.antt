@@ -15,7 +15,7 @@ use Rattle.network.specs.Network.{Label, loaded}
 use Rattle.cells.proofs.Queue.{labels-same, queue, queue-taken, queue-none}
 use Rattle.cells.specs.Layout.{WORKERS, CURSORS, BOUNDS, LOG, WORK, OUT, WANTED, DOMAIN, COUNTERS, HEADS, HEAD, TAIL, LOGEND, SENDS, LISTS, HELD, POLLS, OUTEND, OUTREAD}
 use Rattle.cells.specs.Memory.{Mem}
-use Rattle.messages.specs.Messages.{letterEnd, takenM, readListM}
+use Rattle.reads.specs.Reads.{letterEnd, takenM, readListM}
 use Rattle.controller.specs.Controller.{Machine}
 use Rattle.cells.specs.View.{LISTED, labelsBetween, listAt, counterRow, viewCounter, viewWork, viewSend, viewLists, viewLetters, viewChannel, view}
 use Rattle.index.proofs.Kept.{row-heads}

@@ -8,7 +8,9 @@ use Rattle.disac4.specs.Turn.{Turn, treatNumber, sendNumber, answerNumber, poll
 use Rattle.disac4.specs.declared.Tally.{Tally}
 use Rattle.controller.specs.Controller.{Machine, pollM, hearM}
 use Rattle.cells.specs.Memory.{Mem}
-use Rattle.messages.specs.Messages.{sendM, readListM, readPollM, answerM}
+use Rattle.sends.specs.Sends.{sendM}
+use Rattle.reads.specs.Reads.{readListM, readPollM}
+use Rattle.answers.specs.Answers.{answerM}
 use Rattle.treating.specs.Treat.{treatM}
 
 abbrev pub withMem : Tally → Option Mem → Option Machine

@@ -34,7 +34,8 @@ use Rattle.disac4.specs.declared.Status.{Status}
 use Rattle.disac4.specs.declared.Status.the-variants.{Open, Closed, Bare}
 use Rattle.buffer.proofs.Decimal.{decimal-length}
 use Rattle.buffer.specs.Decimal.{spaced}
-use Rattle.text.specs.Printed.{statusWord, declinedWord, reportLine, listedCodes, slotLine, variableLine, variableLines, declineLine, printed}
+use Rattle.domains.specs.Lines.{listedCodes, domainLine, variableLine, variableLines}
+use Rattle.text.specs.Printed.{statusWord, declinedWord, reportLine, declineLine, printed}
 
 gather-length : (n c : ℕ) (f : ℕ → List ℕ) → ((i : ℕ) → i < n → length (f i) ≤ c) → length (gatherBelow n f) ≤ n * c
 gather-length zero c f h = omega (arith)
@@ -105,14 +106,14 @@ codes-length size code row h = gather-length size 6 _ (λ v k. one (bit row v) (
     one true c k = spaced-length 4 c (omega arith)
     one false c k = omega arith
 
-slot-length : (slot owner size row : ℕ) (code : ℕ → ℕ) → slot ≤ 32 → owner ≤ 8 → size ≤ 16 → ((v : ℕ) → v < size → code v < 65536)
-    → length (slotLine slot owner size code row) ≤ 102
-unfolding slotLine
-slot-length slot owner size row code a b d h =
+domain-length : (number owner size row : ℕ) (code : ℕ → ℕ) → number ≤ 32 → owner ≤ 8 → size ≤ 16 → ((v : ℕ) → v < size → code v < 65536)
+    → length (domainLine number owner size code row) ≤ 102
+unfolding domainLine
+domain-length number owner size row code a b d h =
     simp length-append
     (omega (
       arith,
-      decimal-length 1 slot (omega arith),
+      decimal-length 1 number (omega arith),
       spaced-length 0 owner (omega arith),
       codes-length size code row h,
     ))
@@ -151,7 +152,7 @@ module _ (b lists : List ℕ) where
           arith,
           fits .variables-high,
           gather-length (length (planOf b .variables)) 102 (variableLine (planOf b) lists)
-              (λ x h. slot-length (suc x) (variableOf (planOf b) x .owner) (sizeOf (planOf b) x) (getD lists x 0)
+              (λ x h. domain-length (suc x) (variableOf (planOf b) x .owner) (sizeOf (planOf b) x) (getD lists x 0)
               (λ v. valueOf (planOf b) x v .code) (omega (arith, fits .variables-high))
               (omega (arith, fits .workers-high, fits .each-variable x h .owner-high))
               (fits .each-variable x h .few-values) (code-small x h)),
@@ -161,7 +162,7 @@ module _ (b lists : List ℕ) where
     unfolding printed
     report-short r h = simp length-append (omega (arith, report-length r h, lines-length))
 
--- the lowest of some slots below n, or 0
+-- the lowest of some variables below n, or 0
 lowest-low : (n : ℕ) (t : ℕ → Bool) → Option·getD (firstBelow n (λ x. cond (t x) none (some (suc x)))) 0 ≤ n
 lowest-low zero t = omega arith
 lowest-low (suc n) t = go (firstBelow n (λ x. cond (t x) none (some (suc x)))) (t n) (lowest-low n t)

@@ -1,3 +1,2 @@
 pub mod Length
-pub mod Read
 pub mod Worked

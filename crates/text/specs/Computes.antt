@@ -2,10 +2,10 @@
 use Rattle.base.specs.Computes.{base-computes}
 use Rattle.plan.specs.Computes.{plan-computes}
 use Rattle.plan.specs.WellFormed.{sizeOf}
-use Rattle.buffer.specs.Decimal.{decimalIn, decimal}
-use Rattle.buffer.specs.Decimal.{spaced}
-use Rattle.text.specs.Printed.{statusWord, declinedWord, reportLine, listedCodes, slotLine, variableLine, variableLines, declineLine, printed}
+use Rattle.buffer.specs.Decimal.{decimalIn, decimal, spaced}
+use Rattle.domains.specs.Lines.{listedCodes, domainLine, variableLine, variableLines}
+use Rattle.text.specs.Printed.{statusWord, declinedWord, reportLine, declineLine, printed}
 
 unfoldable pub text-computes : Unit {0}
-unfolding decimalIn decimal statusWord declinedWord spaced reportLine listedCodes slotLine variableLine variableLines declineLine printed sizeOf base-computes plan-computes
+unfolding decimalIn decimal statusWord declinedWord spaced reportLine listedCodes domainLine variableLine variableLines declineLine printed sizeOf base-computes plan-computes
 text-computes = tt

@@ -4,7 +4,6 @@ ghost use Rattle.buffer.specs.Buffer.{Holds};
 ghost use Rattle.text.specs.Printed.{printed};
 
 mod lines;
-mod slots;
 
 // Puts the text of an answer at the buffer's start, as much of it as fits, and returns how many bytes that is.
 pub fn print_answer(answer: Answer, plan: &[u8], lists: &[u16], out: &mut [u8]) -> usize
@@ -13,7 +12,7 @@ pub fn print_answer(answer: Answer, plan: &[u8], lists: &[u16], out: &mut [u8]) 
     match answer {
         Answer::Reported(report) => {
             let place = lines::push_report(out, 0, report);
-            slots::push_slots(out, place, plan, lists)
+            domains::push_domains(out, place, plan, lists)
         }
         Answer::Declined(decline) => lines::push_decline(out, 0, decline),
     }

@@ -16,7 +16,7 @@ use Rattle.base.specs.Row.{bit, rowOf}
 use Rattle.disac4.proofs.Demands.{demand2, demand3, round-closes-plan}
 use Rattle.disac4.proofs.Outcome.{Untouched, Written, turnRun-declined, roundRun-declined, turnRun-reported, roundRun-reported}
 use Rattle.disac4.specs.Demands.{closedAfter, Demand2, Demand3, RoundCloses}
-use Rattle.disac4.specs.Outcome.{Outcome, refused, unlessFault, bufferFault, inputFault, systemAt, turnRun, roundRun}
+use Rattle.disac4.specs.Outcome.{Outcome, Gives, refused, unlessFault, bufferFault, inputFault, systemAt, turnRun, roundRun}
 use Rattle.disac4.specs.Report.{final, listCells, lowestEmpty, statusOf, reportOf}
 use Rattle.disac4.specs.Round.{roundRunTurns}
 use Rattle.disac4.specs.System.{systemOf}
@@ -36,7 +36,6 @@ use Rattle.plan.specs.Decode.{planFault, planOf, decode, decodedAs, accepted}
 use Rattle.format.specs.Format.{workerCount}
 use Rattle.plan.specs.declared.Decline.{Decline}
 use Rattle.plan.specs.declared.Fault.the-variants.{BadTurnList}
-use Rattle.tinshrew.specs.Calls.{Gives}
 use Rattle.tinshrew.specs.Conclusions.{listedIn, Concluded}
 
 -- ---- from a report to what was checked

@@ -1,19 +1,17 @@
 -- From an answer to its numbers, and back.
-use Prim.Native.Nat.{ℕ, _≤_}
+use Prim.Native.Nat.{ℕ}
 use mathlib.Core.List.{List}
 use mathlib.Core.Path.{_≡_, refl, sym, _∙_, ap}
 use native.Mathlib.Omega.{arith}
 use lib.ListN.{getD}
-use Rattle.disac4.specs.Outcome.{Outcome}
+use Rattle.disac4.specs.Outcome.{Outcome, Gives}
 use Rattle.disac4.specs.declared.Answer.{Answer}
 use Rattle.disac4.specs.declared.Answer.the-variants.{Reported, Declined}
 use Rattle.disac4.specs.declared.Report.{Report}
-use Rattle.plan.specs.Fault.{numberOf}
 use Rattle.plan.specs.declared.Decline.{Decline}
-use Rattle.plan.specs.declared.Fault.{Fault}
-use Rattle.plan.specs.declared.Fault.the-variants.{Truncated, BadVersion, BadLength, BadCount, BadNumber, RepeatedCode, BadConstraint, TrailingBytes, ShortWork, ShortLists, BadTurnList, BadTurn}
-use Rattle.tinshrew.specs.Calls.{Gives}
-use Rattle.tinshrew.specs.Numbers.{answerNumbers, GivesNumbers}
+use Rattle.numbers.proofs.Numbers.{some-number}
+use Rattle.numbers.specs.Numbers.{answerNumbers}
+use Rattle.tinshrew.specs.Numbers.{GivesNumbers}
 
 -- what a call gives, with its answer written as numbers
 pub as-numbers : (o : Outcome) (r : Answer) (out work lists : List ℕ) → out ≡ answerNumbers r → Gives o r work lists
@@ -23,21 +21,6 @@ as-numbers o r out work lists e g = record {
   work-cells = g .work-cells;
   list-cells = g .list-cells;
 }
-
--- no decline has the number 0
-some-number : (f : Fault) → 1 ≤ numberOf f
-some-number Truncated = omega arith
-some-number BadVersion = omega arith
-some-number BadLength = omega arith
-some-number BadCount = omega arith
-some-number BadNumber = omega arith
-some-number RepeatedCode = omega arith
-some-number BadConstraint = omega arith
-some-number TrailingBytes = omega arith
-some-number ShortWork = omega arith
-some-number ShortLists = omega arith
-some-number BadTurnList = omega arith
-some-number BadTurn = omega arith
 
 module _ (o : Outcome) (out work lists : List ℕ) (g : GivesNumbers o out work lists) where
   -- what the call gave, once its answer is known

@@ -1,73 +1,32 @@
--- From what the engine does to the outcome that the definitions lay down.
-use Prim.Native.Nat.{ℕ, _^_, _<_, _≤_}
+-- From the tests and the turns that were played to the outcome that the definitions lay down.
+use Prim.Native.Nat.{ℕ, _<_, _≤_}
 use mathlib.Core.Bool.{Bool, true, false}
 use mathlib.Core.List.{List, [], _∷_}
 use mathlib.Core.Option.{Option, none, some}
-use mathlib.Core.Path.{_≡_, refl, sym, _∙_, ap}
+use mathlib.Core.Path.{_≡_, refl, ap}
 use native.Mathlib.Omega.{arith}
 use borrow.Author.Tests.{lt-ltb, le-ltb, leb-true}
 use lib.Dec.{leb}
 use lib.ListN.{length}
 use Rattle.base.specs.Choice.{firstOf}
 use Rattle.disac4.proofs.Order.{then-plan}
-use Rattle.disac4.specs.Outcome.{Outcome, played, refused, unlessFault, bufferFault, inputFault, workNeed, listNeed, systemAt, turnRun, roundRun}
+use Rattle.disac4.specs.Outcome.{Outcome, Gives, played, refused, unlessFault, bufferChecks, bufferFault, inputFault, workNeed, listNeed, systemAt, turnRun, roundRun}
 use Rattle.disac4.specs.Round.{roundRunTurns}
-use Rattle.disac4.specs.Turn.{Turn, turnsOf, turnListFits, turnFault}
+use Rattle.disac4.specs.Turn.{turnsOf, turnListFits, turnFault}
 use Rattle.disac4.specs.declared.Answer.{Answer}
 use Rattle.disac4.specs.declared.Answer.the-variants.{Reported, Declined}
 use Rattle.disac4.specs.declared.Report.{Report}
-use Rattle.disac4.specs.declared.Tally.{Tally}
-use Rattle.engine.proofs.Finishing.{work-of-turns}
-use Rattle.cells.specs.Memory.{Mem, memOf}
-use Rattle.rounds.specs.Rounds.{Begun, PlaysRounds}
 use Rattle.turns.specs.Bad.{badTurn}
-use Rattle.refinement.specs.Run.{startM, playM, countM, At, Going, Plays, Finishes}
-use Rattle.controller.specs.Controller.{machine}
-use Rattle.refinement.specs.declared.Progress.{Progress}
-use Rattle.plan.specs.Check.{_orElse_, firstFault, faultAt}
+use Rattle.parser.proofs.Scanned.{verdict-passes, verdict-fails}
+use Rattle.plan.specs.Check.{_orElse_, firstFault, faultAt, verdictOf}
 use Rattle.plan.specs.Decode.{planFault}
 use Rattle.plan.specs.Fault.{decline}
 use Rattle.format.specs.Format.{workerCount}
 use Rattle.plan.specs.declared.Decline.{Decline}
+use Rattle.plan.specs.declared.Fault.{Fault}
 use Rattle.plan.specs.declared.Fault.the-variants.{ShortWork, ShortLists, BadTurn}
 use Rattle.plan.specs.declared.Verdict.{Verdict}
-use Rattle.tinshrew.specs.Calls.{Gives, Ran, faultOf}
-
--- a loaded plan has played no turns
-pub begins : (b : List ℕ) (m : Mem) (cells : List ℕ) (t : Tally) → machine cells t ≡ startM b m
-    → At b m [] cells (record { tally = t; changes = 0; sends = 0; polls = 0 })
-unfolding playM countM
-begins b m cells t e = record { stands = e; changes = refl; sends = refl; polls = refl }
-
--- a run that has played its turns and ends
-pub ends : (b : List ℕ) → planFault b ≡ none → (work cells lists work′ lists′ : List ℕ) (ts : List Turn) (g : Progress) (r : Report)
-    → At b (memOf work) ts cells g → length cells ≡ length work → length cells < 2 ^ 64
-    → Finishes b cells lists g work′ lists′ r → Ran b ts work lists work′ lists′ r
-ends b sound work cells lists work′ lists′ ts g r at same few f = record {
-  report = f .reported (memOf work) ts at;
-  work-cells = f .cleared ∙ work-of-turns b sound work ts cells g at same few;
-  list-cells = f .listed (memOf work) ts at;
-}
-
--- a loaded plan, and any run on one, is what the engine asks
-pub loaded : (b : List ℕ) (m : Mem) (cells : List ℕ) (g : Progress) → planFault b ≡ none → 24576 ≤ length cells → At b m [] cells g
-    → Begun b cells g
-loaded b m cells g sound long at = record { sound = sound; long = long; before = m; at = at }
-
-pub goes : (b : List ℕ) (m : Mem) (ts : List Turn) (cells : List ℕ) (g : Progress) → planFault b ≡ none → 24576 ≤ length cells
-    → At b m ts cells g → Going b cells g
-goes b m ts cells g sound long at = record { sound = sound; long = long; before = m; turns = ts; at = at }
-
--- where turns played from a loaded plan have come
-pub turns-from : (b : List ℕ) (m : Mem) (us : List Turn) (cells cells′ : List ℕ) (g g′ : Progress) → Plays b us cells g cells′ g′
-    → At b m [] cells g → At b m us cells′ g′
-unfolding Plays
-turns-from b m us cells cells′ g g′ plays at = plays m [] at
-
-pub rounds-from : (b : List ℕ) (m : Mem) (cells cells′ : List ℕ) (g g′ : Progress) → PlaysRounds b cells g cells′ g′
-    → At b m [] cells g → At b m (roundRunTurns (systemAt b)) cells′ g′
-unfolding PlaysRounds
-rounds-from b m cells cells′ g g′ plays at = plays m at
+use Rattle.plan.specs.declared.Verdict.the-variants.{Passes, Fails}
 
 -- a call that declines changes no lent cell
 pub gives-refused : (run : Outcome) (work lists : List ℕ) (o : Option Decline) (d : Decline) (r : Answer) → r ≡ Declined d
@@ -75,24 +34,27 @@ pub gives-refused : (run : Outcome) (work lists : List ℕ) (o : Option Decline)
 unfolding refused
 gives-refused run work lists o d r is e = rw e (record { answer = is; work-cells = refl; list-cells = refl })
 
--- a call that nothing stops gives what the turns give
-pub gives-played : (b : List ℕ) (ts : List Turn) (work lists work′ lists′ : List ℕ) (o : Option Decline) (r : Report) → o ≡ none
-    → Ran b ts work lists work′ lists′ r
-    → Gives (unlessFault (played work lists (systemAt b) ts) (refused work lists) o) (Reported r) work′ lists′
-unfolding played
-gives-played b ts work lists work′ lists′ o r e ran =
-    rw e (record { answer = ap Reported (ran .report); work-cells = ran .work-cells; list-cells = ran .list-cells })
+-- a call that nothing stops gives what its turns give
+pub gives-played : (run : Outcome) (work lists work′ lists′ : List ℕ) (o : Option Decline) (r : Answer) → o ≡ none
+    → Gives run r work′ lists′ → Gives (unlessFault run (refused work lists) o) r work′ lists′
+gives-played run work lists work′ lists′ o r e g = rw e g
 
 -- ---- the buffers
 
 -- what a verdict on them stands for
-pub verdict-tells : (o : Option Decline) (v w : Verdict) → faultOf v ≡ o → v ≡ w → o ≡ faultOf w
-verdict-tells o v w e is = sym e ∙ ap faultOf is
+module _ (work lists : List ℕ) (v : Verdict) (e : v ≡ verdictOf (firstFault (bufferChecks work lists))) where
+  pub buffers-pass : v ≡ Passes → bufferFault work lists ≡ none
+  unfolding bufferFault
+  buffers-pass is = ap (faultAt 0) (verdict-passes (firstFault (bufferChecks work lists)) v e is)
+
+  pub buffers-fail : (f : Fault) → v ≡ Fails f → bufferFault work lists ≡ some (decline f 0)
+  unfolding bufferFault
+  buffers-fail f is = ap (faultAt 0) (verdict-fails (firstFault (bufferChecks work lists)) v f e is)
 
 -- buffers that pass are long enough
 pub long-enough : (work lists : List ℕ) → bufferFault work lists ≡ none
     → (workNeed ≤ length work) × (listNeed ≤ length lists)
-unfolding bufferFault
+unfolding bufferFault bufferChecks
 long-enough work lists e =
     let h = both (leb workNeed (length work)) (leb listNeed (length lists)) e in
     (leb-true workNeed (length work) (h .0), leb-true listNeed (length lists) (h .1))
@@ -116,10 +78,10 @@ pub then-inputs : (b ts work lists : List ℕ) (o : Option Decline) → bufferFa
 then-inputs b ts work lists o fit list e = rw (fit, then-plan b ts list) e
 
 pub turns-played : (b ts work lists work′ lists′ : List ℕ) (r : Report)
-    → firstOf (bufferFault work lists) (inputFault b ts) ≡ none → Ran b (turnsOf ts) work lists work′ lists′ r
+    → firstOf (bufferFault work lists) (inputFault b ts) ≡ none → Gives (played work lists (systemAt b) (turnsOf ts)) (Reported r) work′ lists′
     → Gives (turnRun b ts work lists) (Reported r) work′ lists′
 unfolding turnRun
-turns-played b ts work lists work′ lists′ r e ran = gives-played b (turnsOf ts) work lists work′ lists′ _ r e ran
+turns-played b ts work lists work′ lists′ r e ran = gives-played _ work lists work′ lists′ _ _ e ran
 
 -- what the first turn that is not allowed tells
 pub bad-turn : (n k : ℕ) → k < n → badTurn n k ≡ some (decline BadTurn k)
@@ -138,7 +100,8 @@ unfolding roundRun
 rounds-refused b work lists d r is e = gives-refused _ work lists _ d r is e
 
 pub rounds-played : (b work lists work′ lists′ : List ℕ) (r : Report) → firstOf (bufferFault work lists) (planFault b) ≡ none
-    → Ran b (roundRunTurns (systemAt b)) work lists work′ lists′ r → Gives (roundRun b work lists) (Reported r) work′ lists′
+    → Gives (played work lists (systemAt b) (roundRunTurns (systemAt b))) (Reported r) work′ lists′
+    → Gives (roundRun b work lists) (Reported r) work′ lists′
 unfolding roundRun
 rounds-played b work lists work′ lists′ r e ran =
-    gives-played b (roundRunTurns (systemAt b)) work lists work′ lists′ _ r e ran
+    gives-played _ work lists work′ lists′ _ _ e ran

@@ -1,36 +1,9 @@
--- The answers as numbers: what the C functions write into `out`.
+-- What a call for C leaves its caller: numbers in `out`, and both lent buffers.
 use Prim.Native.Nat.{ℕ}
-use mathlib.Core.List.{List, [], _∷_}
+use mathlib.Core.List.{List}
 use mathlib.Core.Path.{_≡_}
-use lib.ListN.{replicate}
 use Rattle.disac4.specs.Outcome.{Outcome}
-use Rattle.disac4.specs.declared.Answer.{Answer}
-use Rattle.disac4.specs.declared.Answer.the-variants.{Reported, Declined}
-use Rattle.disac4.specs.declared.Status.{Status}
-use Rattle.disac4.specs.declared.Status.the-variants.{Open, Closed, Bare}
-use Rattle.plan.specs.Fault.{numberOf}
-use Rattle.plan.specs.declared.Checked as checked
-use Rattle.plan.specs.declared.Checked.{Checked}
-use Rattle.plan.specs.declared.Decline.{Decline}
-
-abbrev pub statusNumber : Status → ℕ
-statusNumber Open = 0
-statusNumber Closed = 1
-statusNumber Bare = 2
-
--- a decline's number and place, and then so many zeros
-abbrev pub declineNumbers : ℕ → Decline → List ℕ
-declineNumbers zeros d = numberOf (d .fault) ∷ d .place ∷ replicate zeros 0
-
--- 0, p, n, the number of rules and L; or a decline
-unfoldable pub checkedNumbers : Checked → List ℕ
-checkedNumbers (checked.the-variants.Accepted f) = 0 ∷ f .workers ∷ f .variables ∷ f .constraints ∷ f .labels ∷ []
-checkedNumbers (checked.the-variants.Declined d) = declineNumbers 3 d
-
--- 0 and the report in its order; or a decline
-unfoldable pub answerNumbers : Answer → List ℕ
-answerNumbers (Reported r) = 0 ∷ statusNumber (r .status) ∷ r .changes ∷ r .sends ∷ r .polls ∷ r .empty ∷ []
-answerNumbers (Declined d) = declineNumbers 4 d
+use Rattle.numbers.specs.Numbers.{answerNumbers}
 
 -- `Gives`, with the answer as its numbers
 pub record GivesNumbers (o : Outcome) (out work lists : List ℕ) : Type 0 where

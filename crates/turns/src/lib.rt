@@ -1,14 +1,22 @@
-// Which turns are allowed, and the first turn of a list that is not.
+// Turn lists: whether a list is of a length that is taken, which turns are allowed, and the first turn that is not.
 use base::between;
 use base::byte_at;
 ghost use mathlib.Core.Bool.{_&&_, _||_, not};
 ghost use mathlib.Core.Path.{_≡_};
 ghost use lib.Dec.{leb, eqb};
 ghost use Rattle.base.specs.Choice.{between as betweenOf};
-ghost use Rattle.disac4.specs.Turn.{allowed as allowedOf, turn, turnFault};
+ghost use Rattle.disac4.specs.Turn.{allowed as allowedOf, turn, turnFault, turnListFits};
 ghost use Prim.Native.Nat.{_/_, _≤_};
 ghost use lib.ListN.{length};
 ghost use Rattle.turns.specs.Bad.{badTurn};
+
+// Whether the turn list is of even length and not too long.
+pub fn list_fits(turns: &[u8]) -> bool
+    ensures { λ r. ⌜ r ≡ turnListFits (now (turns .entry)) ⌝ }
+{
+    let n = turns.len();
+    n % 2 == 0 && n <= 65536
+}
 
 // A worker reads from another actor.
 fn reads_other(p: usize, actor: usize, action: usize) -> bool

@@ -12,8 +12,8 @@ enum-known-answer c = search needs
 push-report-requires : tie.Need-push-report-requires
 push-report-requires c κs = search needs
 
-push-slots-requires : tie.Need-push-slots-requires
-push-slots-requires c κs = search needs
+push-domains-requires : tie.Need-push-domains-requires
+push-domains-requires c κs = search needs
 
 enum-known-answer-2 : tie.Need-enum-known-answer-2
 enum-known-answer-2 c = search needs
@@ -27,12 +27,12 @@ same-length c = search needs
 returns : tie.Need-returns
 unfolding printed
 returns c =
-    let at-slots = c .before .before in
-    let at-report = at-slots .before .before .before .before in
+    let at-domains = c .before .before in
+    let at-report = at-domains .before .before .before .before in
     let known = at-report .before .before .before in
     let start = known .before .before .before .before .before in
     rw (known .answer .given .1)
-    (holds-added (now (start .args .out)) (at-report .push-report .ensures then at-slots .push-slots .ensures))
+    (holds-added (now (start .args .out)) (at-report .push-report .ensures then at-domains .push-domains .ensures))
 
 same-length-2 : tie.Need-same-length-2
 same-length-2 c = search needs
@@ -51,7 +51,7 @@ print-answer-spec =
     (tie.spec
     enum-known-answer
     push-report-requires
-    push-slots-requires
+    push-domains-requires
     enum-known-answer-2
     push-decline-requires
     same-length

@@ -5,7 +5,7 @@ use mathlib.Core.Path.{_≡_, refl, sym, _∙_}
 use Rattle.disac4.specs.Outcome.{bufferFault, workNeed, listNeed}
 use Rattle.plan.specs.Decode.{planFault}
 use Rattle.tinshrew.proofs.Checked.{no-fault, its-fault, its-workers}
-use Rattle.tinshrew.proofs.Outcomes.{verdict-tells, long-enough, rounds-refused, rounds-played}
+use Rattle.tinshrew.proofs.Outcomes.{buffers-pass, buffers-fail, long-enough, rounds-refused, rounds-played}
 use borrow.Author.Needs.{needs}
 use Rattle.tinshrew.proofs.run_round.Statement.{statement}
 use Rattle.tinshrew.proofs.run_round.Tie as tie
@@ -18,7 +18,7 @@ start k = k .before .before .before .before .before .before
 
 -- the buffers pass
 fits : (e : tie.After-enum-told) → let a = start (e .before .before) .args in bufferFault (now (a .work)) (now (a .lists)) ≡ none
-fits e = verdict-tells _ _ _ (e .before .before .check-buffers .ensures) (e .enum-told .given .1)
+fits e = buffers-pass _ _ _ (e .before .before .check-buffers .ensures) (e .enum-told .given .1)
 
 -- the plan is accepted
 abbrev checked : tie.After-f → tie.After-enum-told
@@ -49,7 +49,7 @@ returns c =
     let v = c .before .before in
     let k = v .before .before in
     rounds-refused _ _ _ _ _ (c .declined .ensures)
-    (rw (verdict-tells _ _ _ (k .check-buffers .ensures) (v .verdict .given .1)))
+    (rw (buffers-fail _ _ _ (k .check-buffers .ensures) _ (v .verdict .given .1)))
 
 enum-told : tie.Need-enum-told
 enum-told c = search needs

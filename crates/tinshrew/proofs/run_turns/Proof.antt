@@ -15,7 +15,7 @@ use Rattle.plan.specs.Decode.{planFault}
 use Rattle.format.specs.Format.{workerCount}
 use Rattle.plan.specs.declared.Decline.{Decline}
 use Rattle.tinshrew.proofs.Checked.{no-fault, its-fault, its-workers}
-use Rattle.tinshrew.proofs.Outcomes.{verdict-tells, long-enough, turns-refused, then-inputs, turns-played, bad-turn, no-bad-turn}
+use Rattle.tinshrew.proofs.Outcomes.{buffers-pass, buffers-fail, long-enough, turns-refused, then-inputs, turns-played, bad-turn, no-bad-turn}
 use borrow.Author.Needs.{needs}
 use Rattle.tinshrew.proofs.run_turns.Statement.{statement}
 use Rattle.tinshrew.proofs.run_turns.Tie as tie
@@ -28,7 +28,7 @@ start k = k .before .before .before .before .before .before .before
 
 -- the buffers pass
 fits : (e : tie.After-enum-told) → let a = start (e .before .before) .args in bufferFault (now (a .work)) (now (a .lists)) ≡ none
-fits e = verdict-tells _ _ _ (e .before .before .check-buffers .ensures) (e .enum-told .given .1)
+fits e = buffers-pass _ _ _ (e .before .before .check-buffers .ensures) (e .enum-told .given .1)
 
 list-fits : (e : tie.Else1) → turnListFits (now (start (e .before .before .before .before) .args .turns)) ≡ true
 list-fits e = holds (e .before .list-fits .ensures) (e .if1 .left)
@@ -77,7 +77,7 @@ returns c =
     let v = c .before .before in
     let k = v .before .before in
     turns-refused _ _ _ _ _ _ (c .declined .ensures)
-    (rw (verdict-tells _ _ _ (k .check-buffers .ensures) (v .verdict .given .1)))
+    (rw (buffers-fail _ _ _ (k .check-buffers .ensures) _ (v .verdict .given .1)))
 
 enum-told : tie.Need-enum-told
 enum-told c = search needs

@@ -1,6 +1,4 @@
 -- `turns::worker_may` is the test of a worker's actions. Assumes nothing.
-use mathlib.Core.Path.{sym, _∙_}
-use Rattle.base.proofs.Bools.{or-left}
 use borrow.Author.Needs.{needs}
 use Rattle.turns.proofs.worker_may.Statement.{statement}
 use Rattle.turns.proofs.worker_may.Tie as tie

@@ -1,6 +1,6 @@
 -- `tinshrew::c::tinshrew_check_plan` writes the numbers of the plan check. Assumes nothing.
 use mathlib.Core.Path.{_∙_, ap}
-use Rattle.tinshrew.specs.Numbers.{checkedNumbers}
+use Rattle.numbers.specs.Numbers.{checkedNumbers}
 use borrow.Author.Needs.{needs}
 use Rattle.tinshrew.proofs.c.tinshrew_check_plan.Statement.{statement}
 use Rattle.tinshrew.proofs.c.tinshrew_check_plan.Tie as tie

@@ -1,0 +1,85 @@
+-- Laws by which the code of answer meets its definitions: what each store, read and test makes of them.
+use Prim.Native.Nat.{ℕ, _+_, _<_, _≤_}
+use mathlib.Core.Bool.{Bool, true, false, not}
+use mathlib.Core.Option.{none, some}
+use mathlib.Core.Path.{_≡_}
+use borrow.Author.Tests.{lt-ltb, le-ltb, eq-eqb, ne-eqb, not-true, not-false}
+use lib.Dec.{eqb}
+use Rattle.cells.specs.Layout.{WORKERS, BOUNDS, OUT, WANTED, HEAD, TAIL, LOGEND, SENDS, LISTS, HELD, OUTEND}
+use Rattle.cells.specs.Memory.{Mem, store}
+use Rattle.answers.specs.Answers.{answerM, answeredM, answeredWith, emptyM}
+
+module _ (m m₁ m₂ m₃ : Mem) where
+  pub answered : (i held outs : ℕ) → m₁ ≡ store m OUT i outs held → m₂ ≡ store m₁ WORKERS i OUTEND (outs + 1)
+      → m₃ ≡ store m₂ WORKERS i HELD 0 → m₃ ≡ answeredWith i held outs m
+  unfolding answeredWith
+  answered i held outs p₁ p₂ p₃ = rw (p₃, p₂, p₁)
+
+module _ (i : ℕ) (m : Mem) {head tail : ℕ} (q₁ : head ≡ m WORKERS i HEAD) (q₂ : tail ≡ m WORKERS i TAIL) where
+  pub not-treated : (head ≡ tail → ⊥) → false ≡ emptyM i m
+  unfolding emptyM
+  not-treated h = rw (← q₁, ← q₂, ne-eqb head tail h)
+
+  module _ (h₁ : head ≡ tail) {sends : ℕ} (q₃ : sends ≡ m WORKERS i SENDS) where
+    pub not-within : 519 ≤ sends → false ≡ emptyM i m
+    unfolding emptyM
+    not-within h = rw (← q₁, ← q₂, eq-eqb head tail h₁, ← q₃, le-ltb sends 519 h)
+
+    pub empty-by : {start end : ℕ} → sends < 519 → start ≡ m BOUNDS i sends → end ≡ m WORKERS i LOGEND
+        → eqb start end ≡ emptyM i m
+    unfolding emptyM
+    empty-by h q₄ q₅ = rw (← q₁, ← q₂, eq-eqb head tail h₁, ← q₃, lt-ltb sends 519 h, ← q₄, ← q₅)
+
+module _ (i : ℕ) (m : Mem) {held : ℕ} (q₁ : held ≡ m WORKERS i HELD) where
+  pub answer-none : held ≡ 0 → answerM i m ≡ none
+  unfolding answerM
+  answer-none h = rw (← q₁, eq-eqb held 0 h)
+
+  module _ (h₁ : held ≡ 0 → ⊥) where
+    pub answer-past : 520 ≤ held → answerM i m ≡ none
+    unfolding answerM
+    answer-past h = rw (← q₁, ne-eqb held 0 h₁, le-ltb held 520 h)
+
+    module _ (h₂ : held < 520) {t : Bool} (q₂ : t ≡ emptyM i m) where
+      pub answer-busy : not t ≡ true → answerM i m ≡ none
+      unfolding answerM
+      answer-busy h = rw (← q₁, ne-eqb held 0 h₁, lt-ltb held 520 h₂, ← q₂, not-true t h)
+
+      module _ (h₃ : not t ≡ false) {lists wanted : ℕ} (q₃ : lists ≡ m WORKERS i LISTS) (q₄ : wanted ≡ m WANTED 0 held) where
+        pub answer-unequal : (lists ≡ wanted → ⊥) → answerM i m ≡ none
+        unfolding answerM
+        answer-unequal h =
+            rw (← q₁, ne-eqb held 0 h₁, lt-ltb held 520 h₂, ← q₂, not-false t h₃, ← q₃, ← q₄, ne-eqb lists wanted h)
+
+        module _ (h₄ : lists ≡ wanted) {outs : ℕ} (q₅ : outs ≡ m WORKERS i OUTEND) where
+          pub answer-crowded : 520 ≤ outs → answerM i m ≡ none
+          unfolding answerM
+          answer-crowded h =
+              rw (
+                ← q₁,
+                ne-eqb held 0 h₁,
+                lt-ltb held 520 h₂,
+                ← q₂,
+                not-false t h₃,
+                ← q₃,
+                ← q₄,
+                eq-eqb lists wanted h₄,
+                ← q₅,
+                le-ltb outs 520 h,
+              )
+
+          pub answer-goes : outs < 520 → answerM i m ≡ some (answeredWith i held outs m)
+          unfolding answerM answeredM
+          answer-goes h =
+              rw (
+                ← q₁,
+                ne-eqb held 0 h₁,
+                lt-ltb held 520 h₂,
+                ← q₂,
+                not-false t h₃,
+                ← q₃,
+                ← q₄,
+                eq-eqb lists wanted h₄,
+                ← q₅,
+                lt-ltb outs 520 h,
+              )

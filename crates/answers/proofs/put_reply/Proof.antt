@@ -1,0 +1,36 @@
+-- `answers::put_reply` puts a reply. Assumes nothing.
+use mathlib.Core.Path.{refl}
+use native.Mathlib.Omega.{arith}
+use borrow.Author.Needs.{needs}
+use Rattle.answers.proofs.AnswerLaws.{answered}
+use Rattle.cells.proofs.Ranges.{may-put}
+use Rattle.answers.proofs.put_reply.Statement.{statement}
+use Rattle.answers.proofs.put_reply.Tie as tie
+
+put-requires : tie.Need-put-requires
+put-requires c κs = may-put _ _ _ refl _ _ (omega arith)
+
+add-put : tie.Need-add-put
+add-put c = search needs
+
+put-requires-2 : tie.Need-put-requires-2
+put-requires-2 c κs = may-put _ _ _ refl _ _ (omega arith)
+
+put-requires-3 : tie.Need-put-requires-3
+put-requires-3 c κs = may-put _ _ _ refl _ _ (omega arith)
+
+same-length : tie.Need-same-length
+same-length c = search needs
+
+returns : tie.Need-returns
+returns c =
+    let at-put3 = c .before .before in
+    let at-put2 = at-put3 .before .before .before .before in
+    let at-put = at-put2 .before .before .before .before in
+    let start = at-put .before .before .before in
+    answered _ _ _ _ (start .args .i) (start .args .held) (start .args .outs) (at-put .put .ensures)
+    (at-put2 .put2 .ensures) (at-put3 .put3 .ensures)
+
+pub put-reply-spec : {M : Type 1} → statement M
+put-reply-spec =
+    tie.close (tie.spec put-requires add-put put-requires-2 put-requires-3 same-length returns)

@@ -1,0 +1,119 @@
+-- `domains::push_domains` puts the lines of all variables. The loop's invariant: those of the variables passed are put, and `section` is
+-- the place of the next one's section. The measure is what is left. Assumes nothing.
+use Prim.Native.Nat.{suc, _+_, _-_, _*_, _≤_}
+use mathlib.Core.Path.{_≡_, refl}
+use native.Mathlib.Numerals.{add-one}
+use native.Mathlib.Omega.{arith}
+use borrow.Author.Needs.{needs}
+use denote.Ref.{now}
+use lib.ListN.{length}
+use Rattle.base.specs.Below.{gatherBelow}
+use Rattle.plan.specs.Decode.{planOf}
+use Rattle.format.specs.Format.{sectionStart}
+use Rattle.buffer.proofs.Puts.{adds-none, then-more}
+use Rattle.domains.proofs.Read.{line-read, start-first, start-more, lines-all}
+use Rattle.buffer.specs.Buffer.{Adds}
+use Rattle.domains.specs.Lines.{variableLine}
+use Rattle.domains.proofs.push_domains.Statement.{statement}
+use Rattle.domains.proofs.push_domains.Tie as tie
+
+abbrev Inv-loop : tie.InvT-loop
+Inv-loop out₀ at plan lists count place₀ section₀ x₀ out place section x =
+    (x ≤ count)
+    × (length out ≡ length out₀)
+    × (section ≡ sectionStart plan (suc x))
+    × (section ≤ 65538 + x * 65537)
+    × Adds (gatherBelow x (variableLine (planOf plan) lists)) out₀ at out place
+
+abbrev μ-loop : tie.MeasureT-loop
+μ-loop out₀ at plan lists count place₀ section₀ x₀ out place section x = count - x
+
+variable-count-requires : tie.Need-variable-count-requires Inv-loop μ-loop
+variable-count-requires c κs = search needs
+
+word-at-requires : tie.Need-word-at-requires Inv-loop μ-loop
+word-at-requires c κs = search needs
+
+add-section : tie.Need-add-section Inv-loop μ-loop
+add-section c = omega arith
+
+loop-holds : tie.Need-loop-holds Inv-loop μ-loop
+loop-holds c =
+    let plan = now (c .before .before .before .before .before .args .plan) in
+    (omega arith, refl, start-first plan (c .word-at .result) (c .word-at .ensures .0), omega arith, adds-none)
+
+add-push-domain : tie.Need-add-push-domain Inv-loop μ-loop
+add-push-domain c = omega arith
+
+cell-at-requires : tie.Need-cell-at-requires Inv-loop μ-loop
+cell-at-requires c κs = search needs
+
+push-domain-requires : tie.Need-push-domain-requires Inv-loop μ-loop
+push-domain-requires c κs = omega arith
+
+add-section-2 : tie.Need-add-section-2 Inv-loop μ-loop
+add-section-2 c = omega arith
+
+word-at-requires-2 : tie.Need-word-at-requires-2 Inv-loop μ-loop
+word-at-requires-2 c κs = search needs
+
+add-section-3 : tie.Need-add-section-3 Inv-loop μ-loop
+add-section-3 c = omega arith
+
+add-x : tie.Need-add-x Inv-loop μ-loop
+add-x c = omega arith
+
+loop-less : tie.Need-loop-less Inv-loop μ-loop
+loop-less c = omega arith
+
+loop-again : tie.Need-loop-again Inv-loop μ-loop
+loop-again c =
+    let at-push = c .before .before .before in
+    let at-cell = at-push .before in
+    let l = at-cell .before .before .before in
+    let start = l .before .before .before .before .before .before in
+    let plan = now (start .args .plan) in
+    let lists = now (start .args .lists) in
+    let x = l .loop .x in (
+      omega arith,
+      omega arith,
+      start-more plan (l .loop .section) (c .word-at2 .result) x (l .loop .inv .2) (c .word-at2 .ensures .0),
+      omega arith,
+      then-more x (variableLine (planOf plan) lists) (l .loop .inv .4)
+          (line-read plan lists x (l .loop .section) (x + 1) (at-cell .cell-at .result)
+          (omega (arith, l .before .before .variable-count .ensures .0)) (l .loop .inv .2) (add-one x) (at-cell .cell-at .ensures))
+          (at-push .push-domain .ensures),
+    )
+
+same-length : tie.Need-same-length Inv-loop μ-loop
+same-length c = omega arith
+
+returns : tie.Need-returns Inv-loop μ-loop
+returns c =
+    let l = c .before in
+    let start = l .before .before .before .before .before .before in
+    let plan = now (start .args .plan) in
+    rw (lines-all plan (now (start .args .lists)) (l .loop .x) (omega (arith, l .before .before .variable-count .ensures .0)))
+    at (l .loop .inv .4)
+
+pub push-domains-spec : {M : Type 1} → statement M
+push-domains-spec =
+    tie.close
+    (tie.spec
+    Inv-loop
+    μ-loop
+    variable-count-requires
+    word-at-requires
+    add-section
+    loop-holds
+    add-push-domain
+    cell-at-requires
+    push-domain-requires
+    add-section-2
+    word-at-requires-2
+    add-section-3
+    add-x
+    loop-less
+    loop-again
+    same-length
+    returns)

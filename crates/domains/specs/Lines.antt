@@ -1,0 +1,33 @@
+-- The lines of the variables' domains, as ASCII bytes.
+use Prim.Native.Nat.{ℕ, suc}
+use mathlib.Core.Bool.{cond}
+use mathlib.Core.List.{List, [], _∷_, _++_}
+use lib.ListN.{length, getD}
+use Rattle.base.specs.Below.{gatherBelow}
+use Rattle.base.specs.Row.{bit}
+use Rattle.plan.specs.Plan.{Plan, variableOf, valueOf}
+use Rattle.plan.specs.WellFormed.{sizeOf}
+use Rattle.buffer.specs.Decimal.{decimal, spaced}
+
+abbrev pub newline : List ℕ
+newline = 10 ∷ []
+
+abbrev pub colon : List ℕ
+colon = 58 ∷ []
+
+-- each listed code after a space; the row has a bit for each listed value
+unfoldable pub listedCodes : ℕ → (ℕ → ℕ) → ℕ → List ℕ
+listedCodes size code row = gatherBelow size (λ v. cond (bit row v) (spaced (code v)) [])
+
+-- the variable's number, its worker, a colon, the listed codes
+unfoldable pub domainLine : ℕ → ℕ → ℕ → (ℕ → ℕ) → ℕ → List ℕ
+domainLine number owner size code row = decimal number ++ spaced owner ++ colon ++ listedCodes size code row ++ newline
+
+-- the line of variable `x`, whose domain is the row in cell `x`
+unfoldable pub variableLine : Plan → List ℕ → ℕ → List ℕ
+variableLine plan lists x =
+    domainLine (suc x) (variableOf plan x .owner) (sizeOf plan x) (λ v. valueOf plan x v .code) (getD lists x 0)
+
+-- a line for each variable, ascending
+unfoldable pub variableLines : Plan → List ℕ → List ℕ
+variableLines plan lists = gatherBelow (length (plan .variables)) (variableLine plan lists)

@@ -1,0 +1,45 @@
+-- The reads of a worker in memory: the memory after, or nothing where the read is idle. A test against a region's size stands for room
+-- that the refinement shows is never lacking.
+use Prim.Native.Nat.{ℕ, _+_, _-_}
+use mathlib.Core.Bool.{cond}
+use mathlib.Core.Option.{Option, none, some}
+use lib.Dec.{leb, ltb}
+use Rattle.cells.specs.Layout.{WORKERS, CURSORS, BOUNDS, SENDS, LISTS, HELD, POLLS}
+use Rattle.cells.specs.Lists.{copyM}
+use Rattle.cells.specs.Memory.{Mem, store}
+
+-- ---- row `i` reads from row `j`
+
+-- where the next list message of row `j` for row `i` begins and ends in the log
+abbrev pub letterStart : ℕ → ℕ → Mem → ℕ
+letterStart j i m = m BOUNDS j (m CURSORS j i)
+
+abbrev pub letterEnd : ℕ → ℕ → Mem → ℕ
+letterEnd j i m = m BOUNDS j (m CURSORS j i + 1)
+
+-- the list message from `from` to `to` in row `j`'s log is read; `read` lists of it were, and the list counter is `lists`
+unfoldable pub takenWith : ℕ → ℕ → ℕ → ℕ → ℕ → ℕ → Mem → Mem
+takenWith j i read from to lists m =
+    store (store (copyM j i from (to - from) m) CURSORS j i (read + 1)) WORKERS i LISTS (lists + 1)
+
+unfoldable pub takenM : ℕ → ℕ → Mem → Mem
+unfolding takenWith
+takenM j i m = takenWith j i (m CURSORS j i) (letterStart j i m) (letterEnd j i m) (m WORKERS i LISTS) m
+
+unfoldable pub readListM : ℕ → ℕ → Mem → Option Mem
+readListM j i m =
+    cond (ltb (m CURSORS j i) (m WORKERS j SENDS))
+    (cond (ltb (m CURSORS j i) 519)
+    (cond (leb (letterEnd j i m) 512)
+    (cond (ltb (m WORKERS i LISTS) 65535) (some (takenM j i m)) none)
+    none)
+    none)
+    none
+
+-- ---- row `i` reads from the controller, which has sent `n` polls
+
+unfoldable pub readPollM : ℕ → ℕ → Mem → Option Mem
+readPollM i n m =
+    cond (ltb (m WORKERS i POLLS) n)
+    (some (store (store m WORKERS i POLLS (m WORKERS i POLLS + 1)) WORKERS i HELD (m WORKERS i POLLS + 1)))
+    none

@@ -1,0 +1,85 @@
+// Reads of a worker in the cells: the next list message of a worker, or the next poll. 1 where it changed something, 0 where it was idle.
+use cells::layout::BOUNDS;
+use cells::layout::CURSORS;
+use cells::layout::HELD;
+use cells::layout::LISTS;
+use cells::layout::POLLS;
+use cells::layout::SENDS;
+use cells::layout::WORKERS;
+use cells::layout::get;
+use cells::layout::put;
+use cells::lists::copy;
+ghost use mathlib.Core.Path.{_≡_};
+ghost use Prim.Native.Nat.{_-_, _<_, _≤_};
+ghost use lib.ListN.{length};
+ghost use Rattle.cells.specs.Lists.{copyM};
+ghost use Rattle.cells.specs.Memory.{memOf, Acts};
+ghost use Rattle.reads.specs.Reads.{readListM, takenWith, readPollM};
+
+// The labels between two places of row `j`'s log join the end of row `i`'s work list.
+fn copy_between(cells: &mut [u16], j: usize, i: usize, from: usize, to: usize)
+    requires { ⌜ (24576 ≤ length (now cells)) × (j < 8) × (i < 8) × (to ≤ 512) ⌝ }
+    ensures { λ r. ⌜ memOf (now (cells .exit)) ≡ copyM j i from (to - from) (memOf (now (cells .entry))) ⌝ }
+{
+    if from <= to {
+        copy(cells, j, i, from, to - from);
+    }
+}
+
+// Row `i` takes the list message between two places of row `j`'s log, after `read` others.
+fn take_list(
+    cells: &mut [u16],
+    j: usize,
+    i: usize,
+    read: usize,
+    from: usize,
+    to: usize,
+    lists: usize,
+)
+    requires { ⌜ (24576 ≤ length (now cells)) × (j < 8) × (i < 8) × (read < 519) × (to ≤ 512) × (lists < 65535) ⌝ }
+    ensures { λ r. ⌜ memOf (now (cells .exit)) ≡ takenWith j i read from to lists (memOf (now (cells .entry))) ⌝ }
+{
+    copy_between(cells, j, i, from, to);
+    put(cells, CURSORS, j, i, read + 1);
+    put(cells, WORKERS, i, LISTS, lists + 1);
+}
+
+// Read: row `i` takes the next list message of row `j`.
+pub fn read_list(cells: &mut [u16], j: usize, i: usize) -> usize
+    requires { ⌜ (24576 ≤ length (now cells)) × (j < 8) × (i < 8) ⌝ }
+    ensures { λ r. ⌜ Acts (readListM j i) (now (cells .entry)) (now (cells .exit)) r ⌝ }
+{
+    let read = get(cells, CURSORS, j, i);
+    let sends = get(cells, WORKERS, j, SENDS);
+    if read >= sends {
+        return 0;
+    }
+    if read >= 519 {
+        return 0;
+    }
+    let to = get(cells, BOUNDS, j, read + 1);
+    if to > 512 {
+        return 0;
+    }
+    let lists = get(cells, WORKERS, i, LISTS);
+    if lists >= 65535 {
+        return 0;
+    }
+    let from = get(cells, BOUNDS, j, read);
+    take_list(cells, j, i, read, from, to, lists);
+    1
+}
+
+// Read: row `i` takes the next poll, of `n` that were sent, and holds it.
+pub fn read_poll(cells: &mut [u16], i: usize, n: usize) -> usize
+    requires { ⌜ (24576 ≤ length (now cells)) × (i < 8) × (n < 65536) ⌝ }
+    ensures { λ r. ⌜ Acts (readPollM i n) (now (cells .entry)) (now (cells .exit)) r ⌝ }
+{
+    let polls = get(cells, WORKERS, i, POLLS);
+    if polls >= n {
+        return 0;
+    }
+    put(cells, WORKERS, i, POLLS, polls + 1);
+    put(cells, WORKERS, i, HELD, polls + 1);
+    1
+}

@@ -1,0 +1,70 @@
+-- `sends::put_list` sends a list message. Assumes nothing.
+use mathlib.Core.Path.{refl}
+use native.Mathlib.Omega.{arith}
+use borrow.Author.Needs.{needs}
+use Rattle.sends.proofs.SendLaws.{sent}
+use Rattle.cells.proofs.Ranges.{may-put}
+use Rattle.sends.proofs.put_list.Statement.{statement}
+use Rattle.sends.proofs.put_list.Tie as tie
+
+add-put : tie.Need-add-put
+add-put c = search needs
+
+put-requires : tie.Need-put-requires
+put-requires c κs = may-put _ _ _ refl _ _ (omega arith)
+
+add-put-2 : tie.Need-add-put-2
+add-put-2 c = search needs
+
+put-requires-2 : tie.Need-put-requires-2
+put-requires-2 c κs = may-put _ _ _ refl _ _ (omega arith)
+
+add-put-3 : tie.Need-add-put-3
+add-put-3 c = search needs
+
+put-requires-3 : tie.Need-put-requires-3
+put-requires-3 c κs = may-put _ _ _ refl _ _ (omega arith)
+
+add-put-4 : tie.Need-add-put-4
+add-put-4 c = search needs
+
+put-requires-4 : tie.Need-put-requires-4
+put-requires-4 c κs = may-put _ _ _ refl _ _ (omega arith)
+
+add-put-5 : tie.Need-add-put-5
+add-put-5 c = search needs
+
+put-requires-5 : tie.Need-put-requires-5
+put-requires-5 c κs = may-put _ _ _ refl _ _ (omega arith)
+
+same-length : tie.Need-same-length
+same-length c = search needs
+
+returns : tie.Need-returns
+returns c =
+    let at-put5 = c .before .before in
+    let at-put4 = at-put5 .before .before .before .before in
+    let at-put3 = at-put4 .before .before .before .before in
+    let at-put2 = at-put3 .before .before .before .before in
+    let at-put = at-put2 .before .before .before .before in
+    let start = at-put .before .before .before in
+    sent _ _ _ _ (start .args .i) (start .args .sends) (start .args .end) (start .args .outs)
+    (start .args .lists) _ _ (at-put .put .ensures) (at-put2 .put2 .ensures) (at-put3 .put3 .ensures)
+    (at-put4 .put4 .ensures) (at-put5 .put5 .ensures)
+
+pub put-list-spec : {M : Type 1} → statement M
+put-list-spec =
+    tie.close
+    (tie.spec
+    add-put
+    put-requires
+    add-put-2
+    put-requires-2
+    add-put-3
+    put-requires-3
+    add-put-4
+    put-requires-4
+    add-put-5
+    put-requires-5
+    same-length
+    returns)
