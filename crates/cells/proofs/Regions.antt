@@ -2,21 +2,21 @@
 use Prim.Native.Nat.{ℕ, zero, suc, _+_, _*_, _^_, _<_, _≤_}
 use mathlib.Core.Bool.{Bool, true, false, cond, _&&_}
 use mathlib.Core.List.{List}
-use mathlib.Core.Logic.{_⊎_, inl, inr, ⊎-elim}
+use mathlib.Core.Logic.{_⊎_, ⊎-elim}
 use mathlib.Core.Path.{_≡_, refl, sym, _∙_, ap, subst, fun-ext}
 use native.Mathlib.Decide.{ℕ-discrete, decLt}
 use native.Mathlib.Nat.{mul-le-mul-right}
 use native.Mathlib.Omega.{arith}
-use borrow.Author.Tests.{leb-true, lt-ltb, le-ltb, ltb-true, ltb-false, eq-eqb, ne-eqb, eqb-true}
+use borrow.Author.Tests.{leb-true, lt-ltb, ltb-true, eq-eqb, eqb-true}
 use lib.Dec.{leb, ltb, eqb}
 use lib.ListN.{length, getD, set, List·getD-eq-default}
 use lib.Seq.{getD-set-same, getD-set-other}
 use Rattle.base.proofs.Below.{all-below, below-cases}
-use Rattle.base.proofs.Bools.{and-left, and-right, and-intro, and-false-left, and-false-right, refuted, clash}
-use Rattle.base.proofs.Choice.{cond-true, cond-false}
+use Rattle.base.proofs.Bools.{and-left, and-right, and-intro, clash}
+use Rattle.base.proofs.Choice.{cond-true}
 use Rattle.base.specs.Below.{allBelow}
 use Rattle.cells.specs.Layout.{BEHIND, regions, region, regionAt, address, Fits}
-use Rattle.cells.specs.Memory.{Mem, memOf, store}
+use Rattle.cells.specs.Memory.{memOf, store}
 use Rattle.cells.specs.declared.Region.{Region}
 
 -- where a region ends

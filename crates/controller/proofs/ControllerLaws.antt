@@ -1,16 +1,15 @@
 -- Laws by which the code of the controller meets its definitions: the row of marks, the tally, poll and read.
 use Prim.Native.Nat.{ℕ, zero, suc, _+_, _*_, _/_, _%_, _^_, _<_, _≤_}
-use mathlib.Core.Bool.{Bool, true, false, cond, not}
+use mathlib.Core.Bool.{Bool, true, false, not}
 use mathlib.Core.List.{List}
-use mathlib.Core.Logic.{⊎-elim}
 use mathlib.Core.Option.{Option, none, some}
 use mathlib.Core.Path.{_≡_, sym, _∙_}
 use native.Mathlib.Nat.{pow-zero, two-pow-succ}
 use native.Mathlib.Omega.{arith}
 use borrow.Author.Tests.{ltb-true, lt-ltb, le-ltb, le-leb, lt-leb, eqb-false, eq-eqb, ne-eqb, not-true, not-false}
-use lib.Dec.{leb, ltb, eqb}
+use lib.Dec.{ltb, eqb}
 use lib.Pow.{pow-mono}
-use Rattle.base.proofs.Bools.{decided, and-right}
+use Rattle.base.proofs.Bools.{and-right}
 use Rattle.base.proofs.Choice.{cond-true, cond-false}
 use Rattle.base.proofs.Row.{bit-zero, bit-suc}
 use Rattle.base.specs.Row.{bit}
@@ -18,8 +17,7 @@ use Rattle.disac4.specs.System.{System}
 use Rattle.disac4.specs.declared.Tally.{Tally}
 use Rattle.cells.specs.Layout.{WORKERS, OUT, OUTEND, OUTREAD}
 use Rattle.cells.specs.Memory.{memOf, store}
-use Rattle.controller.specs.Controller.{askedT, asksT, countedT, withMark, markedT, toldT, hasOut, outReadM, askM}
-use Rattle.controller.specs.Controller.{Machine, machine, Hears, pollM, hearM}
+use Rattle.controller.specs.Controller.{askedT, asksT, countedT, withMark, markedT, toldT, hasOut, outReadM, askM, Machine, machine, Hears, pollM, hearM}
 
 -- ---- the row of marks
 

@@ -11,9 +11,7 @@ use Rattle.cells.specs.Layout.{OUT, WANTED, WORKERS, OUTEND, OUTREAD}
 use Rattle.cells.specs.Memory.{Mem, memOf, store, changed}
 use Rattle.cells.specs.View.{LISTMARK}
 use Rattle.disac4.specs.System.{System}
-use Rattle.disac4.specs.declared.ListCounter.{ListCounter}
 use Rattle.disac4.specs.declared.Tally.{Tally}
-use Rattle.disac4.specs.declared.Timestamp.{Timestamp}
 use Rattle.controller.specs.declared.Heard.{Heard}
 
 -- the work cells as a memory, and the tally beside them

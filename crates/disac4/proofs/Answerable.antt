@@ -11,15 +11,14 @@ use Rattle.base.specs.Below.{one}
 use Rattle.base.specs.Choice.{update₂}
 use Rattle.disac4.proofs.Channels.{Channels, broadcast-to, broadcast-self, broadcast-each}
 use Rattle.disac4.proofs.Figures.{timestamp-of-run}
-use Rattle.disac4.proofs.Moves.{Worker, Moves, treats, sends, reads, hears, ignores, answers, asks, tallies, marks, drops, discards, kept}
-use Rattle.disac4.proofs.Sound.{Sound}
+use Rattle.disac4.proofs.Moves.{Moves, treats, sends, reads, hears, ignores, answers, asks, tallies, marks, drops, discards, kept}
 use Rattle.disac4.proofs.Typed.{Typed, typed-move, typed-load, not-controller}
 use Rattle.disac4.specs.Action.{broadcast, pollOf, afterTreat, afterSend, afterList, afterPoll, afterDrop, afterAnswer, afterAsk, afterCount, afterMark}
 use Rattle.disac4.specs.Event.{Event}
 use Rattle.disac4.specs.Loading.{load}
 use Rattle.disac4.specs.Report.{isPoll}
 use Rattle.disac4.specs.State.{State, Message, list, poll, reply, Poll}
-use Rattle.disac4.specs.System.{System}
+use Rattle.disac4.specs.System.{System, Worker, Sound}
 use Rattle.disac4.specs.Turn.{Turn, play, isSome, changesWhere}
 
 -- 1 for a poll

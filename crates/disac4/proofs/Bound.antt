@@ -9,16 +9,15 @@ use native.Mathlib.Omega.{arith}
 use Rattle.base.proofs.Bools.{and-left, and-intro, and-comm}
 use Rattle.base.proofs.Sums.{sum-zero, one-mono}
 use Rattle.base.specs.Below.{one}
-use Rattle.network.proofs.DomainSize.{domainSize}
 use Rattle.disac4.proofs.Channels.{into}
 use Rattle.disac4.proofs.DomainSize.{load-size, deletions-loaded}
 use Rattle.disac4.proofs.Moves.{Effect, idle, acts, effect}
 use Rattle.disac4.proofs.Potential.{workerWeight, potential, potential-falls}
-use Rattle.disac4.proofs.Sound.{Sound}
 use Rattle.disac4.specs.Loading.{unsupported, load}
 use Rattle.disac4.specs.State.{State}
-use Rattle.disac4.specs.System.{System, turnBound, boundOf}
+use Rattle.disac4.specs.System.{System, turnBound, boundOf, Sound}
 use Rattle.disac4.specs.Turn.{Turn, after, play, changes, changesWhere}
+use Rattle.network.specs.Network.{domainSize}
 
 module _ (sys : System) (few : sys .workers ≤ 8) where
   -- a turn that is not idle lowers the potential by 1 or more

@@ -4,12 +4,12 @@ use mathlib.Core.List.{List, [], _∷_}
 use mathlib.Core.Path.{_≡_, refl}
 use Rattle.base.proofs.Weight.{weigh}
 use Rattle.network.specs.Network.{Label}
-use Rattle.disac4.proofs.Moves.{Moves, Worker, treats, sends, reads, hears, ignores, answers, asks, tallies, marks, drops, discards}
+use Rattle.disac4.proofs.Moves.{Moves, treats, sends, reads, hears, ignores, answers, asks, tallies, marks, drops, discards}
 use Rattle.disac4.proofs.Occurrences.{treatedBy}
 use Rattle.disac4.specs.Action.{afterTreat, afterSend, afterList, afterPoll, afterDrop, afterAnswer, afterAsk, afterCount, afterMark}
 use Rattle.disac4.specs.Event.{Event, treated}
 use Rattle.disac4.specs.State.{State}
-use Rattle.disac4.specs.System.{System}
+use Rattle.disac4.specs.System.{System, Worker}
 
 -- a move is a treat, or keeps domains and counters and treats nothing
 pub by-treat : (sys : System) (st : State) (C : State → List Event → Type 0)

@@ -12,12 +12,12 @@ use Rattle.base.proofs.Weight.{weigh}
 use Rattle.disac4.proofs.Channels.{into}
 use Rattle.disac4.proofs.Closing.{Agreed, Idle, Closing}
 use Rattle.disac4.proofs.Conservation.{Conserved}
-use Rattle.disac4.proofs.Moves.{Worker, Moves, treats, sends, reads, hears, ignores, answers, asks, tallies, marks, drops, discards}
+use Rattle.disac4.proofs.Moves.{Moves, treats, sends, reads, hears, ignores, answers, asks, tallies, marks, drops, discards}
 use Rattle.disac4.proofs.Sound.{isList, Quiet}
 use Rattle.disac4.specs.Action.{current, allMarked, afterTreat, afterSend, afterList, afterPoll, afterDrop, afterAnswer, afterAsk, afterCount, afterMark}
 use Rattle.disac4.specs.Event.{Event}
 use Rattle.disac4.specs.State.{State, Controller}
-use Rattle.disac4.specs.System.{System}
+use Rattle.disac4.specs.System.{System, Worker}
 
 -- the plan is closed exactly if a poll is open and all workers are marked
 pub record Closure (sys : System) (controller : Controller) : Type 0 where

@@ -19,14 +19,14 @@ use Rattle.network.specs.Network.{Label}
 use Rattle.disac4.proofs.Channels.{Channels, into, into-take, into-put, into-same, broadcast-to, broadcast-self, broadcast-each}
 use Rattle.disac4.proofs.Conservation.{Conserved}
 use Rattle.disac4.proofs.Empty.{empty}
-use Rattle.disac4.proofs.Moves.{Worker, Moves, treats, sends, reads, hears, ignores, answers, asks, tallies, marks, drops, discards}
+use Rattle.disac4.proofs.Moves.{Moves, treats, sends, reads, hears, ignores, answers, asks, tallies, marks, drops, discards}
 use Rattle.disac4.proofs.Replies.{isReply, replied, listFirst, first-append, first-some, first-sent, first-pass, replied-append, reply-first, none-replied, not-current}
 use Rattle.disac4.proofs.Sound.{isList}
 use Rattle.disac4.proofs.Typed.{Typed, no-self, not-controller, controller-count}
 use Rattle.disac4.specs.Action.{isEmpty, ready, current, broadcast, afterTreat, afterSend, afterList, afterPoll, afterDrop, afterAnswer, afterAsk, afterCount, afterMark}
 use Rattle.disac4.specs.Event.{Event}
 use Rattle.disac4.specs.State.{State, Message, list, poll, reply, Poll}
-use Rattle.disac4.specs.System.{System}
+use Rattle.disac4.specs.System.{System, Worker}
 
 -- ---- over the timestamp `n`, the marks, the channels, the counts of lists, the work lists and the to-send lists
 

@@ -16,15 +16,14 @@ use Rattle.base.proofs.Weight.{weigh, weigh-append}
 use Rattle.network.specs.Network.{Label, loaded, supports, supportCount}
 use Rattle.disac4.proofs.ByTreat.{by-treat}
 use Rattle.disac4.proofs.Flow.{Flow, load-flow, move-flow}
-use Rattle.disac4.proofs.Moves.{Moves, Worker, kept}
+use Rattle.disac4.proofs.Moves.{Moves, kept}
 use Rattle.disac4.proofs.Occurrences.{treatedBy}
 use Rattle.disac4.proofs.Remaining.{untreatedSupport, remaining, support-ext, lowered-counts}
-use Rattle.disac4.proofs.Sound.{Sound}
 use Rattle.disac4.specs.Action.{loses, lowered, deletes, afterTreat}
 use Rattle.disac4.specs.Event.{Event, treated, events}
 use Rattle.disac4.specs.Loading.{unsupported, loadedCounter, load}
 use Rattle.disac4.specs.State.{State}
-use Rattle.disac4.specs.System.{System}
+use Rattle.disac4.specs.System.{System, Worker, Sound}
 use Rattle.disac4.specs.Turn.{Turn, play}
 
 module _ (sys : System) where

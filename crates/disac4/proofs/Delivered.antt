@@ -16,14 +16,13 @@ use Rattle.base.specs.Choice.{anyOf}
 use Rattle.network.proofs.Loaded.{loaded-variable}
 use Rattle.network.specs.Network.{Label, isLabel, loaded}
 use Rattle.disac4.proofs.Flow.{Flow, flows}
-use Rattle.disac4.proofs.Moves.{Worker}
 use Rattle.disac4.proofs.Occurrences.{occurs, sentBy, readBy}
-use Rattle.disac4.proofs.Sound.{Sound, Quiet}
+use Rattle.disac4.proofs.Sound.{Quiet}
 use Rattle.disac4.proofs.Treated.{sent-exactly, read-exactly, treated-exactly}
 use Rattle.disac4.specs.Event.{Event, sent, taken, treated, events, holds, isSentWith, isReadWith, isTreatOf, unsent, unread, untreated, deleted}
 use Rattle.disac4.specs.Loading.{load}
 use Rattle.disac4.specs.State.{State}
-use Rattle.disac4.specs.System.{System}
+use Rattle.disac4.specs.System.{System, Worker, Sound}
 use Rattle.disac4.specs.Turn.{Turn, play}
 
 module _ (sys : System) (sound : Sound sys) (ts : List Turn) (quiet : Quiet sys (play sys (load sys) ts)) (x v : ℕ)

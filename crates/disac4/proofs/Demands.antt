@@ -24,13 +24,12 @@ use Rattle.disac4.proofs.Progress.{progress}
 use Rattle.disac4.proofs.RoundRun.{Advances, play-append, turns-closed, turns-open, round-run-closes, round-run-complete}
 use Rattle.disac4.proofs.Rounds.{round-allowed}
 use Rattle.disac4.proofs.Safety.{closed-quiet}
-use Rattle.disac4.proofs.Sound.{Sound}
 use Rattle.disac4.specs.Demands.{closedAfter, Demand2, Demand3, RoundCloses}
 use Rattle.disac4.specs.Loading.{load}
 use Rattle.disac4.specs.Report.{final}
 use Rattle.disac4.specs.Round.{round, roundTurns, roundRunTurns}
 use Rattle.disac4.specs.State.{State}
-use Rattle.disac4.specs.System.{System, systemOf, boundOf}
+use Rattle.disac4.specs.System.{System, systemOf, boundOf, Sound}
 use Rattle.disac4.specs.Turn.{Turn, allowed, changes, play}
 
 module _ (sys : System) (sound : Sound sys) (ts : List Turn) where

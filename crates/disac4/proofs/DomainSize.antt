@@ -10,16 +10,15 @@ use lib.ListN.{length}
 use Rattle.base.proofs.Bools.{and-left, and-right, and-false-left}
 use Rattle.base.proofs.Sums.{sum-ext, sum-single, sum-swap, one-split}
 use Rattle.base.specs.Below.{one}
-use Rattle.network.proofs.DomainSize.{domainSize, size-split}
+use Rattle.network.proofs.DomainSize.{size-split}
 use Rattle.network.proofs.Labels.{labels-length, label-count}
 use Rattle.network.proofs.Loaded.{loaded-intro}
-use Rattle.network.specs.Network.{Domains, Label, labelCount, supports}
-use Rattle.disac4.proofs.Moves.{Worker}
+use Rattle.network.specs.Network.{Domains, Label, labelCount, supports, domainSize}
 use Rattle.disac4.proofs.Workers.{overWorkers}
 use Rattle.disac4.specs.Action.{loses, lowered, deletes, deletions}
 use Rattle.disac4.specs.Loading.{unsupported, loadedDeletions, load}
 use Rattle.disac4.specs.State.{State}
-use Rattle.disac4.specs.System.{System}
+use Rattle.disac4.specs.System.{System, Worker}
 
 -- only labels in the domains are deleted
 pub deletes-listed : (sys : System) (k : ℕ) (a : Label) (st : State) (x v : ℕ) → deletes sys k a st x v ≡ true

@@ -12,13 +12,13 @@ use Rattle.base.proofs.Choice.{update-same, update-other, update₂-same, updat
 use Rattle.base.proofs.Members.{anyOf-left, anyOf-right}
 use Rattle.base.specs.Choice.{update, update₂}
 use Rattle.disac4.proofs.Channels.{Channels, broadcast-to, broadcast-sender, broadcast-each}
-use Rattle.disac4.proofs.Moves.{Worker, Moves, treats, sends, reads, hears, ignores, answers, asks, tallies, marks, drops, discards}
+use Rattle.disac4.proofs.Moves.{Moves, treats, sends, reads, hears, ignores, answers, asks, tallies, marks, drops, discards}
 use Rattle.disac4.proofs.Replies.{isReply, replied, not-current}
 use Rattle.disac4.proofs.Typed.{Typed, not-controller, controller-count}
 use Rattle.disac4.specs.Action.{current, pollOf, broadcast, afterTreat, afterSend, afterList, afterPoll, afterDrop, afterAnswer, afterAsk, afterCount, afterMark}
 use Rattle.disac4.specs.Event.{Event}
 use Rattle.disac4.specs.State.{State, Message, list, poll, reply, Poll}
-use Rattle.disac4.specs.System.{System}
+use Rattle.disac4.specs.System.{System, Worker}
 
 -- the poll that is held once these messages are read, with `o` held before
 abbrev pub heldAfter : Option Poll → List Message → Option Poll

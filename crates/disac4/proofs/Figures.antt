@@ -13,14 +13,13 @@ use Rattle.network.specs.Network.{Label}
 use Rattle.disac4.proofs.Channels.{into}
 use Rattle.disac4.proofs.Conservation.{isSent}
 use Rattle.disac4.proofs.Safety.{safe-run}
-use Rattle.disac4.proofs.Sound.{Sound, isList}
-use Rattle.disac4.proofs.Typed.{Timely}
+use Rattle.disac4.proofs.Sound.{isList}
 use Rattle.disac4.specs.Action.{isEmpty, treat, treatFrom, afterTreat, send, afterSend, readFrom, readWorker, afterList, afterPoll, afterDrop, ready, answer, answerTo, afterAnswer, ask, afterAsk, current, controllerFrom, readController, afterCount, afterMark}
 use Rattle.disac4.specs.Event.{sent, eventsAt, events, treatEvent, readEvent, isTreat, isRead}
 use Rattle.disac4.specs.Loading.{load}
 use Rattle.disac4.specs.Report.{isSend, isPoll}
 use Rattle.disac4.specs.State.{State, Message, list, poll, reply, Poll}
-use Rattle.disac4.specs.System.{System}
+use Rattle.disac4.specs.System.{System, Sound}
 use Rattle.disac4.specs.Turn.{Turn, pollNumber, treatNumber, sendNumber, answerNumber, allowed, workerStep, controllerStep, step, after, play, isSome, changes, changesWhere}
 
 -- ---- sends

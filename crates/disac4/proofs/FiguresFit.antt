@@ -15,10 +15,9 @@ use Rattle.disac4.proofs.Figures.{list-counter-bound, timestamp-of-run}
 use Rattle.disac4.proofs.PollBound.{polls-bound}
 use Rattle.disac4.proofs.QueueLengths.{QueueLengths, queue-lengths, queues-within}
 use Rattle.disac4.proofs.SendBound.{sends-bound}
-use Rattle.disac4.proofs.Sound.{Sound}
 use Rattle.disac4.specs.Loading.{load}
 use Rattle.disac4.specs.Report.{isSend, isPoll, final}
-use Rattle.disac4.specs.System.{System, systemOf, turnBound, boundOf}
+use Rattle.disac4.specs.System.{System, systemOf, turnBound, boundOf, Sound}
 use Rattle.disac4.specs.Turn.{Turn, changesWhere}
 
 -- what the report counts, the counts of lists, the timestamp and the queues, after a list of turns

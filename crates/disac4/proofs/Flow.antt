@@ -12,12 +12,11 @@ use Rattle.network.specs.Network.{Label}
 use Rattle.disac4.proofs.Deleted.{deletedBy, load-deletes}
 use Rattle.disac4.proofs.Moves.{Moves, kept}
 use Rattle.disac4.proofs.Occurrences.{occurs, carried, sentBy, readBy, treatedBy}
-use Rattle.disac4.proofs.Sound.{Sound}
 use Rattle.disac4.proofs.Steps.{Step, step-of}
 use Rattle.disac4.specs.Event.{Event, events, deleted}
 use Rattle.disac4.specs.Loading.{load}
 use Rattle.disac4.specs.State.{State, Message, list}
-use Rattle.disac4.specs.System.{System}
+use Rattle.disac4.specs.System.{System, Sound}
 use Rattle.disac4.specs.Turn.{Turn, play}
 
 module _ (sys : System) (x v : ℕ) where

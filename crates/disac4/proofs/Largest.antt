@@ -17,16 +17,16 @@ use Rattle.network.specs.Consistency.{Within, Supported, ArcConsistent, Consist
 use Rattle.network.specs.Network.{Label, Domains, loaded, supports}
 use Rattle.disac4.proofs.ByTreat.{by-treat}
 use Rattle.disac4.proofs.Counters.{Accounts, loaded-counts, load-accounts, move-accounts, accounts}
-use Rattle.disac4.proofs.Moves.{Moves, Worker, kept}
+use Rattle.disac4.proofs.Moves.{Moves, kept}
 use Rattle.disac4.proofs.Occurrences.{treatedBy}
 use Rattle.disac4.proofs.Remaining.{support-remains, remains-support, loses-owner, loses-support, now-deleted, head-loaded, lowered-counts}
-use Rattle.disac4.proofs.Sound.{Sound, Quiet}
+use Rattle.disac4.proofs.Sound.{Quiet}
 use Rattle.disac4.proofs.Treated.{treated-exactly}
 use Rattle.disac4.specs.Action.{loses, lowered, deletes, afterTreat}
 use Rattle.disac4.specs.Event.{Event, treated, events, deleted}
 use Rattle.disac4.specs.Loading.{unsupported, loadedCounter, load}
 use Rattle.disac4.specs.State.{State}
-use Rattle.disac4.specs.System.{System}
+use Rattle.disac4.specs.System.{System, Worker, Sound}
 use Rattle.disac4.specs.Turn.{Turn, play}
 
 -- a label in the domain is not deleted

@@ -1,6 +1,6 @@
 -- What a turn that is not idle does: one case for each action, with what held before it, the state after it and its events.
 -- Every invariant of the protocol is proved by going through these cases.
-use Prim.Native.Nat.{ℕ, _<_, _≤_}
+use Prim.Native.Nat.{ℕ, _≤_}
 use mathlib.Core.Bool.{Bool, true, false, cond, _&&_, _||_, not}
 use mathlib.Core.List.{List, [], _∷_, _++_, append-assoc, append-nil}
 use mathlib.Core.Logic.{⊎-elim}
@@ -16,14 +16,9 @@ use Rattle.network.specs.Network.{Label}
 use Rattle.disac4.specs.Action.{isEmpty, afterTreat, treat, treatFrom, afterSend, send, afterList, afterPoll, afterDrop, readFrom, readWorker, afterAnswer, ready, answerTo, answer, afterAsk, ask, afterCount, afterMark, current, controllerFrom, readController}
 use Rattle.disac4.specs.Event.{Event, sent, taken, treated, eventsAt, events, treatEvent, readEvent}
 use Rattle.disac4.specs.State.{State, Message, list, poll, reply, Poll}
-use Rattle.disac4.specs.System.{System}
+use Rattle.disac4.specs.System.{System, Worker}
 use Rattle.disac4.specs.Turn.{Turn, turn, treatNumber, sendNumber, answerNumber, pollNumber, allowed, workerStep, controllerStep, step, after, play, isSome, changes}
 use Rattle.disac4.specs.declared.Timestamp.{Timestamp}
-
--- an actor that is a worker
-pub record Worker (sys : System) (k : ℕ) : Type 0 where
-  pub above : 0 < k
-  pub within : k ≤ sys .workers
 
 -- the cases, by the state and the events that they lead to
 pub data Moves (sys : System) (st : State) : State → List Event → Type 0 where

@@ -5,12 +5,12 @@ use mathlib.Core.Option.{Option, none, some}
 use mathlib.Core.Path.{_≡_, refl, _∙_, subst}
 use native.Mathlib.Nat.{le-dest}
 use native.Mathlib.Omega.{arith}
-use lib.ListN.{length, getD, drop, replicate, length-append, length-drop, length-replicate, getD-replicate, List·getD-append}
+use lib.ListN.{length, getD, drop, replicate, length-replicate, getD-replicate, List·getD-append}
 use lib.Seq.{getD-append-add, getD-drop}
 use Rattle.base.specs.Choice.{firstOf}
 use Rattle.plan.specs.Decode.{planFault}
 use Rattle.plan.specs.declared.Decline.{Decline}
-use Rattle.disac4.specs.Outcome.{Outcome, overwrite, refused, played, unlessFault, turnRun, roundRun, bufferFault, inputFault, systemAt, workNeed}
+use Rattle.disac4.specs.Outcome.{Outcome, overwrite, refused, played, unlessFault, turnRun, roundRun, bufferFault, inputFault, systemAt, workNeed, Untouched, Written}
 use Rattle.disac4.specs.Report.{listCells, final, reportOf}
 use Rattle.disac4.specs.Round.{roundRunTurns}
 use Rattle.disac4.specs.System.{System}
@@ -34,19 +34,6 @@ overwrite-back new cells i h =
     (getD-append-add new (drop (length new) cells) (d .0) 0 ∙ getD-drop (length new) cells (d .0) 0)
 
 -- ---- the two ways in which a call ends
-
--- a declined call changes no lent cell
-pub record Untouched (work lists : List ℕ) (o : Outcome) : Type 0 where
-  pub same-work : o .work ≡ work
-  pub same-lists : o .lists ≡ lists
-
--- a run clears the first work cells, writes a cell for each variable, and keeps all later cells
-pub record Written (work lists : List ℕ) (sys : System) (turns : List Turn) (o : Outcome) : Type 0 where
-  pub cleared : (i : ℕ) → i < workNeed → getD (o .work) i 0 ≡ 0
-  pub work-kept : (i : ℕ) → workNeed ≤ i → getD (o .work) i 0 ≡ getD work i 0
-  pub cells : (i : ℕ) → i < length (listCells sys (final sys turns))
-      → getD (o .lists) i 0 ≡ getD (listCells sys (final sys turns)) i 0
-  pub lists-kept : (i : ℕ) → length (listCells sys (final sys turns)) ≤ i → getD (o .lists) i 0 ≡ getD lists i 0
 
 module _ (work lists : List ℕ) (sys : System) (turns : List Turn) where
   abbrev Ends : Option Decline → Outcome

@@ -9,14 +9,13 @@ use Rattle.network.specs.Network.{labelCount}
 use Rattle.disac4.proofs.Figures.{list-counter-bound, timestamp-of-run}
 use Rattle.disac4.proofs.Moves.{Moves, treats, sends, reads, hears, ignores, answers, asks, tallies, marks, drops, discards, kept}
 use Rattle.disac4.proofs.SendBound.{sends-bound}
-use Rattle.disac4.proofs.Sound.{Sound}
 use Rattle.disac4.proofs.Typed.{controller-count}
 use Rattle.disac4.specs.Action.{afterTreat, afterSend, afterList, afterPoll, afterDrop, afterAnswer, afterAsk, afterCount, afterMark}
 use Rattle.disac4.specs.Event.{Event}
 use Rattle.disac4.specs.Loading.{load}
 use Rattle.disac4.specs.Report.{isPoll}
 use Rattle.disac4.specs.State.{State}
-use Rattle.disac4.specs.System.{System}
+use Rattle.disac4.specs.System.{System, Sound}
 use Rattle.disac4.specs.Turn.{Turn, play, changesWhere}
 
 -- all polls but the open one were ended by a list that the controller read

@@ -9,16 +9,15 @@ use native.Mathlib.Omega.{arith}
 use lib.ListN.{length, length-append}
 use Rattle.base.specs.Below.{one}
 use Rattle.base.specs.Choice.{update, update₂}
-use Rattle.network.proofs.DomainSize.{domainSize}
-use Rattle.network.specs.Network.{Label}
+use Rattle.network.specs.Network.{Label, domainSize}
 use Rattle.disac4.proofs.Channels.{Channels, into, into-take, into-put, into-other, into-broadcast, into-broadcast-self}
 use Rattle.disac4.proofs.DomainSize.{treat-size}
-use Rattle.disac4.proofs.Moves.{Worker, Moves, treats, sends, reads, hears, ignores, answers, asks, tallies, marks, drops, discards}
+use Rattle.disac4.proofs.Moves.{Moves, treats, sends, reads, hears, ignores, answers, asks, tallies, marks, drops, discards}
 use Rattle.disac4.proofs.Workers.{overWorkers, over-update, over-append, workers-take, workers-apart, workers-broadcast, workers-poll}
 use Rattle.disac4.specs.Action.{isEmpty, deletes, deletions, afterTreat, afterSend, afterList, afterPoll, afterDrop, afterAnswer, pollOf, afterAsk, afterCount, afterMark}
 use Rattle.disac4.specs.Event.{Event}
 use Rattle.disac4.specs.State.{State, Message, list, poll, reply, Poll}
-use Rattle.disac4.specs.System.{System}
+use Rattle.disac4.specs.System.{System, Worker}
 use Rattle.disac4.specs.Turn.{isSome}
 
 -- what a message to a worker weighs

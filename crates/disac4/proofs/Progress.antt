@@ -19,15 +19,14 @@ use Rattle.base.specs.Choice.{between}
 use Rattle.disac4.proofs.Channels.{into}
 use Rattle.disac4.proofs.Empty.{empty}
 use Rattle.disac4.proofs.Expected.{Answered, has-mark, has-replied, will-hold}
-use Rattle.disac4.proofs.Moves.{Worker}
 use Rattle.disac4.proofs.Safety.{Safe, safe-run}
-use Rattle.disac4.proofs.Sound.{Sound, isList}
+use Rattle.disac4.proofs.Sound.{isList}
 use Rattle.disac4.proofs.Typed.{no-self, not-controller}
 use Rattle.disac4.specs.Action.{isEmpty, treat, treatFrom, send, readFrom, readWorker, ready, answer, answerTo, ask, pollOf, allMarked, controllerFrom, readController}
 use Rattle.disac4.specs.Event.{Event, events}
 use Rattle.disac4.specs.Loading.{load}
 use Rattle.disac4.specs.State.{State, Message, list, poll, reply, Poll}
-use Rattle.disac4.specs.System.{System}
+use Rattle.disac4.specs.System.{System, Worker, Sound}
 use Rattle.disac4.specs.Turn.{Turn, turn, treatNumber, sendNumber, answerNumber, pollNumber, allowed, workerStep, controllerStep, step, play, isSome, changes}
 
 -- a state in which no allowed turn changes anything

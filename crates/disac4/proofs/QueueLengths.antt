@@ -10,16 +10,15 @@ use Rattle.base.proofs.Weight.{weigh, weigh-zero}
 use Rattle.network.specs.Network.{labelCount}
 use Rattle.disac4.proofs.Answerable.{pollMessage, replyMessage, answerable-bound}
 use Rattle.disac4.proofs.Figures.{lists-of-run}
-use Rattle.disac4.proofs.Moves.{Worker}
 use Rattle.disac4.proofs.PollBound.{polls-bound}
 use Rattle.disac4.proofs.Safety.{safe-run}
 use Rattle.disac4.proofs.SendBound.{sends-bound}
-use Rattle.disac4.proofs.Sound.{Sound, isList}
+use Rattle.disac4.proofs.Sound.{isList}
 use Rattle.disac4.proofs.Typed.{Kind, Fits, Typed}
 use Rattle.disac4.proofs.WorkBound.{work-bound, to-send-bound}
 use Rattle.disac4.specs.Loading.{load}
 use Rattle.disac4.specs.State.{State, Message, list, poll, reply}
-use Rattle.disac4.specs.System.{System}
+use Rattle.disac4.specs.System.{System, Worker, Sound}
 use Rattle.disac4.specs.Turn.{Turn, play}
 
 -- the lengths, for a number of labels

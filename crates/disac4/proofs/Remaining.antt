@@ -16,13 +16,12 @@ use Rattle.network.proofs.Labels.{isLabel-same, isLabel-other, isLabel-eq}
 use Rattle.network.proofs.Loaded.{loaded-value}
 use Rattle.network.specs.Network.{Label, label, isLabel, loaded, supports}
 use Rattle.disac4.proofs.Flow.{Flow}
-use Rattle.disac4.proofs.Moves.{Worker}
 use Rattle.disac4.proofs.Occurrences.{occurs, treatedBy}
 use Rattle.disac4.proofs.Treated.{treated-or-waits}
 use Rattle.disac4.specs.Action.{loses, lowered}
 use Rattle.disac4.specs.Event.{Event, treated, deleted}
 use Rattle.disac4.specs.State.{State}
-use Rattle.disac4.specs.System.{System}
+use Rattle.disac4.specs.System.{System, Worker}
 
 -- 1 for a support that the label's owner has not treated
 abbrev pub untreatedSupport : System → List Event → ℕ → ℕ → ℕ → ℕ → ℕ

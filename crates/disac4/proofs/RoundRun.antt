@@ -15,11 +15,10 @@ use Rattle.disac4.proofs.Bound.{turns-bounded, potential-loaded}
 use Rattle.disac4.proofs.Moves.{after-idle, Effect, idle, acts, effect}
 use Rattle.disac4.proofs.Potential.{potential}
 use Rattle.disac4.proofs.Rounds.{allowed-round}
-use Rattle.disac4.proofs.Sound.{Sound}
 use Rattle.disac4.specs.Loading.{load}
 use Rattle.disac4.specs.Round.{round, roundTurns, roundRunTurns}
 use Rattle.disac4.specs.State.{State}
-use Rattle.disac4.specs.System.{System, boundOf}
+use Rattle.disac4.specs.System.{System, boundOf, Sound}
 use Rattle.disac4.specs.Turn.{Turn, allowed, step, after, play, isSome, changes, changesWhere}
 
 -- what the round run asks of a statement about states: every list of turns keeps it, and while the plan is open some turn

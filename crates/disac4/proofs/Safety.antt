@@ -7,12 +7,12 @@ use Rattle.disac4.proofs.Closing.{Closing, closing-move}
 use Rattle.disac4.proofs.Conservation.{Conserved, conserved-move, conserved-load}
 use Rattle.disac4.proofs.Expected.{Expected, expected-move}
 use Rattle.disac4.proofs.Moves.{kept}
-use Rattle.disac4.proofs.Sound.{Sound, Quiet}
+use Rattle.disac4.proofs.Sound.{Quiet}
 use Rattle.disac4.proofs.Typed.{Typed, typed-move, typed-load}
 use Rattle.disac4.specs.Event.{Event, events}
 use Rattle.disac4.specs.Loading.{load}
 use Rattle.disac4.specs.State.{State}
-use Rattle.disac4.specs.System.{System}
+use Rattle.disac4.specs.System.{System, Sound}
 use Rattle.disac4.specs.Turn.{Turn, play}
 
 -- a state and the events that led to it

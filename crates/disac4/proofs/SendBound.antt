@@ -5,21 +5,19 @@ use mathlib.Core.Path.{_≡_}
 use native.Mathlib.Omega.{arith}
 use lib.ListN.{length}
 use Rattle.base.proofs.Weight.{weigh, weigh-append}
-use Rattle.network.proofs.DomainSize.{domainSize}
-use Rattle.network.specs.Network.{Label, labelCount}
+use Rattle.network.specs.Network.{Label, labelCount, domainSize}
 use Rattle.disac4.proofs.Conservation.{isSent}
 use Rattle.disac4.proofs.DomainSize.{treat-size, load-size, deletions-loaded}
 use Rattle.disac4.proofs.Empty.{not-empty}
 use Rattle.disac4.proofs.Figures.{sent-count}
-use Rattle.disac4.proofs.Moves.{Worker, Moves, treats, sends, reads, hears, ignores, answers, asks, tallies, marks, drops, discards, kept}
-use Rattle.disac4.proofs.Sound.{Sound}
+use Rattle.disac4.proofs.Moves.{Moves, treats, sends, reads, hears, ignores, answers, asks, tallies, marks, drops, discards, kept}
 use Rattle.disac4.proofs.Workers.{overWorkers, over-part, over-update, over-append}
 use Rattle.disac4.specs.Action.{deletions, afterTreat, afterSend, afterList, afterPoll, afterDrop, afterAnswer, afterAsk, afterCount, afterMark}
 use Rattle.disac4.specs.Event.{Event}
 use Rattle.disac4.specs.Loading.{load}
 use Rattle.disac4.specs.Report.{isSend}
 use Rattle.disac4.specs.State.{State}
-use Rattle.disac4.specs.System.{System}
+use Rattle.disac4.specs.System.{System, Worker, Sound}
 use Rattle.disac4.specs.Turn.{Turn, play, changesWhere}
 
 -- the labels that may still be sent: those on the workers' to-send lists and those in the domains

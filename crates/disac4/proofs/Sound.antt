@@ -1,17 +1,10 @@
--- What the theorems ask of a system, and the state in which no deletion is on its way.
-use Prim.Native.Nat.{ℕ, _<_, _≤_}
+-- The state in which no deletion is on its way.
+use Prim.Native.Nat.{ℕ, _≤_}
 use mathlib.Core.List.{[]}
 use mathlib.Core.Path.{_≡_}
 use Rattle.base.proofs.Weight.{weigh}
-use Rattle.disac4.proofs.Moves.{Worker}
 use Rattle.disac4.specs.State.{State, Message, list, poll, reply}
-use Rattle.disac4.specs.System.{System}
-
--- one to eight workers, and every variable has its owner among them: so is each accepted plan's system
-pub record Sound (sys : System) : Type 0 where
-  pub few : sys .workers ≤ 8
-  pub some-worker : 0 < sys .workers
-  pub owned : (x : ℕ) → x < sys .net .variables → Worker sys (sys .owner x)
+use Rattle.disac4.specs.System.{System, Worker}
 
 -- 1 for a list message
 abbrev pub isList : Message → ℕ

@@ -15,12 +15,12 @@ use Rattle.base.specs.Choice.{update₂}
 use Rattle.network.specs.Network.{Label, Domains, isLabel, loaded}
 use Rattle.disac4.proofs.Channels.{broadcast-each}
 use Rattle.disac4.proofs.Deleted.{deletedBy, treat-deletes, treat-deletes-own}
-use Rattle.disac4.proofs.Moves.{Moves, Worker, treats, sends, reads, hears, ignores, answers, asks, tallies, marks, drops, discards}
+use Rattle.disac4.proofs.Moves.{Moves, treats, sends, reads, hears, ignores, answers, asks, tallies, marks, drops, discards}
 use Rattle.disac4.proofs.Occurrences.{occurs, carried, sentBy, readBy, treatedBy}
 use Rattle.disac4.specs.Action.{deletions, afterTreat, afterSend, afterList, afterPoll, afterDrop, afterAnswer, afterAsk, afterCount, afterMark, pollOf}
 use Rattle.disac4.specs.Event.{Event, sent, taken, treated, deleted}
 use Rattle.disac4.specs.State.{State, Message, list, poll, reply, Poll}
-use Rattle.disac4.specs.System.{System}
+use Rattle.disac4.specs.System.{System, Worker}
 
 module _ (sys : System) (x v : ℕ) where
   abbrev gone : State → ℕ → ℕ

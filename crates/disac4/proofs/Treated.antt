@@ -14,13 +14,12 @@ use Rattle.base.proofs.Weight.{weigh}
 use Rattle.base.specs.Below.{one}
 use Rattle.disac4.proofs.Deleted.{deletedBy}
 use Rattle.disac4.proofs.Flow.{Flow, flows}
-use Rattle.disac4.proofs.Moves.{Worker}
 use Rattle.disac4.proofs.Occurrences.{occurs, carried, sentBy, readBy, treatedBy}
-use Rattle.disac4.proofs.Sound.{Sound, Quiet, isList}
+use Rattle.disac4.proofs.Sound.{Quiet, isList}
 use Rattle.disac4.specs.Event.{Event, events, deleted}
 use Rattle.disac4.specs.Loading.{load}
 use Rattle.disac4.specs.State.{State, Message, list, poll, reply}
-use Rattle.disac4.specs.System.{System}
+use Rattle.disac4.specs.System.{System, Worker, Sound}
 use Rattle.disac4.specs.Turn.{Turn, play}
 
 -- a channel without list messages carries no label

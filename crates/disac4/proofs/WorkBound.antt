@@ -9,15 +9,14 @@ use Rattle.base.proofs.Choice.{update-same, update-other}
 use Rattle.base.proofs.Sums.{sum-zero}
 use Rattle.network.specs.Network.{Label, labelCount}
 use Rattle.disac4.proofs.Channels.{into, into-take, into-other, into-falls, into-broadcast, into-broadcast-self}
-use Rattle.disac4.proofs.Moves.{Worker, Moves, treats, sends, reads, hears, ignores, answers, asks, tallies, marks, drops, discards, kept}
+use Rattle.disac4.proofs.Moves.{Moves, treats, sends, reads, hears, ignores, answers, asks, tallies, marks, drops, discards, kept}
 use Rattle.disac4.proofs.SendBound.{unsentLabels, treat-unsent, send-unsent, load-unsent, unsent-part, sends-and-unsent}
-use Rattle.disac4.proofs.Sound.{Sound}
 use Rattle.disac4.proofs.Typed.{not-controller}
 use Rattle.disac4.specs.Action.{deletions, pollOf, afterTreat, afterSend, afterList, afterPoll, afterDrop, afterAnswer, afterAsk, afterCount, afterMark}
 use Rattle.disac4.specs.Event.{Event}
 use Rattle.disac4.specs.Loading.{load}
 use Rattle.disac4.specs.State.{State, Message, list, poll, reply}
-use Rattle.disac4.specs.System.{System}
+use Rattle.disac4.specs.System.{System, Worker, Sound}
 use Rattle.disac4.specs.Turn.{Turn, play}
 
 -- how many labels a message carries

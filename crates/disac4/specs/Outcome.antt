@@ -1,10 +1,10 @@
 -- The whole outcome of each run: its answer and every cell of the lent buffers, from all of its inputs.
-use Prim.Native.Nat.{ℕ}
+use Prim.Native.Nat.{ℕ, _<_, _≤_}
 use mathlib.Core.List.{List, [], _∷_, _++_}
 use mathlib.Core.Option.{Option, none, some}
 use mathlib.Core.Path.{_≡_}
 use lib.Dec.{leb}
-use lib.ListN.{length, drop, replicate}
+use lib.ListN.{length, getD, drop, replicate}
 use Rattle.base.specs.Choice.{firstOf}
 use Rattle.plan.specs.Check.{Check, _orElse_, firstFault, faultAt}
 use Rattle.plan.specs.Decode.{planFault, planOf}
@@ -85,3 +85,18 @@ unfoldable pub roundRun : List ℕ → List ℕ → List ℕ → Outcome
 roundRun bytes work lists =
     unlessFault (played work lists (systemAt bytes) (roundRunTurns (systemAt bytes))) (refused work lists)
     (firstOf (bufferFault work lists) (planFault bytes))
+
+-- ---- the two ways in which a call ends
+
+-- a declined call changes no lent cell
+pub record Untouched (work lists : List ℕ) (o : Outcome) : Type 0 where
+  pub same-work : o .work ≡ work
+  pub same-lists : o .lists ≡ lists
+
+-- a run clears the first work cells, writes a cell for each variable, and keeps all later cells
+pub record Written (work lists : List ℕ) (sys : System) (turns : List Turn) (o : Outcome) : Type 0 where
+  pub cleared : (i : ℕ) → i < workNeed → getD (o .work) i 0 ≡ 0
+  pub work-kept : (i : ℕ) → workNeed ≤ i → getD (o .work) i 0 ≡ getD work i 0
+  pub cells : (i : ℕ) → i < length (listCells sys (final sys turns))
+      → getD (o .lists) i 0 ≡ getD (listCells sys (final sys turns)) i 0
+  pub lists-kept : (i : ℕ) → length (listCells sys (final sys turns)) ≤ i → getD (o .lists) i 0 ≡ getD lists i 0

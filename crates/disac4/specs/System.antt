@@ -1,5 +1,5 @@
 -- A constraint network whose variables are spread over workers (kitchens).
-use Prim.Native.Nat.{ℕ, _+_, _*_}
+use Prim.Native.Nat.{ℕ, _+_, _*_, _<_, _≤_}
 use Rattle.network.specs.Network.{Network, labelCount}
 use Rattle.plan.specs.Network.{networkOf}
 use Rattle.plan.specs.Plan.{Plan, variableOf}
@@ -14,6 +14,17 @@ pub record System : Type 0 where
 
 unfoldable pub systemOf : Plan → System
 systemOf plan = record { net = networkOf plan; workers = plan .workers; owner = λ x. variableOf plan x .owner }
+
+-- an actor that is a worker
+pub record Worker (sys : System) (k : ℕ) : Type 0 where
+  pub above : 0 < k
+  pub within : k ≤ sys .workers
+
+-- one to eight workers, and every variable has its owner among them: so is each accepted plan's system
+pub record Sound (sys : System) : Type 0 where
+  pub few : sys .workers ≤ 8
+  pub some-worker : 0 < sys .workers
+  pub owned : (x : ℕ) → x < sys .net .variables → Worker sys (sys .owner x)
 
 -- demand 3: at most this many turns of a run change something, 5pL + 2L + 3p + 1
 unfoldable pub turnBound : ℕ → ℕ → ℕ

@@ -1,17 +1,16 @@
 -- A run that goes on can be played one turn further.
-use Prim.Native.Nat.{ℕ, _+_, _/_, _%_, _^_, _<_, _≤_}
+use Prim.Native.Nat.{ℕ, _+_, _/_, _%_, _<_, _≤_}
 use mathlib.Core.Bool.{Bool, true, false, cond, _&&_}
-use mathlib.Core.List.{List, [], _∷_, _++_}
-use mathlib.Core.Option.{Option, none, some, Option·getD}
-use mathlib.Core.Path.{_≡_, refl, sym, _∙_, ap, subst}
+use mathlib.Core.List.{List, [], _∷_}
+use mathlib.Core.Option.{Option, none}
+use mathlib.Core.Path.{_≡_, sym, _∙_, ap}
 use native.Mathlib.Nat.{pow-le-pow-right}
 use native.Mathlib.Omega.{arith}
-use lib.ListN.{length}
 use Rattle.base.proofs.Sums.{one-le}
 use Rattle.base.specs.Below.{one}
 use Rattle.disac4.specs.Outcome.{systemAt}
 use Rattle.disac4.specs.Report.{isSend, isPoll}
-use Rattle.disac4.specs.System.{System, systemOf}
+use Rattle.disac4.specs.System.{systemOf}
 use Rattle.disac4.specs.Turn.{Turn, turn, isSome}
 use Rattle.disac4.specs.declared.Tally.{Tally}
 use Rattle.engine.proofs.RunLaws.{workers-are, one-and}
@@ -19,16 +18,16 @@ use Rattle.refinement.proofs.Start.{fits-regions}
 use Rattle.refinement.proofs.Underway.{under-inv, under-ready, under-small, at-next}
 use Rattle.index.specs.Allowed.{Listed}
 use Rattle.refinement.specs.Inv.{Inv, Code}
-use Rattle.cells.specs.Layout.{WORKERS, WORK, HEAD, TAIL}
+use Rattle.cells.specs.Layout.{WORKERS, HEAD}
 use Rattle.cells.specs.Memory.{memOf}
-use Rattle.refinement.specs.Run.{turnOn, At, Going, Plays, Playable}
+use Rattle.refinement.specs.Run.{turnOn, Going, Plays, Playable}
 use Rattle.controller.specs.Controller.{Machine, machine, Hears}
 use Rattle.refinement.specs.Step.{stepM, afterM}
 use Rattle.controller.specs.declared.Heard.{Heard}
 use Rattle.refinement.specs.declared.Progress.{Progress}
 use Rattle.plan.proofs.Parts.{variables-read}
-use Rattle.plan.specs.Decode.{planFault, planOf}
-use Rattle.format.specs.Format.{workerCount, variableCount}
+use Rattle.plan.specs.Decode.{planFault}
+use Rattle.format.specs.Format.{workerCount}
 use Rattle.plan.specs.Network.{networkOf}
 use Rattle.plan.specs.WellFormed.{sizeOf}
 

@@ -2,20 +2,19 @@
 use Prim.Native.Nat.{ℕ, _^_, _<_}
 use mathlib.Core.List.{List}
 use mathlib.Core.Option.{none}
-use mathlib.Core.Path.{_≡_, refl, sym, _∙_, ap}
+use mathlib.Core.Path.{_≡_, _∙_, ap}
 use lib.ListN.{length, replicate}
 use Rattle.disac4.specs.Outcome.{overwrite, workNeed, systemAt}
 use Rattle.disac4.specs.Report.{lowestEmpty, statusOf, listCells, final, reportOf}
 use Rattle.disac4.specs.State.{State}
-use Rattle.disac4.specs.System.{System, systemOf}
+use Rattle.disac4.specs.System.{systemOf}
 use Rattle.disac4.specs.Turn.{Turn}
 use Rattle.disac4.specs.declared.Report.{Report}
 use Rattle.refinement.proofs.Behind.{behind-same}
 use Rattle.refinement.proofs.Underway.{under-ready, under-view, under-behind, under-changes, under-sends, under-polls}
 use Rattle.cells.specs.Memory.{Mem, memOf}
 use Rattle.index.specs.Index.{Ready}
-use Rattle.refinement.specs.Run.{viewOf, At, Going, reportM, Finishes}
-use Rattle.controller.specs.Controller.{machine}
+use Rattle.refinement.specs.Run.{At, Going, reportM, Finishes}
 use Rattle.cells.specs.View.{view}
 use Rattle.refinement.specs.declared.Progress.{Progress}
 use Rattle.plan.specs.Decode.{planFault, planOf}

@@ -14,7 +14,6 @@ use Rattle.base.proofs.Sums.{one-le}
 use Rattle.base.specs.Below.{gatherBelow}
 use Rattle.cells.specs.Memory.{Mem, memOf, Acts}
 use Rattle.controller.specs.Controller.{machine, Hears}
-use Rattle.controller.specs.declared.Heard.{Heard}
 use Rattle.disac4.specs.Outcome.{systemAt}
 use Rattle.disac4.specs.Report.{isSend, isPoll}
 use Rattle.disac4.specs.Turn.{Turn, turn, allowed, isSome}

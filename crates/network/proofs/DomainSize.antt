@@ -2,12 +2,8 @@
 use Prim.Native.Nat.{ℕ, _+_, _<_}
 use mathlib.Core.Path.{_≡_, sym, _∙_}
 use Rattle.base.proofs.Sums.{sum-ext, sum-add}
-use Rattle.base.specs.Below.{sumBelow, one, countBelow}
-use Rattle.network.specs.Network.{Network, Domains}
-
--- the loaded labels in the domains
-unfoldable pub domainSize : Network → Domains → ℕ
-domainSize net d = sumBelow (net .variables) (λ x. countBelow (net .size x) (d x))
+use Rattle.base.specs.Below.{one}
+use Rattle.network.specs.Network.{Network, Domains, domainSize}
 
 -- domains that are made of two parts
 pub size-split : (net : Network) (d e t : Domains)

@@ -10,10 +10,9 @@ use Rattle.base.proofs.Below.{any-below, some-below, all-below, every-below, fa
 use Rattle.base.proofs.Bools.{decided, and-left, and-right, and-intro, and-false-right, implied, implies, not-implied}
 use Rattle.base.proofs.Sums.{sum-le, sum-less, one-mono, one-less}
 use Rattle.base.specs.Below.{countBelow, anyBelow, allBelow, one}
-use Rattle.network.proofs.DomainSize.{domainSize}
 use Rattle.network.proofs.Loaded.{loaded-variable, loaded-value}
 use Rattle.network.specs.Consistency.{Within, Supported, ArcConsistent, ConsistentWithin}
-use Rattle.network.specs.Network.{Network, Domains, loaded}
+use Rattle.network.specs.Network.{Network, Domains, loaded, domainSize}
 
 -- a value of `y` in the domains `d` supports label `v` of `x`
 abbrev pub supportedIn : Network → Domains → ℕ → ℕ → ℕ → Bool

@@ -3,7 +3,7 @@ use Prim.Native.Nat.{ℕ}
 use mathlib.Core.Bool.{Bool, cond, _&&_}
 use mathlib.Core.List.{List, [], _∷_}
 use lib.Dec.{ltb, eqb}
-use Rattle.base.specs.Below.{sumBelow, gatherBelow}
+use Rattle.base.specs.Below.{sumBelow, countBelow, gatherBelow}
 use Rattle.base.specs.Row.{rowOf, rowCount}
 
 pub record Network : Type 0 where
@@ -51,3 +51,7 @@ supports net x v y w = net .linked x y && net .allows x v y w
 -- how many of the loaded values of `y` support label `v` of `x`, counted by the row of them
 unfoldable pub supportCount : Network → ℕ → ℕ → ℕ → ℕ
 supportCount net x v y = rowCount (net .size y) (rowOf (net .size y) (supports net x v y))
+
+-- how many of the loaded labels are in the domains
+unfoldable pub domainSize : Network → Domains → ℕ
+domainSize net d = sumBelow (net .variables) (λ x. countBelow (net .size x) (d x))

@@ -7,17 +7,14 @@ use cells::layout;
 use format::read;
 use index::parts;
 ghost use mathlib.Core.Bool.{true};
-ghost use mathlib.Core.List.{List};
 ghost use mathlib.Core.Path.{_≡_};
 ghost use Prim.Native.Nat.{ℕ, _+_, _-_, _<_, _≤_};
 ghost use lib.ListN.{length};
 ghost use Rattle.base.specs.Row.{bit, rowOf};
 ghost use Rattle.index.specs.Allowed.{permitsFrom, limited, inColumn, Listed};
-ghost use Rattle.index.specs.Index.{Indexed, Ready};
-ghost use Rattle.cells.specs.Memory.{memOf};
+ghost use Rattle.index.specs.Index.{Ready};
 ghost use Rattle.network.specs.Network.{supports, supportCount};
 ghost use Rattle.plan.specs.Decode.{planOf};
-ghost use Rattle.format.specs.Format.{variableCount};
 ghost use Rattle.plan.specs.Network.{withinLimit, shareConstraint, pairAllowed, networkOf};
 ghost use Rattle.plan.specs.WellFormed.{sizeOf};
 

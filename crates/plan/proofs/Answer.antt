@@ -1,9 +1,7 @@
 -- What the plan check's answer says of the plan.
 use Prim.Native.Nat.{ℕ, suc}
 use mathlib.Core.List.{List}
-use mathlib.Core.Option.{Option, none, some}
-use mathlib.Core.Path.{_≡_, refl, sym, _∙_, ap}
-use native.Mathlib.Omega.{arith}
+use mathlib.Core.Path.{_≡_, sym, _∙_, ap}
 use lib.ListN.{length}
 use Rattle.base.proofs.Sums.{sum-ext}
 use Rattle.base.specs.Below.{sumBelow}
@@ -11,12 +9,11 @@ use Rattle.format.specs.Format.{workerCount, variableCount, constraintCount, si
 use Rattle.network.specs.Network.{labelCount}
 use Rattle.plan.proofs.Parts.{variables-read, constraints-read, size-read}
 use Rattle.plan.specs.Answer.{figuresOf, checkedAs, planCheck}
-use Rattle.plan.specs.Decode.{planFault, planOf, Decoded, accepted, declined, decodedAs, decode}
+use Rattle.plan.specs.Decode.{planOf, accepted, decode}
 use Rattle.plan.specs.Network.{networkOf}
 use Rattle.plan.specs.Plan.{Plan}
 use Rattle.plan.specs.WellFormed.{sizeOf}
-use Rattle.plan.specs.declared.Checked.the-variants.{Accepted, Declined}
-use Rattle.plan.specs.declared.Decline.{Decline}
+use Rattle.plan.specs.declared.Checked.the-variants.{Accepted}
 use Rattle.plan.specs.declared.Figures.{Figures}
 
 -- L of the decoded plan is the sum of the counts that its sections give

@@ -2,13 +2,13 @@
 use Prim.Native.Nat.{ℕ, suc, _<_}
 use mathlib.Core.Bool.{true, _||_}
 use mathlib.Core.Logic.{_⊎_, inl, inr, ⊎-elim}
-use mathlib.Core.Path.{_≡_, refl}
+use mathlib.Core.Path.{_≡_}
 use native.Mathlib.Omega.{arith}
 use borrow.Author.Tests.{eqb-true, eq-eqb}
 use lib.Dec.{eqb}
 use lib.ListN.{length}
-use Rattle.base.proofs.Bools.{and-left, and-right, and-intro, or-cases, or-left, or-comm}
-use Rattle.base.proofs.Members.{any-at, at-any, any-ext}
+use Rattle.base.proofs.Bools.{and-left, and-right, and-intro, or-cases, or-comm}
+use Rattle.base.proofs.Members.{any-at, any-ext}
 use Rattle.plan.specs.Network.{joins, shareConstraint}
 use Rattle.plan.specs.Plan.{Plan, Constraint}
 use Rattle.plan.specs.WellFormed.{noConstraint, constraintOf, ConstraintFits, WellFormed}

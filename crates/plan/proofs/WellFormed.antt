@@ -5,7 +5,6 @@ use mathlib.Core.Option.{none}
 use mathlib.Core.Path.{_≡_}
 use native.Mathlib.Omega.{arith}
 use borrow.Author.Tests.{leb-true}
-use lib.Dec.{leb}
 use lib.ListN.{length}
 use Rattle.base.proofs.Choice.{between-low, between-high}
 use Rattle.base.proofs.Sums.{sum-le, sum-const}

@@ -18,8 +18,7 @@ use Rattle.cells.proofs.Queue.{queue-put}
 use Rattle.cells.proofs.Stores.{store-other}
 use Rattle.cells.specs.Layout.{WORKERS, WANTED, HELD}
 use Rattle.cells.specs.Memory.{Mem}
-use Rattle.controller.specs.Controller.{askM, askedT, asksT}
-use Rattle.controller.specs.Controller.{Machine, pollM}
+use Rattle.controller.specs.Controller.{askM, askedT, asksT, Machine, pollM}
 use Rattle.cells.specs.View.{isWorker, pollAt, viewLists, viewPolls, view}
 use Rattle.refinement.proofs.Capacity.{held-few, timestamp-few}
 use Rattle.refinement.proofs.ChannelRows.{atChannel, at-polls, Stays, channels-broadcast}

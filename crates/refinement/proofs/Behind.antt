@@ -14,8 +14,7 @@ use Rattle.disac4.proofs.Outcome.{overwrite-front, overwrite-back}
 use Rattle.disac4.specs.Outcome.{overwrite, workNeed}
 use Rattle.cells.proofs.Regions.{past-table, place-low}
 use Rattle.cells.specs.Layout.{BEHIND, regionAt, address}
-use Rattle.cells.specs.Memory.{clearedM}
-use Rattle.cells.specs.Memory.{memOf}
+use Rattle.cells.specs.Memory.{clearedM, memOf}
 
 need : workNeed ≡ 24576
 unfolding workNeed

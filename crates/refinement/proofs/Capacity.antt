@@ -7,18 +7,17 @@ use native.Mathlib.Nat.{le-refl}
 use native.Mathlib.Omega.{arith}
 use lib.Dec.{leb, eqb}
 use Rattle.base.proofs.Bools.{decided}
-use Rattle.base.proofs.Choice.{update-same, update-other}
+use Rattle.base.proofs.Choice.{update-same, update-other, update-each}
 use Rattle.base.proofs.Sums.{sum-change, sum-le, sum-part, sum-beside, count-more}
 use Rattle.base.specs.Below.{sumBelow}
 use Rattle.base.specs.Choice.{update}
-use Rattle.network.proofs.DomainSize.{domainSize}
-use Rattle.base.proofs.Choice.{update-each}
 use Rattle.disac4.specs.System.{System}
 use Rattle.cells.specs.Layout.{WORKERS, CURSORS, BOUNDS, OUT, WANTED, DOMAIN, TAIL, LOGEND, SENDS, LISTS, HELD, OUTEND, OUTREAD}
 use Rattle.cells.specs.Memory.{Mem}
 use Rattle.controller.specs.Controller.{Machine}
 use Rattle.cells.specs.View.{LISTED, LISTMARK}
 use Rattle.refinement.specs.Inv.{Small, Inv, listsOut}
+use Rattle.network.specs.Network.{domainSize}
 
 climbs : (f : ℕ → ℕ) (from d : ℕ) → ((n : ℕ) → from ≤ n → n < from + d → f n < f (n + 1)) → f from + d ≤ f (from + d)
 climbs f from zero h = let e : from + 0 ≡ from = omega arith in omega (arith, ap f e)

@@ -8,10 +8,9 @@ use native.Mathlib.Omega.{arith}
 use borrow.Author.Tests.{leb-true, eqb-true, eqb-false, ne-eqb, not-true}
 use lib.Dec.{leb, eqb}
 use Rattle.base.proofs.Bools.{and-left, and-right, refuted}
-use Rattle.base.proofs.Choice.{cond-false, between-low, between-high}
+use Rattle.base.proofs.Choice.{cond-false, between-low, between-high, update₂-each}
 use Rattle.base.specs.Choice.{update₂}
 use Rattle.disac4.proofs.Channels.{broadcast-to, broadcast-sender}
-use Rattle.base.proofs.Choice.{update₂-each}
 use Rattle.disac4.specs.Action.{broadcast}
 use Rattle.disac4.specs.State.{Message}
 use Rattle.disac4.specs.System.{System}

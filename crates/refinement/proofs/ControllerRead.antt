@@ -20,8 +20,7 @@ use Rattle.disac4.specs.declared.Tally.{Tally}
 use Rattle.cells.proofs.Queue.{queue-taken, queue-none}
 use Rattle.cells.specs.Layout.{WORKERS, OUT, LISTS, OUTEND, OUTREAD}
 use Rattle.cells.specs.Memory.{Mem}
-use Rattle.controller.specs.Controller.{countedT, markedT, toldT, withMark, hasOut, outReadM}
-use Rattle.controller.specs.Controller.{Machine, hearM}
+use Rattle.controller.specs.Controller.{countedT, markedT, toldT, withMark, hasOut, outReadM, Machine, hearM}
 use Rattle.cells.specs.View.{LISTMARK, isWorker, listAt, messageOf, viewLists, viewOut, view}
 use Rattle.refinement.proofs.Actors.{atActor, at-worker, actors-update}
 use Rattle.refinement.proofs.Capacity.{heard-few, outend-few}

@@ -9,7 +9,6 @@ use lib.Dec.{leb, eqb}
 use Rattle.base.proofs.Choice.{everywhere}
 use Rattle.base.proofs.Sums.{sum-ext, count-ext}
 use Rattle.base.specs.Below.{sumBelow, one}
-use Rattle.network.proofs.DomainSize.{domainSize}
 use Rattle.disac4.specs.System.{System}
 use Rattle.disac4.specs.declared.Tally.{Tally}
 use Rattle.cells.specs.Layout.{WORKERS, CURSORS, BOUNDS, LOG, WORK, OUT, WANTED, DOMAIN, HEADS, HEAD, TAIL, LOGEND, SENDS, LISTS, HELD, POLLS, OUTEND, OUTREAD}
@@ -18,6 +17,7 @@ use Rattle.controller.specs.Controller.{Machine}
 use Rattle.cells.specs.View.{LISTED, LISTMARK}
 use Rattle.refinement.specs.Inv.{Code, Row, Polled, Replied, Inv, Totals, listsOut}
 use Rattle.index.specs.Index.{Paired}
+use Rattle.network.specs.Network.{domainSize}
 
 -- a worker's cells, those of its row of cursors apart
 pub record SameRow (m m′ : Mem) (i : ℕ) : Type 0 where

@@ -16,8 +16,7 @@ use Rattle.disac4.specs.declared.Tally.{Tally}
 use Rattle.cells.proofs.Stores.{store-same, store-other}
 use Rattle.cells.specs.Layout.{WORKERS, OUT, OUTEND, OUTREAD}
 use Rattle.cells.specs.Memory.{Mem}
-use Rattle.controller.specs.Controller.{countedT, markedT, toldT, hasOut, outReadM}
-use Rattle.controller.specs.Controller.{Machine, hearM}
+use Rattle.controller.specs.Controller.{countedT, markedT, toldT, hasOut, outReadM, Machine, hearM}
 use Rattle.cells.specs.View.{LISTMARK}
 use Rattle.refinement.proofs.Frame.{OnlyRow, Answered, Follows, row-action, replied-kept, follows-itself, lists-out-kept, lists-out-more}
 use Rattle.refinement.proofs.Marks.{mark-small}

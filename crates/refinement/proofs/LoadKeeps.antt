@@ -9,11 +9,10 @@ use lib.ListN.{length}
 use lib.Pow.{pow-pos}
 use Rattle.base.proofs.Bools.{clash, and-left}
 use Rattle.base.proofs.Sums.{sum-ext, sum-zero}
-use Rattle.network.proofs.DomainSize.{domainSize}
 use Rattle.disac4.proofs.DomainSize.{load-size, deletions-loaded}
 use Rattle.disac4.specs.Loading.{unsupported, loadedDeletions, load}
 use Rattle.disac4.specs.System.{System}
-use Rattle.network.specs.Network.{loaded}
+use Rattle.network.specs.Network.{loaded, domainSize}
 use Rattle.cells.specs.Layout.{WORKERS, CURSORS, BOUNDS, HEAD, TAIL, LOGEND, SENDS, LISTS, HELD, POLLS, OUTEND, OUTREAD}
 use Rattle.loading.specs.Load.{loadM}
 use Rattle.cells.specs.Memory.{Mem}

@@ -17,8 +17,7 @@ use Rattle.cells.proofs.Stores.{store-same, store-other}
 use Rattle.cells.specs.Layout.{WORKERS, WANTED, LISTS, HELD, POLLS}
 use Rattle.cells.specs.Memory.{Mem, store}
 use Rattle.reads.specs.Reads.{readPollM}
-use Rattle.controller.specs.Controller.{askM, askedT, asksT}
-use Rattle.controller.specs.Controller.{Machine, pollM}
+use Rattle.controller.specs.Controller.{askM, askedT, asksT, Machine, pollM}
 use Rattle.refinement.proofs.Frame.{OnlyRow, row-kept, totals-kept, paired-kept, worker-action}
 use Rattle.refinement.specs.Inv.{Row, Polled, Replied, Totals, Inv}
 

@@ -19,9 +19,8 @@ use Rattle.index.specs.Index.{Indexed, indexM}
 use Rattle.refinement.specs.Inv.{Small, Inv}
 use Rattle.cells.specs.Layout.{HEADS, BEHIND}
 use Rattle.loading.proofs.Kept.{load-variables-kept}
-use Rattle.cells.specs.Memory.{clearedM}
+use Rattle.cells.specs.Memory.{clearedM, Mem}
 use Rattle.loading.specs.Load.{loadM}
-use Rattle.cells.specs.Memory.{Mem}
 use Rattle.refinement.specs.Run.{viewOf, startM}
 use Rattle.plan.specs.Decode.{planFault, planOf, decode, accepted, decodedAs}
 

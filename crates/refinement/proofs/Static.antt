@@ -16,9 +16,8 @@ use Rattle.cells.specs.Memory.{Mem, store}
 use Rattle.sends.specs.Sends.{sentM, sendM}
 use Rattle.reads.specs.Reads.{letterEnd, letterStart, takenM, readListM, readPollM}
 use Rattle.answers.specs.Answers.{answeredM, emptyM, answerM}
-use Rattle.controller.specs.Controller.{askM, askedT, asksT, hasOut, outReadM, toldT}
+use Rattle.controller.specs.Controller.{askM, askedT, asksT, hasOut, outReadM, toldT, Machine, hearM, pollM}
 use Rattle.refinement.specs.Run.{playM}
-use Rattle.controller.specs.Controller.{Machine, hearM, pollM}
 use Rattle.refinement.specs.Step.{withMem, readM, workerM, stepM, afterM}
 use Rattle.treating.proofs.Kept.{touch-variables-kept}
 use Rattle.treating.specs.Treat.{treatM}

@@ -12,13 +12,12 @@ use lib.ListN.{length}
 use Rattle.base.proofs.Bools.{and-left}
 use Rattle.base.proofs.Choice.{everywhere}
 use Rattle.base.proofs.Sums.{sum-change}
-use Rattle.network.proofs.DomainSize.{domainSize}
 use Rattle.disac4.proofs.DomainSize.{treat-size}
 use Rattle.disac4.specs.Action.{deletes, deletions}
 use Rattle.disac4.specs.State.{State}
 use Rattle.disac4.specs.System.{System}
 use Rattle.disac4.specs.declared.Tally.{Tally}
-use Rattle.network.specs.Network.{Label}
+use Rattle.network.specs.Network.{Label, domainSize}
 use Rattle.cells.specs.Layout.{WORKERS, LOG, WORK, DOMAIN, HEAD, TAIL, LOGEND, SENDS, LISTS, OUTEND, OUTREAD}
 use Rattle.cells.specs.Memory.{Mem, store}
 use Rattle.controller.specs.Controller.{Machine}

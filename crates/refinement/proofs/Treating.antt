@@ -12,14 +12,13 @@ use lib.ListN.{length}
 use Rattle.base.proofs.Bools.{clash, refuted, and-left, and-right, and-false-left, and-true, and-never}
 use Rattle.base.proofs.Choice.{cond-true, cond-false}
 use Rattle.base.specs.Choice.{update}
-use Rattle.network.proofs.DomainSize.{domainSize}
 use Rattle.disac4.proofs.DomainSize.{treat-size}
 use Rattle.disac4.specs.Action.{loses, lowered, deletes, deletions, afterTreat, treat, treatFrom}
 use Rattle.disac4.specs.State.{State}
 use Rattle.disac4.specs.System.{System}
 use Rattle.disac4.specs.declared.Tally.{Tally}
 use Rattle.network.proofs.Loaded.{loaded-variable, loaded-value}
-use Rattle.network.specs.Network.{Label, label, loaded, labelsWhere}
+use Rattle.network.specs.Network.{Label, label, loaded, labelsWhere, domainSize}
 use Rattle.cells.proofs.Queue.{labels-first, labels-none, labels-same}
 use Rattle.cells.proofs.Stores.{store-same, store-other}
 use Rattle.cells.specs.Layout.{WORKERS, CURSORS, BOUNDS, LOG, WORK, OUT, WANTED, DOMAIN, COUNTERS, HEADS, HEAD, TAIL, LOGEND, SENDS}

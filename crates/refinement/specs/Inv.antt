@@ -1,15 +1,13 @@
 -- What holds of the memory in every run: the queues are in order, nothing overflows, and the counters lie apart.
 use Prim.Native.Nat.{ℕ, _+_, _-_, _/_, _%_, _^_, _<_, _≤_}
-use mathlib.Core.Bool.{Bool, true, false}
+use mathlib.Core.Bool.{true, false}
 use mathlib.Core.Logic.{_⊎_}
 use mathlib.Core.Path.{_≡_}
 use lib.Dec.{leb, eqb}
 use Rattle.base.specs.Below.{sumBelow, countBelow}
-use Rattle.network.proofs.DomainSize.{domainSize}
-use Rattle.disac4.proofs.Sound.{Sound}
-use Rattle.disac4.specs.System.{System}
+use Rattle.disac4.specs.System.{System, Sound}
 use Rattle.disac4.specs.declared.Tally.{Tally}
-use Rattle.network.specs.Network.{loaded, labelCount}
+use Rattle.network.specs.Network.{loaded, labelCount, domainSize}
 use Rattle.cells.specs.Layout.{WORKERS, CURSORS, BOUNDS, LOG, WORK, OUT, WANTED, DOMAIN, HEAD, TAIL, LOGEND, SENDS, LISTS, HELD, POLLS, OUTEND, OUTREAD}
 use Rattle.cells.specs.Memory.{Mem}
 use Rattle.index.specs.Index.{Paired}

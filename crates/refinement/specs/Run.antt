@@ -16,9 +16,8 @@ use Rattle.disac4.specs.declared.Tally.{Tally}
 use Rattle.index.specs.Allowed.{Listed}
 use Rattle.index.specs.Index.{Ready, indexM}
 use Rattle.cells.specs.Layout.{WORKERS, WORK, HEAD, TAIL}
-use Rattle.cells.specs.Memory.{clearedM}
+use Rattle.cells.specs.Memory.{clearedM, Mem, memOf}
 use Rattle.loading.specs.Load.{loadM}
-use Rattle.cells.specs.Memory.{Mem, memOf}
 use Rattle.controller.specs.Controller.{Machine, machine}
 use Rattle.refinement.specs.Step.{readM, workerM, stepM, afterM}
 use Rattle.cells.specs.View.{view}

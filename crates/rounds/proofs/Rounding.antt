@@ -7,13 +7,12 @@ use lib.ListN.{length}
 use Rattle.disac4.proofs.Demands.{Reached}
 use Rattle.disac4.proofs.Potential.{potential}
 use Rattle.disac4.proofs.RoundRun.{play-append}
-use Rattle.disac4.proofs.Sound.{Sound}
 use Rattle.disac4.specs.Loading.{load}
 use Rattle.disac4.specs.Outcome.{systemAt}
 use Rattle.disac4.specs.Report.{final}
 use Rattle.disac4.specs.Round.{round, roundRunTurns}
 use Rattle.disac4.specs.State.{State}
-use Rattle.disac4.specs.System.{System}
+use Rattle.disac4.specs.System.{System, Sound}
 use Rattle.disac4.specs.Turn.{Turn, play}
 use Rattle.engine.proofs.Playing.{goes-after}
 use Rattle.rounds.proofs.RoundsLeft.{left, roundOn, left-loaded, left-closed, left-lowers, left-open}

@@ -8,11 +8,10 @@ use Rattle.disac4.proofs.Bound.{potential-loaded}
 use Rattle.disac4.proofs.Demands.{Reached, reached-advances}
 use Rattle.disac4.proofs.Potential.{potential}
 use Rattle.disac4.proofs.RoundRun.{turns-closed, turns-open, round-lowers, rounds-enough}
-use Rattle.disac4.proofs.Sound.{Sound}
 use Rattle.disac4.specs.Loading.{load}
 use Rattle.disac4.specs.Round.{round, roundTurns, roundRunTurns}
 use Rattle.disac4.specs.State.{State}
-use Rattle.disac4.specs.System.{System}
+use Rattle.disac4.specs.System.{System, Sound}
 use Rattle.disac4.specs.Turn.{Turn, play}
 
 abbrev pub left : System → State → List Turn

@@ -14,9 +14,9 @@ use Rattle.base.proofs.Row.{row-bit}
 use Rattle.base.specs.Choice.{firstOf, allOf}
 use Rattle.base.specs.Row.{bit, rowOf}
 use Rattle.disac4.proofs.Demands.{demand2, demand3, round-closes-plan}
-use Rattle.disac4.proofs.Outcome.{Untouched, Written, turnRun-declined, roundRun-declined, turnRun-reported, roundRun-reported}
+use Rattle.disac4.proofs.Outcome.{turnRun-declined, roundRun-declined, turnRun-reported, roundRun-reported}
 use Rattle.disac4.specs.Demands.{closedAfter, Demand2, Demand3, RoundCloses}
-use Rattle.disac4.specs.Outcome.{Outcome, Gives, refused, unlessFault, bufferFault, inputFault, systemAt, turnRun, roundRun}
+use Rattle.disac4.specs.Outcome.{Outcome, Gives, refused, unlessFault, bufferFault, inputFault, systemAt, turnRun, roundRun, Untouched, Written}
 use Rattle.disac4.specs.Report.{final, listCells, lowestEmpty, statusOf, reportOf}
 use Rattle.disac4.specs.Round.{roundRunTurns}
 use Rattle.disac4.specs.System.{systemOf}

@@ -6,9 +6,8 @@ use mathlib.Core.Path.{_≡_}
 use lib.ListN.{getD}
 use Rattle.base.specs.Choice.{allOf}
 use Rattle.base.specs.Row.{bit}
-use Rattle.disac4.proofs.Outcome.{Written}
 use Rattle.disac4.specs.Demands.{Demand2, Demand3}
-use Rattle.disac4.specs.Outcome.{systemAt}
+use Rattle.disac4.specs.Outcome.{systemAt, Written}
 use Rattle.disac4.specs.Report.{final, reportOf}
 use Rattle.disac4.specs.System.{boundOf}
 use Rattle.disac4.specs.Turn.{Turn, allowed}

@@ -1,12 +1,11 @@
 -- `loading::count_pair` counts the supports of a variable's values in another. Invariant: the counters of the first v
 -- values are stored, and the row holds those of them whose count is not 0. Assumes nothing.
 use Prim.Native.Nat.{ℕ, _+_, _-_, _^_, _<_, _≤_}
-use borrow.Author.Needs.{needs}
 use denote.Ref.{now}
 use lib.ListN.{length}
 use mathlib.Core.Bool.{Bool, cond}
 use mathlib.Core.List.{List}
-use mathlib.Core.Path.{_≡_, refl, sym, _∙_, ap}
+use mathlib.Core.Path.{_≡_, refl, _∙_, ap}
 use native.Mathlib.Omega.{arith}
 use Rattle.base.proofs.Sums.{sum-more}
 use Rattle.base.specs.Row.{rowOf}
@@ -18,8 +17,7 @@ use Rattle.loading.proofs.LoadLaws.{counter-more, suits-linked}
 use Rattle.loading.proofs.count_pair.Statement.{statement}
 use Rattle.loading.proofs.count_pair.Tie as tie
 use Rattle.loading.specs.Load.{suits, countPairM}
-use Rattle.disac4.specs.System.{System, systemOf}
-use Rattle.format.specs.Format.{variableCount}
+use Rattle.disac4.specs.System.{systemOf}
 use Rattle.index.proofs.Labels.{label-small, numbered}
 use Rattle.index.proofs.Permitted.{row-low}
 use Rattle.index.proofs.Places.{few-sections}

@@ -1,5 +1,5 @@
 -- `rounds::worker_round` plays the turns of a worker. Assumes nothing.
-use Prim.Native.Nat.{_+_, _<_, _≤_}
+use Prim.Native.Nat.{_+_, _<_}
 use borrow.Author.Needs.{needs}
 use mathlib.Core.List.{[], _∷_, map}
 use mathlib.Core.Path.{refl}

@@ -5,7 +5,7 @@ use denote.Ref.{now}
 use Rattle.cells.proofs.Regions.{place-needed, get-law}
 use Rattle.cells.proofs.layout.get.Statement.{statement}
 use Rattle.cells.proofs.layout.get.Tie as tie
-use Prim.Native.Nat.{ℕ, _+_, _*_, _<_}
+use Prim.Native.Nat.{_<_}
 use Rattle.cells.specs.Layout.{address}
 
 -- the place, which every need speaks of

@@ -1,11 +1,9 @@
 -- `engine::run::advance` plays one turn more. Assumes nothing.
-use mathlib.Core.Path.{_≡_, refl, sym, ap, subst}
-use mathlib.Core.List.{[], _∷_}
+use mathlib.Core.Path.{refl, sym, ap}
 use Prim.Native.Nat.{ℕ, _+_}
 use native.Mathlib.Omega.{arith}
 use lib.Dec.{eqb}
 use denote.Ref.{now}
-use Rattle.disac4.specs.Turn.{turn}
 use Rattle.engine.proofs.Advancing.{counts-room, part-of}
 use Rattle.engine.proofs.Working.{running-by, worked-plays}
 use borrow.Author.Needs.{needs}

@@ -1,5 +1,4 @@
 -- `engine::run::read` takes the next poll or the next list message. Assumes nothing.
-use native.Mathlib.Omega.{arith}
 use borrow.Author.Needs.{needs}
 use denote.Ref.{now}
 use Rattle.cells.specs.Memory.{memOf}

@@ -2,11 +2,9 @@
 use denote.Ref.{now}
 use native.Mathlib.Omega.{arith}
 use Rattle.disac4.specs.Outcome.{systemAt}
-use Rattle.disac4.specs.System.{systemOf}
 use Rattle.engine.proofs.RunLaws.{acts-as, worker-treats, worker-sends, worker-answers, worker-reads}
 use Rattle.cells.specs.Memory.{memOf}
 use Rattle.refinement.specs.Run.{workerOn}
-use Rattle.plan.specs.Decode.{planOf}
 use borrow.Author.Needs.{needs}
 use Rattle.engine.proofs.run.work.Statement.{statement}
 use Rattle.engine.proofs.run.work.Tie as tie
