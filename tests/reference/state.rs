@@ -71,8 +71,8 @@ pub struct State {
     /// By worker, from 1; entry 0 is unused.
     pub workers: Vec<Worker>,
     pub controller: Controller,
-    /// The mailboxes, by sender and receiver.
-    channels: Vec<VecDeque<Message>>,
+    /// The mailboxes, by sender and receiver; copies of a state share each until one of them changes it.
+    channels: Vec<Rc<VecDeque<Message>>>,
 }
 
 #[derive(Clone, Copy, Debug, PartialEq, Eq)]
@@ -188,7 +188,7 @@ impl State {
 
     fn channel_mut(&mut self, from: usize, to: usize) -> &mut VecDeque<Message> {
         let width = self.workers.len();
-        &mut self.channels[from * width + to]
+        Rc::make_mut(&mut self.channels[from * width + to])
     }
 
     /// The state after loading.
@@ -207,7 +207,7 @@ impl State {
                 marks: vec![false; p + 1],
                 closed: false,
             },
-            channels: vec![VecDeque::new(); (p + 1) * (p + 1)],
+            channels: vec![Rc::new(VecDeque::new()); (p + 1) * (p + 1)],
         };
         for variable in 1..=n {
             for value in 0..plan.variables[variable - 1].values.len() {
