@@ -70,8 +70,8 @@ unfoldable pub viewLists : System → Mem → Tally → ℕ → ℕ
 viewLists sys m t k = cond (eqb k 0) (t .lists .0) (cond (isWorker sys k) (m WORKERS (k - 1) LISTS) 0)
 
 -- between workers: the sender's list messages that the reader has not read
-unfoldable pub viewLetters : Mem → ℕ → ℕ → List Message
-viewLetters m i k = listBetween (m CURSORS i k) (m WORKERS i SENDS) (λ n. list (listAt m i n))
+unfoldable pub viewListMessages : Mem → ℕ → ℕ → List Message
+viewListMessages m i k = listBetween (m CURSORS i k) (m WORKERS i SENDS) (λ n. list (listAt m i n))
 
 -- from the controller: the polls not read
 unfoldable pub viewPolls : Mem → Tally → ℕ → List Message
@@ -84,7 +84,7 @@ viewOut m i = listBetween (m WORKERS i OUTREAD) (m WORKERS i OUTEND) (λ e. mess
 unfoldable pub viewChannel : System → Mem → Tally → ℕ → ℕ → List Message
 viewChannel sys m t j k =
     cond (isWorker sys j)
-    (cond (isWorker sys k) (cond (eqb j k) [] (viewLetters m (j - 1) (k - 1))) (cond (eqb k 0) (viewOut m (j - 1)) []))
+    (cond (isWorker sys k) (cond (eqb j k) [] (viewListMessages m (j - 1) (k - 1))) (cond (eqb k 0) (viewOut m (j - 1)) []))
     (cond (eqb j 0 && isWorker sys k) (viewPolls m t (k - 1)) [])
 
 -- the row of the counters of `x` against `y`

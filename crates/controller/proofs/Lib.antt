@@ -1,2 +1,1 @@
 pub mod ControllerLaws
-pub mod Lent

@@ -16,8 +16,6 @@ ghost use lib.ListN.{length};
 ghost use Rattle.disac4.specs.System.{System};
 ghost use Rattle.controller.specs.Controller.{askedT, asksT, countedT, withMark, markedT, toldT, pollM, hearM, Hears};
 
-pub mod tally;
-
 // What an action of the controller gives: 1 where it changed something, and the tally after it.
 pub struct Heard {
     pub changed: usize,

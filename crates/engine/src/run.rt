@@ -111,7 +111,7 @@ fn hear_turn(b: &[u8], cells: &mut [u16], t: Tally, p: usize, d: usize) -> Heard
     if d == 12 {
         return controller::poll(cells, t);
     }
-    controller::tally::heard(cells, t, p, d - 1)
+    lent::heard(cells, t, p, d - 1)
 }
 
 // One turn more of the controller.

@@ -5,7 +5,6 @@ use plan::Decline;
 use plan::Fault;
 use plan::Figures;
 use plan::Verdict;
-use sections::constraint;
 use sections::section;
 use sections::variable;
 ghost use mathlib.Core.Path.{_≡_};
@@ -55,7 +54,7 @@ fn check_section(b: &[u8], k: usize, at: usize, starts: &[usize; 33]) -> Verdict
     if k <= read::variable_count(b) {
         return variable::check_variable(b, at);
     }
-    constraint::check_constraint(b, at, starts)
+    relations::check_constraint(b, at, starts)
 }
 
 // L: how many values the variables have together.
@@ -67,7 +66,7 @@ fn count_labels(b: &[u8], starts: &[usize; 33]) -> usize
     let mut labels = 0;
     let mut x = 0;
     while x < count {
-        labels += constraint::size_at(b, starts, x + 1);
+        labels += variable::size_at(b, starts, x + 1);
         x += 1;
     }
     labels

@@ -11,11 +11,11 @@ use Rattle.cells.specs.Memory.{Mem, store}
 -- ---- row `i` reads from row `j`
 
 -- where the next list message of row `j` for row `i` begins and ends in the log
-abbrev pub letterStart : ℕ → ℕ → Mem → ℕ
-letterStart j i m = m BOUNDS j (m CURSORS j i)
+abbrev pub listStart : ℕ → ℕ → Mem → ℕ
+listStart j i m = m BOUNDS j (m CURSORS j i)
 
-abbrev pub letterEnd : ℕ → ℕ → Mem → ℕ
-letterEnd j i m = m BOUNDS j (m CURSORS j i + 1)
+abbrev pub listEnd : ℕ → ℕ → Mem → ℕ
+listEnd j i m = m BOUNDS j (m CURSORS j i + 1)
 
 -- the list message from `from` to `to` in row `j`'s log is read; `read` lists of it were, and the list counter is `lists`
 unfoldable pub takenWith : ℕ → ℕ → ℕ → ℕ → ℕ → ℕ → Mem → Mem
@@ -24,13 +24,13 @@ takenWith j i read from to lists m =
 
 unfoldable pub takenM : ℕ → ℕ → Mem → Mem
 unfolding takenWith
-takenM j i m = takenWith j i (m CURSORS j i) (letterStart j i m) (letterEnd j i m) (m WORKERS i LISTS) m
+takenM j i m = takenWith j i (m CURSORS j i) (listStart j i m) (listEnd j i m) (m WORKERS i LISTS) m
 
 unfoldable pub readListM : ℕ → ℕ → Mem → Option Mem
 readListM j i m =
     cond (ltb (m CURSORS j i) (m WORKERS j SENDS))
     (cond (ltb (m CURSORS j i) 519)
-    (cond (leb (letterEnd j i m) 512)
+    (cond (leb (listEnd j i m) 512)
     (cond (ltb (m WORKERS i LISTS) 65535) (some (takenM j i m)) none)
     none)
     none)

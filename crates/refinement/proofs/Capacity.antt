@@ -109,10 +109,10 @@ module _ (sys : System) (small : Small sys) (s : Machine) (inv : Inv sys s) wher
   tail-small i h = omega (arith, tail-room i h)
 
   -- and has room for the next list message of another row
-  pub letter-room : (j i : ℕ) → j < sys .workers → i < sys .workers → (j ≡ i → ⊥)
+  pub list-room : (j i : ℕ) → j < sys .workers → i < sys .workers → (j ≡ i → ⊥)
       → m CURSORS j i < m WORKERS j SENDS
       → m WORKERS i TAIL + (m BOUNDS j (m CURSORS j i + 1) - m BOUNDS j (m CURSORS j i)) ≤ 512
-  letter-room j i hj hi n l =
+  list-room j i hj hi n l =
       omega (
         arith,
         logs-room,

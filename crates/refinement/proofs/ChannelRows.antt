@@ -19,7 +19,7 @@ use Rattle.refinement.proofs.Actors.{worker-row}
 
 -- the messages on their way: from a row to another, from a row to the controller, from the controller to a row
 pub record Rows : Type 0 where
-  pub letters : ℕ → ℕ → List Message
+  pub listMessages : ℕ → ℕ → List Message
   pub out : ℕ → List Message
   pub polls : ℕ → List Message
 
@@ -27,7 +27,7 @@ pub record Rows : Type 0 where
 abbrev pub atChannel : System → Rows → ℕ → ℕ → List Message
 atChannel sys r j k =
     cond (isWorker sys j)
-    (cond (isWorker sys k) (cond (eqb j k) [] (r .letters (j - 1) (k - 1))) (cond (eqb k 0) (r .out (j - 1)) []))
+    (cond (isWorker sys k) (cond (eqb j k) [] (r .listMessages (j - 1) (k - 1))) (cond (eqb k 0) (r .out (j - 1)) []))
     (cond (eqb j 0 && isWorker sys k) (r .polls (k - 1)) [])
 
 -- a channel leads from a worker to another, to the controller or from it, or it is none
@@ -37,17 +37,17 @@ pub by-channel : (sys : System) (P : ℕ → ℕ → Type 0)
     → ((i : ℕ) → i < sys .workers → P 0 (suc i))
     → ((j k : ℕ) → (j ≤ sys .workers → k ≤ sys .workers → (j ≡ k → ⊥) → ⊥) → P j k)
     → (j k : ℕ) → P j k
-by-channel sys P letters out polls none zero zero = none 0 0 (λ a b n. n refl)
-by-channel sys P letters out polls none zero (suc i) =
+by-channel sys P listMessages out polls none zero zero = none 0 0 (λ a b n. n refl)
+by-channel sys P listMessages out polls none zero (suc i) =
     elim (decLt i (sys .workers)) [ yes h ↦ polls i h | no n ↦ none 0 (suc i) (λ a b d. n b) ]
-by-channel sys P letters out polls none (suc j) zero =
+by-channel sys P listMessages out polls none (suc j) zero =
     elim (decLt j (sys .workers)) [ yes h ↦ out j h | no n ↦ none (suc j) 0 (λ a b d. n a) ]
-by-channel sys P letters out polls none (suc j) (suc i) =
+by-channel sys P listMessages out polls none (suc j) (suc i) =
     elim (decLt j (sys .workers)) [
       | yes hj ↦ elim (decLt i (sys .workers)) [
         | yes hi ↦ elim (ℕ-discrete j i) [
           | yes e ↦ none (suc j) (suc i) (λ a b d. d (ap suc e))
-          | no n ↦ letters j i hj hi n
+          | no n ↦ listMessages j i hj hi n
         ]
         | no n ↦ none (suc j) (suc i) (λ a b d. n b)
       ]
@@ -56,9 +56,9 @@ by-channel sys P letters out polls none (suc j) (suc i) =
 
 module _ (sys : System) (r : Rows) where
   -- between workers
-  pub at-letters : (j i : ℕ) → j < sys .workers → i < sys .workers → (j ≡ i → ⊥)
-      → atChannel sys r (suc j) (suc i) ≡ r .letters j i
-  at-letters j i hj hi n =
+  pub at-list-messages : (j i : ℕ) → j < sys .workers → i < sys .workers → (j ≡ i → ⊥)
+      → atChannel sys r (suc j) (suc i) ≡ r .listMessages j i
+  at-list-messages j i hj hi n =
       let p : suc j - 1 ≡ j = omega arith in
       let q : suc i - 1 ≡ i = omega arith in
       rw (worker-row sys j hj, worker-row sys i hi, ne-eqb (suc j) (suc i) (λ e. n (omega arith)), p, q)
@@ -83,7 +83,7 @@ module _ (sys : System) (r : Rows) where
 
       go : (a : Bool) → isWorker sys j ≡ a → (b : Bool) → isWorker sys k ≡ b → (c : Bool) → eqb j k ≡ c
           → (d : Bool) → eqb k 0 ≡ d → (e : Bool) → eqb j 0 ≡ e
-          → cond a (cond b (cond c [] (r .letters (j - 1) (k - 1))) (cond d (r .out (j - 1)) []))
+          → cond a (cond b (cond c [] (r .listMessages (j - 1) (k - 1))) (cond d (r .out (j - 1)) []))
           (cond (e && b) (r .polls (k - 1)) [])
           ≡ []
       go true p true q true x d y e z = refl
@@ -99,7 +99,7 @@ module _ (sys : System) (r : Rows) where
 
 -- the rows agree in the channels that stay
 pub record Stays (sys : System) (N : ℕ → ℕ → Type 0) (r r′ : Rows) : Type 0 where
-  pub letters : (j i : ℕ) → j < sys .workers → i < sys .workers → N (suc j) (suc i) → r′ .letters j i ≡ r .letters j i
+  pub listMessages : (j i : ℕ) → j < sys .workers → i < sys .workers → N (suc j) (suc i) → r′ .listMessages j i ≡ r .listMessages j i
   pub out : (j : ℕ) → j < sys .workers → N (suc j) 0 → r′ .out j ≡ r .out j
   pub polls : (i : ℕ) → i < sys .workers → N 0 (suc i) → r′ .polls i ≡ r .polls i
 
@@ -108,7 +108,7 @@ pub channels-stay : (sys : System) (N : ℕ → ℕ → Type 0) (r r′ : Rows) 
     → atChannel sys r′ j k ≡ atChannel sys r j k
 channels-stay sys N r r′ st =
     by-channel sys (λ j k. N j k → atChannel sys r′ j k ≡ atChannel sys r j k)
-    (λ j i hj hi n o. at-letters sys r′ j i hj hi n ∙ st .letters j i hj hi o ∙ sym (at-letters sys r j i hj hi n))
+    (λ j i hj hi n o. at-list-messages sys r′ j i hj hi n ∙ st .listMessages j i hj hi o ∙ sym (at-list-messages sys r j i hj hi n))
     (λ j hj o. at-out sys r′ j hj ∙ st .out j hj o ∙ sym (at-out sys r j hj))
     (λ i hi o. at-polls sys r′ i hi ∙ st .polls i hi o ∙ sym (at-polls sys r i hi))
     (λ j k n o. at-none sys r′ j k n ∙ sym (at-none sys r j k n))

@@ -14,7 +14,7 @@ use Rattle.cells.proofs.Queue.{labels-same, Queue, Kept, queue, queue-same}
 use Rattle.cells.specs.Layout.{WORKERS, CURSORS, BOUNDS, LOG, OUT, WANTED, LOGEND, SENDS, POLLS, OUTEND, OUTREAD}
 use Rattle.cells.specs.Memory.{Mem}
 use Rattle.controller.specs.Controller.{Machine}
-use Rattle.cells.specs.View.{LISTMARK, listAt, messageOf, pollAt, viewLetters, viewPolls, viewOut}
+use Rattle.cells.specs.View.{LISTMARK, listAt, messageOf, pollAt, viewListMessages, viewPolls, viewOut}
 use Rattle.refinement.proofs.Capacity.{bound-logged}
 use Rattle.refinement.proofs.ChannelRows.{Stays}
 use Rattle.refinement.specs.Inv.{Small, Inv}
@@ -30,8 +30,8 @@ pub record Grown (sys : System) (m : Mem) (t : Tally) (m′ : Mem) : Type 0 wher
 -- ---- the three kinds of channels as queues
 
 -- list messages of row `j` that row `i` has not read
-abbrev pub lettersQueue : Mem → ℕ → ℕ → Queue Message
-lettersQueue m j i = queue (m CURSORS j i) (m WORKERS j SENDS) (λ n. list (listAt m j n))
+abbrev pub listMessagesQueue : Mem → ℕ → ℕ → Queue Message
+listMessagesQueue m j i = queue (m CURSORS j i) (m WORKERS j SENDS) (λ n. list (listAt m j n))
 
 -- messages of row `i` that the controller has not read
 abbrev pub outQueue : Mem → ℕ → Queue Message
@@ -89,8 +89,8 @@ module _ (sys : System) (small : Small sys) (s : Machine) (inv : Inv sys s) (m�
       (ap (m′ BOUNDS i) e ∙ grown .bounds i h (m WORKERS i SENDS) (le-refl _)) f (λ d p q. grown .logs i h d q)
 
   -- list messages stay in their channels
-  pub letters-kept : (j i : ℕ) → j < sys .workers → Kept (lettersQueue m j i) (lettersQueue m′ j i)
-  letters-kept j i h n p q = ap list (list-kept j h n q)
+  pub list-messages-kept : (j i : ℕ) → j < sys .workers → Kept (listMessagesQueue m j i) (listMessagesQueue m′ j i)
+  list-messages-kept j i h n p q = ap list (list-kept j h n q)
 
   -- messages to the controller too
   pub out-kept : (i : ℕ) → i < sys .workers → Kept (outQueue m i) (outQueue m′ i)
@@ -103,9 +103,9 @@ module _ (sys : System) (small : Small sys) (s : Machine) (inv : Inv sys s) (m�
   -- channels whose ends stay are the same
   pub channels-kept : (t′ : Tally) (N : ℕ → ℕ → Type 0) → Ends sys m (s .tally) m′ t′ N
       → Stays sys N (rowsOf m (s .tally)) (rowsOf m′ t′)
-  unfolding viewLetters viewOut viewPolls
+  unfolding viewListMessages viewOut viewPolls
   channels-kept t′ N ends = record {
-    letters = λ j i hj hi n. queue-same (lettersQueue m j i) (lettersQueue m′ j i) (letters-kept j i hj)
+    listMessages = λ j i hj hi n. queue-same (listMessagesQueue m j i) (listMessagesQueue m′ j i) (list-messages-kept j i hj)
         (ends .cursors j i hj hi n) (ends .sends j i hj hi n);
     out = λ j hj n. queue-same (outQueue m j) (outQueue m′ j) (out-kept j hj) (ends .out-read j hj n) (ends .out-end j hj n);
     polls = λ i hi n. queue-same (pollsQueue m (s .tally) i) (pollsQueue m′ t′ i) (polls-kept t′ i)

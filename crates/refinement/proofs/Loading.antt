@@ -27,13 +27,13 @@ use Rattle.index.proofs.Kept.{row-heads}
 use Rattle.loading.specs.Load.{listLabelM, loadM}
 use Rattle.cells.specs.Memory.{Mem}
 pub use Rattle.refinement.specs.Run.{freshTally as startTally}
-use Rattle.cells.specs.View.{LISTED, isWorker, labelsBetween, counterRow, viewCounter, viewWork, viewSend, viewHeld, viewLists, viewLetters, viewPolls, viewOut, viewChannel, view}
+use Rattle.cells.specs.View.{LISTED, isWorker, labelsBetween, counterRow, viewCounter, viewWork, viewSend, viewHeld, viewLists, viewListMessages, viewPolls, viewOut, viewChannel, view}
 use Rattle.refinement.proofs.Actors.{atActor, row-of}
 use Rattle.refinement.proofs.Frames.{Apart}
 use Rattle.refinement.proofs.Growing.{Longer, Both, both-none, both-more}
 use Rattle.refinement.specs.Inv.{Small}
 use Rattle.index.specs.Index.{Paired}
-use Rattle.refinement.proofs.Grown.{lettersQueue, outQueue, pollsQueue}
+use Rattle.refinement.proofs.Grown.{listMessagesQueue, outQueue, pollsQueue}
 use Rattle.refinement.proofs.Counting.{countedM, counted-counts, counted-at, load-walk}
 use Rattle.refinement.proofs.Frame.{paired-kept}
 use Rattle.refinement.proofs.LabelLoad.{list-apart, list-shows, list-both}
@@ -219,9 +219,9 @@ module _ (sys : System) (small : Small sys) (z : Mem) (paired : Paired sys z) (b
       cond-same (eqb k 0) _ _ 0 refl
       (cond-same (isWorker sys k) _ _ 0 (column-loaded (k - 1) LISTS (omega arith)) refl)
 
-  no-letters : (i k : ℕ) → viewLetters n i k ≡ []
-  unfolding viewLetters
-  no-letters i k = queue-none (lettersQueue n i k) (omega (arith, column-loaded i SENDS (omega arith)))
+  no-list-messages : (i k : ℕ) → viewListMessages n i k ≡ []
+  unfolding viewListMessages
+  no-list-messages i k = queue-none (listMessagesQueue n i k) (omega (arith, column-loaded i SENDS (omega arith)))
 
   no-out : (i : ℕ) → viewOut n i ≡ []
   unfolding viewOut
@@ -235,7 +235,7 @@ module _ (sys : System) (small : Small sys) (z : Mem) (paired : Paired sys z) (b
   unfolding viewChannel
   channel-loaded j k =
       cond-same (isWorker sys j) _ _ []
-      (cond-same (isWorker sys k) _ _ [] (cond-same (eqb j k) _ _ [] refl (no-letters (j - 1) (k - 1)))
+      (cond-same (isWorker sys k) _ _ [] (cond-same (eqb j k) _ _ [] refl (no-list-messages (j - 1) (k - 1)))
       (cond-same (eqb k 0) _ _ [] (no-out (j - 1)) refl))
       (cond-same (eqb j 0 && isWorker sys k) _ _ [] (no-polls (k - 1)) refl)
 

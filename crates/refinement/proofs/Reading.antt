@@ -19,27 +19,27 @@ use Rattle.cells.specs.Layout.{WORKERS, CURSORS, BOUNDS, LOG, WORK, OUT, WANTED
 use Rattle.cells.specs.Lists.{copyM}
 use Rattle.cells.specs.Memory.{Mem, store}
 use Rattle.cells.specs.View.{LISTED, labelsBetween, listAt}
-use Rattle.reads.specs.Reads.{letterStart, letterEnd, takenM, readListM}
+use Rattle.reads.specs.Reads.{listStart, listEnd, takenM, readListM}
 use Rattle.controller.specs.Controller.{Machine}
-use Rattle.refinement.proofs.Capacity.{letter-room, bound-logged}
+use Rattle.refinement.proofs.Capacity.{list-room, bound-logged}
 use Rattle.refinement.proofs.Frame.{OnlyRow, Answered, row-grown, lists-out-kept, logged-kept, heard-kept, worker-action}
 use Rattle.refinement.proofs.Growing.{Longer, longer-copy}
 use Rattle.refinement.specs.Inv.{Row, Totals, Inv, Small}
 
 -- how many labels the next list message of row `j` for row `i` has
-abbrev letterLength : ℕ → ℕ → Mem → ℕ
-letterLength j i m = letterEnd j i m - letterStart j i m
+abbrev listLength : ℕ → ℕ → Mem → ℕ
+listLength j i m = listEnd j i m - listStart j i m
 
 -- the memory with its labels copied
 abbrev copied : ℕ → ℕ → Mem → Mem
-copied j i m = copyM j i (letterStart j i m) (letterLength j i m) m
+copied j i m = copyM j i (listStart j i m) (listLength j i m) m
 
 -- ---- what the stores changed
 
 module _ (j i : ℕ) (m : Mem) where
   -- what stands beside the reader's work list is not copied over
   uncopied : (r k c : ℕ) → Beside WORK TAIL i r k c → copied j i m r k c ≡ m r k c
-  uncopied = copy-other j i (letterStart j i m) (letterLength j i m) m
+  uncopied = copy-other j i (listStart j i m) (listLength j i m) m
 
   -- every region but three
   pub region : (r : ℕ) → (r ≡ WORKERS → ⊥) × (r ≡ CURSORS → ⊥) × (r ≡ WORK → ⊥) → (k c : ℕ) → takenM j i m r k c ≡ m r k c
@@ -127,10 +127,10 @@ pub taken-list : (sys : System) → Small sys → (s : Machine) → Inv sys s �
 unfolding takenM listAt labelsBetween
 taken-list sys small s inv j i hj hi apart unread =
     let m = s .mem in
-    let e : letterStart j i m + letterLength j i m ≡ letterEnd j i m = omega (arith, inv .rows j hj .bounds-rise (m CURSORS j i) unread) in
-    let g = longer-copy sys j i (letterStart j i m) (letterLength j i m) m (letter-room sys small s inv j i hj hi apart unread)
+    let e : listStart j i m + listLength j i m ≡ listEnd j i m = omega (arith, inv .rows j hj .bounds-rise (m CURSORS j i) unread) in
+    let g = longer-copy sys j i (listStart j i m) (listLength j i m) m (list-room sys small s inv j i hj hi apart unread)
     (λ d l. inv .rows j hj .log-codes d (omega (arith, bound-logged sys small s inv j hj (m CURSORS j i + 1) (omega arith)))) in
-    subst (λ (c : ℕ). Longer sys WORK TAIL i m (takenM j i m) (labelsBetween m LOG j (letterStart j i m) c)) e
+    subst (λ (c : ℕ). Longer sys WORK TAIL i m (takenM j i m) (labelsBetween m LOG j (listStart j i m) c)) e
     (record { end = g .end; old = g .old; new = g .new; codes = g .codes })
 
 -- ---- the parts of the invariant
@@ -154,9 +154,9 @@ module _ (sys : System) (m : Mem) (t : Tally) (j i : ℕ) (inv : Inv sys (record
       })
       (omega arith) r
 
-  longer : takenM j i m WORKERS i TAIL ≡ m WORKERS i TAIL + letterLength j i m
+  longer : takenM j i m WORKERS i TAIL ≡ m WORKERS i TAIL + listLength j i m
   unfolding listAt
-  longer = omega (arith, joined .end, labels-length m LOG j (letterStart j i m) (letterEnd j i m))
+  longer = omega (arith, joined .end, labels-length m LOG j (listStart j i m) (listEnd j i m))
 
   totals : Totals sys (takenM j i m) t
   totals =
@@ -238,7 +238,7 @@ unfolding readListM
 read-list-keeps sys small m m′ t j i inv hj hi apart e =
     let e₁ = if-some (ltb (m CURSORS j i) (m WORKERS j SENDS)) e in
     let e₂ = if-some (ltb (m CURSORS j i) 519) (e₁ .1) in
-    let e₃ = if-some (leb (letterEnd j i m) 512) (e₂ .1) in
+    let e₃ = if-some (leb (listEnd j i m) 512) (e₂ .1) in
     let e₄ = if-some (ltb (m WORKERS i LISTS) 65535) (e₃ .1) in
     let unread : m CURSORS j i < m WORKERS j SENDS = ltb-true (m CURSORS j i) (m WORKERS j SENDS) (e₁ .0) in
     let s : Machine = record { mem = m; tally = t } in

@@ -16,7 +16,7 @@ use Rattle.cells.specs.Layout.{WORKERS, BOUNDS, LOG, WORK, HEAD, TAIL, LOGEND, 
 use Rattle.cells.specs.Memory.{Mem}
 pub use Rattle.refinement.specs.Run.{viewOf}
 use Rattle.controller.specs.Controller.{Machine}
-use Rattle.cells.specs.View.{LISTMARK, labelsBetween, listAt, messageOf, pollAt, counterRow, viewCounter, viewWork, viewSend, viewHeld, viewLists, viewLetters, viewPolls, viewOut, viewChannel, view}
+use Rattle.cells.specs.View.{LISTMARK, labelsBetween, listAt, messageOf, pollAt, counterRow, viewCounter, viewWork, viewSend, viewHeld, viewLists, viewListMessages, viewPolls, viewOut, viewChannel, view}
 use Rattle.refinement.proofs.ChannelRows.{Rows, atChannel}
 
 -- Named on an `unfolding` line, this opens the view down to the channels' contents.
@@ -34,7 +34,7 @@ sendOf m i = labelsBetween m LOG i (m BOUNDS i (m WORKERS i SENDS)) (m WORKERS i
 
 -- the channels that a memory and a tally stand for
 abbrev pub rowsOf : Mem → Tally → Rows
-rowsOf m t = record { letters = viewLetters m; out = viewOut m; polls = viewPolls m t }
+rowsOf m t = record { listMessages = viewListMessages m; out = viewOut m; polls = viewPolls m t }
 
 -- the channels of the state, by rows
 pub channel-rows : (sys : System) (s : Machine) (j k : ℕ)

@@ -19,11 +19,11 @@ use Rattle.cells.specs.Layout.{WORKERS, BOUNDS, LOG, OUT, LOGEND, SENDS, LISTS,
 use Rattle.cells.specs.Memory.{Mem}
 use Rattle.sends.specs.Sends.{sentM, sendM}
 use Rattle.controller.specs.Controller.{Machine}
-use Rattle.cells.specs.View.{LISTMARK, listAt, messageOf, viewSend, viewLetters, viewOut, view}
+use Rattle.cells.specs.View.{LISTMARK, listAt, messageOf, viewSend, viewListMessages, viewOut, view}
 use Rattle.refinement.proofs.Actors.{at-worker, actors-update, counters-more}
 use Rattle.refinement.proofs.Capacity.{sends-few, outend-few, lists-few}
-use Rattle.refinement.proofs.ChannelRows.{atChannel, at-letters, at-out, Stays, channels-broadcast}
-use Rattle.refinement.proofs.Grown.{Grown, send-kept, lettersQueue, letters-kept, outQueue, out-kept, channels-kept}
+use Rattle.refinement.proofs.ChannelRows.{atChannel, at-list-messages, at-out, Stays, channels-broadcast}
+use Rattle.refinement.proofs.Grown.{Grown, send-kept, listMessagesQueue, list-messages-kept, outQueue, out-kept, channels-kept}
 use Rattle.refinement.specs.Inv.{Small, Inv}
 use Rattle.refinement.proofs.Seen.{mapO, viewOf, view-parts, rowsOf, list-code, same-state, sendOf, mapO-cond}
 
@@ -64,7 +64,7 @@ module _ (sys : System) (small : Small sys) (s : Machine) (inv : Inv sys s) (i :
   sent-to : (k : ℕ) → k ≤ sys .workers → (k ≡ suc i → ⊥)
       → atChannel sys (rowsOf (sentM i m) t) (suc i) k
       ≡ atChannel sys (rowsOf m t) (suc i) k ++ (list (viewSend sys m (suc i)) ∷ [])
-  unfolding sentM viewLetters viewOut
+  unfolding sentM viewListMessages viewOut
   sent-to zero l n =
       at-out sys (rowsOf (sentM i m) t) i h
       ∙ queue-put (outQueue m i) (outQueue (sentM i m) i) (out-kept sys small s inv (sentM i m) sent-grown i h)
@@ -72,11 +72,11 @@ module _ (sys : System) (small : Small sys) (s : Machine) (inv : Inv sys s) (i :
       ∙ ap₂ (λ (l : List Message) (a : Message). l ++ (a ∷ [])) (sym (at-out sys (rowsOf m t) i h)) newest-out
   sent-to (suc k) l n =
       let d : i ≡ k → ⊥ = λ e. n (ap suc (sym e)) in
-      at-letters sys (rowsOf (sentM i m) t) i k h l d
-      ∙ queue-put (lettersQueue m i k) (lettersQueue (sentM i m) i k)
-      (letters-kept sys small s inv (sentM i m) sent-grown i k h)
+      at-list-messages sys (rowsOf (sentM i m) t) i k h l d
+      ∙ queue-put (listMessagesQueue m i k) (listMessagesQueue (sentM i m) i k)
+      (list-messages-kept sys small s inv (sentM i m) sent-grown i k h)
       (inv .totals .cursor i k h l) refl (update-same (λ j. m WORKERS j SENDS) i (m WORKERS i SENDS + 1))
-      ∙ ap₂ (λ (l : List Message) (a : Message). l ++ (a ∷ [])) (sym (at-letters sys (rowsOf m t) i k h l d)) (ap list newest)
+      ∙ ap₂ (λ (l : List Message) (a : Message). l ++ (a ∷ [])) (sym (at-list-messages sys (rowsOf m t) i k h l d)) (ap list newest)
 
   -- nobody else sends
   not-sent : Stays sys (λ j k. j ≡ suc i → ⊥) (rowsOf m t) (rowsOf (sentM i m) t)

@@ -14,7 +14,7 @@ use Rattle.cells.proofs.Stores.{store-apart, copy-other}
 use Rattle.cells.specs.Layout.{WORKERS, CURSORS, BOUNDS, WORK, OUT, WANTED, HEADS, HEAD, TAIL, LOGEND, SENDS, LISTS, HELD, POLLS, OUTEND, OUTREAD}
 use Rattle.cells.specs.Memory.{Mem, store}
 use Rattle.sends.specs.Sends.{sentM, sendM}
-use Rattle.reads.specs.Reads.{letterEnd, letterStart, takenM, readListM, readPollM}
+use Rattle.reads.specs.Reads.{listEnd, listStart, takenM, readListM, readPollM}
 use Rattle.answers.specs.Answers.{answeredM, emptyM, answerM}
 use Rattle.controller.specs.Controller.{askM, askedT, asksT, hasOut, outReadM, toldT, Machine, hearM, pollM}
 use Rattle.refinement.specs.Run.{playM}
@@ -54,11 +54,11 @@ module _ (r a b : ℕ) (h : HEADS ≤ r) where
   list-kept j i m =
       kept-if (ltb (m CURSORS j i) (m WORKERS j SENDS))
       (kept-if (ltb (m CURSORS j i) 519)
-      (kept-if (leb (letterEnd j i m) 512)
+      (kept-if (leb (listEnd j i m) 512)
       (kept-if (ltb (m WORKERS i LISTS) 65535)
       (agrees
       (rw (far WORKERS (omega arith), far CURSORS (omega arith))
-      (copy-other j i (letterStart j i m) (letterEnd j i m - letterStart j i m) m r a b (omega arith))))
+      (copy-other j i (listStart j i m) (listEnd j i m - listStart j i m) m r a b (omega arith))))
       idle)
       idle)
       idle)

@@ -15,14 +15,14 @@ use Rattle.network.specs.Network.{Label, loaded}
 use Rattle.cells.proofs.Queue.{labels-same, queue, queue-taken, queue-none}
 use Rattle.cells.specs.Layout.{WORKERS, CURSORS, BOUNDS, LOG, WORK, OUT, WANTED, DOMAIN, COUNTERS, HEADS, HEAD, TAIL, LOGEND, SENDS, LISTS, HELD, POLLS, OUTEND, OUTREAD}
 use Rattle.cells.specs.Memory.{Mem}
-use Rattle.reads.specs.Reads.{letterEnd, takenM, readListM}
+use Rattle.reads.specs.Reads.{listEnd, takenM, readListM}
 use Rattle.controller.specs.Controller.{Machine}
-use Rattle.cells.specs.View.{LISTED, labelsBetween, listAt, counterRow, viewCounter, viewWork, viewSend, viewLists, viewLetters, viewChannel, view}
+use Rattle.cells.specs.View.{LISTED, labelsBetween, listAt, counterRow, viewCounter, viewWork, viewSend, viewLists, viewListMessages, viewChannel, view}
 use Rattle.index.proofs.Kept.{row-heads}
 use Rattle.refinement.proofs.Actors.{at-worker, actors-update, counters-more, actors-same}
 use Rattle.refinement.proofs.Capacity.{bound-logged, logend-small, sends-few, lists-few}
-use Rattle.refinement.proofs.ChannelRows.{at-letters, Stays, Beside, channels-update}
-use Rattle.refinement.proofs.Grown.{Grown, lettersQueue, letters-kept, channels-kept, send-kept}
+use Rattle.refinement.proofs.ChannelRows.{at-list-messages, Stays, Beside, channels-update}
+use Rattle.refinement.proofs.Grown.{Grown, listMessagesQueue, list-messages-kept, channels-kept, send-kept}
 use Rattle.refinement.specs.Inv.{Small, Inv}
 use Rattle.refinement.proofs.HeldPoll.{held-same, held-row}
 use Rattle.refinement.proofs.Reading.{region, column, other-work, more-lists, new-cursor, old-cursor, taken-list}
@@ -80,7 +80,7 @@ module _ (sys : System) (small : Small sys) (s : Machine) (inv : Inv sys s) (j i
         labels-same m m′ WORK k (m WORKERS k HEAD) (m WORKERS k TAIL) (steady k HEAD (omega arith))
         (column j i m k TAIL (λ e x. n e) (omega arith)) (λ d p q. other-work j i m k d n)
 
-    taken-view : view sys m′ t ≡ afterList (suc j) (suc i) (listAt m j (m CURSORS j i)) (viewLetters m′ j i) (view sys m t)
+    taken-view : view sys m′ t ≡ afterList (suc j) (suc i) (listAt m j (m CURSORS j i)) (viewListMessages m′ j i) (view sys m t)
     unfolding view viewWork viewSend viewLists viewChannel afterList
     taken-view = same-state _ _ (record {
       domain = λ x v. ap (λ (c : ℕ). eqb c LISTED) (region j i m DOMAIN (omega arith) x v);
@@ -94,8 +94,8 @@ module _ (sys : System) (small : Small sys) (s : Machine) (inv : Inv sys s) (j i
           held-row m m′ k (steady k HELD (omega arith)) (region j i m WANTED (omega arith) 0 (m WORKERS k HELD)));
       listCounter = counters-more sys (λ k. m WORKERS k LISTS) (λ k. m′ WORKERS k LISTS) (t .lists .0) i hi (more-lists j i m)
           (λ k hk n. column j i m k LISTS (omega arith) (λ e x. n e));
-      channel = channels-update sys (rowsOf m t) (rowsOf m′ t) (suc j) (suc i) (viewLetters m′ j i)
-          (at-letters sys (rowsOf m′ t) j i hj hi apart) other-channels;
+      channel = channels-update sys (rowsOf m t) (rowsOf m′ t) (suc j) (suc i) (viewListMessages m′ j i)
+          (at-list-messages sys (rowsOf m′ t) j i hj hi apart) other-channels;
       controller = refl;
     })
 
@@ -106,7 +106,7 @@ module _ (sys : System) (small : Small sys) (s : Machine) (inv : Inv sys s) (j i
         rw (
           lt-ltb (m CURSORS j i) (m WORKERS j SENDS) l,
           lt-ltb (m CURSORS j i) 519 (omega (arith, sends-few sys small s inv j hj)),
-          le-leb (letterEnd j i m) 512
+          le-leb (listEnd j i m) 512
               (omega (
                 arith,
                 bound-logged sys small s inv j hj (m CURSORS j i + 1) (omega arith),
@@ -117,11 +117,11 @@ module _ (sys : System) (small : Small sys) (s : Machine) (inv : Inv sys s) (j i
 
   -- reading a list message in memory is reading from a worker
   pub list-refines : mapO (λ m′. view sys m′ t) (readListM j i m) ≡ readWorker (suc j) (suc i) (viewOf sys s)
-  unfolding readWorker viewLetters
+  unfolding readWorker viewListMessages
   list-refines = go (ltb (m CURSORS j i) (m WORKERS j SENDS)) refl
     where
-      channel : viewOf sys s .channel (suc j) (suc i) ≡ viewLetters m j i
-      channel = channel-rows sys s (suc j) (suc i) ∙ at-letters sys (rowsOf m t) j i hj hi apart
+      channel : viewOf sys s .channel (suc j) (suc i) ≡ viewListMessages m j i
+      channel = channel-rows sys s (suc j) (suc i) ∙ at-list-messages sys (rowsOf m t) j i hj hi apart
 
       idle : ltb (m CURSORS j i) (m WORKERS j SENDS) ≡ false → readListM j i m ≡ none
       idle p = unfold readListM in cond-false _ none p
@@ -136,10 +136,10 @@ module _ (sys : System) (small : Small sys) (s : Machine) (inv : Inv sys s) (j i
           ∙ sym
           (ap (readFrom (suc j) (suc i) (viewOf sys s))
           (channel
-          ∙ queue-taken (lettersQueue m j i) (lettersQueue m′ j i) (letters-kept sys small s inv m′ taken-grown j i hj) l
+          ∙ queue-taken (listMessagesQueue m j i) (listMessagesQueue m′ j i) (list-messages-kept sys small s inv m′ taken-grown j i hj) l
           (new-cursor j i m) (steady j SENDS (omega arith))))
       go false p =
           ap (mapO (λ m′. view sys m′ t)) (idle p)
           ∙ sym
           (ap (readFrom (suc j) (suc i) (viewOf sys s))
-          (channel ∙ queue-none (lettersQueue m j i) (ltb-false (m CURSORS j i) (m WORKERS j SENDS) p)))
+          (channel ∙ queue-none (listMessagesQueue m j i) (ltb-false (m CURSORS j i) (m WORKERS j SENDS) p)))

@@ -1,4 +1,3 @@
 // The checks of single sections: of the head, of a variable, and of a constraint.
-pub mod constraint;
 pub mod section;
 pub mod variable;

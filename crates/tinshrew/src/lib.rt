@@ -6,9 +6,8 @@ use plan::Decline;
 use plan::Fault;
 use plan::Verdict;
 ghost use mathlib.Core.Path.{_≡_};
-ghost use Rattle.disac4.specs.Outcome.{Gives, turnRun, roundRun, bufferChecks};
+ghost use Rattle.disac4.specs.Outcome.{Gives, turnRun, roundRun};
 ghost use Rattle.plan.specs.Answer.{planCheck};
-ghost use Rattle.plan.specs.Check.{firstFault, verdictOf};
 ghost use Rattle.plan.specs.Fault.{decline};
 
 pub mod c;
@@ -29,24 +28,11 @@ fn declined(fault: Fault, place: usize) -> Answer
     })
 }
 
-// 9 and 10: whether both buffers are long enough, the work cells first.
-fn check_buffers(work: &[u16], lists: &[u16]) -> Verdict
-    ensures { λ r. ⌜ r ≡ verdictOf (firstFault (bufferChecks (now (work .entry)) (now (lists .entry)))) ⌝ }
-{
-    if work.len() < 24576 {
-        return Verdict::Fails(Fault::ShortWork);
-    }
-    if lists.len() < 32 {
-        return Verdict::Fails(Fault::ShortLists);
-    }
-    Verdict::Passes
-}
-
 // Plays the turns of the list on a plan, and gives the report; declines as document 01 lists.
 pub fn run_turns(plan: &[u8], turns: &[u8], work: &mut [u16], lists: &mut [u16]) -> Answer
     ensures { λ r. ⌜ Gives (turnRun (now (plan .entry)) (now (turns .entry)) (now (work .entry)) (now (lists .entry))) r (now (work .exit)) (now (lists .exit)) ⌝ }
 {
-    let verdict = check_buffers(work, lists);
+    let verdict = turns::check_buffers(work, lists);
     if let Verdict::Fails(fault) = verdict {
         return declined(fault, 0);
     }
@@ -70,7 +56,7 @@ pub fn run_turns(plan: &[u8], turns: &[u8], work: &mut [u16], lists: &mut [u16])
 pub fn run_round(plan: &[u8], work: &mut [u16], lists: &mut [u16]) -> Answer
     ensures { λ r. ⌜ Gives (roundRun (now (plan .entry)) (now (work .entry)) (now (lists .entry))) r (now (work .exit)) (now (lists .exit)) ⌝ }
 {
-    let verdict = check_buffers(work, lists);
+    let verdict = turns::check_buffers(work, lists);
     if let Verdict::Fails(fault) = verdict {
         return declined(fault, 0);
     }

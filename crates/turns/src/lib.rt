@@ -1,6 +1,8 @@
-// Turn lists: whether a list is of a length that is taken, which turns are allowed, and the first turn that is not.
+// What a run tests beside its plan: the lent buffers, the length of a turn list, which turns are allowed, and the first that is not.
 use base::between;
 use base::byte_at;
+use plan::Fault;
+use plan::Verdict;
 ghost use mathlib.Core.Bool.{_&&_, _||_, not};
 ghost use mathlib.Core.Path.{_≡_};
 ghost use lib.Dec.{leb, eqb};
@@ -9,6 +11,21 @@ ghost use Rattle.disac4.specs.Turn.{allowed as allowedOf, turn, turnFault, turn
 ghost use Prim.Native.Nat.{_/_, _≤_};
 ghost use lib.ListN.{length};
 ghost use Rattle.turns.specs.Bad.{badTurn};
+ghost use Rattle.plan.specs.Check.{firstFault, verdictOf};
+ghost use Rattle.disac4.specs.Outcome.{bufferChecks};
+
+// 9 and 10: whether both buffers are long enough, the work cells first.
+pub fn check_buffers(work: &[u16], lists: &[u16]) -> Verdict
+    ensures { λ r. ⌜ r ≡ verdictOf (firstFault (bufferChecks (now (work .entry)) (now (lists .entry)))) ⌝ }
+{
+    if work.len() < 24576 {
+        return Verdict::Fails(Fault::ShortWork);
+    }
+    if lists.len() < 32 {
+        return Verdict::Fails(Fault::ShortLists);
+    }
+    Verdict::Passes
+}
 
 // Whether the turn list is of even length and not too long.
 pub fn list_fits(turns: &[u8]) -> bool

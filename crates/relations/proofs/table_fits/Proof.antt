@@ -1,0 +1,63 @@
+-- `relations::table_fits` says whether each row of a table fits the second variable's count. Assumes nothing.
+use borrow.Author.Tests.{eq-eqb, ne-eqb}
+use native.Mathlib.Omega.{arith}
+use Rattle.plan.proofs.InOrder.{ordered}
+use Rattle.plan.specs.Check.{tableFits}
+use borrow.Author.Needs.{needs}
+use Rattle.relations.proofs.table_fits.Statement.{statement}
+use Rattle.relations.proofs.table_fits.Tie as tie
+
+kind-requires : tie.Need-kind-requires
+kind-requires c κs = search needs
+
+returns : tie.Need-returns
+unfolding tableFits
+returns c = rw (← c .before .kind .ensures .0, ne-eqb _ 0 (c .if1 .taken))
+
+first-requires : tie.Need-first-requires
+first-requires c κs = search needs
+
+size-at-requires : tie.Need-size-at-requires
+size-at-requires c κs =
+    let s = c .before .before .before .before in
+    let o = ordered (s .args .b .now) (s .args .at) (s .pre .2) in
+    (s .pre .0, omega (arith, o, c .first .ensures .0), omega (arith, o, c .first .ensures .0))
+
+second-requires : tie.Need-second-requires
+second-requires c κs = search needs
+
+size-at-requires-2 : tie.Need-size-at-requires-2
+size-at-requires-2 c κs =
+    let s = c .before .before .before .before .before .before in
+    let o = ordered (s .args .b .now) (s .args .at) (s .pre .2) in
+    (s .pre .0, omega (arith, o, c .second .ensures .0), omega (arith, o, c .second .ensures .0))
+
+rows-fit-requires : tie.Need-rows-fit-requires
+rows-fit-requires c κs = search needs
+
+returns-2 : tie.Need-returns-2
+unfolding tableFits
+returns-2 c =
+    let f = c .before .before .before in
+    rw (
+      ← f .before .before .before .kind .ensures .0,
+      eq-eqb _ 0 (f .before .before .if1 .left),
+      ← f .before .first .ensures .0,
+      ← f .size-at .ensures .0,
+      ← c .before .before .second .ensures .0,
+      ← c .before .size-at2 .ensures .0,
+    )
+    (c .rows-fit .ensures)
+
+pub table-fits-spec : {M : Type 1} → statement M
+table-fits-spec =
+    tie.close
+    (tie.spec
+    kind-requires
+    returns
+    first-requires
+    size-at-requires
+    second-requires
+    size-at-requires-2
+    rows-fit-requires
+    returns-2)
