@@ -110,10 +110,6 @@ bit-past n r w h l =
     let small : r < 2 ^ w = omega (arith, pow-mono l) in
     ap isOdd (div-eq-of-lt small)
 
--- a row holds no value from its width on
-pub row-past : (n : ℕ) (t : ℕ → Bool) (w : ℕ) → n ≤ w → bit (rowOf n t) w ≡ false
-row-past n t w l = bit-past n (rowOf n t) w (row-small n t) l
-
 -- tests that agree below the width give the same row
 pub row-ext : (n : ℕ) (t u : ℕ → Bool) → ((w : ℕ) → w < n → t w ≡ u w) → rowOf n t ≡ rowOf n u
 unfolding rowOf

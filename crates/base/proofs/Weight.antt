@@ -1,13 +1,12 @@
 -- The weight of a list: the sum of a number for each of its members. Lengths, occurrences and message counts are weights.
 use Prim.Native.Nat.{ℕ, zero, suc, _+_, _<_}
-use mathlib.Core.Bool.{Bool, true, false≢true}
+use mathlib.Core.Bool.{Bool, true}
 use mathlib.Core.List.{List, [], _∷_, _++_}
-use mathlib.Core.Logic.{⊎-elim}
-use mathlib.Core.Path.{_≡_, refl, ap}
+use mathlib.Core.Path.{_≡_, refl}
 use native.Mathlib.Nat.{not-suc-le-zero}
 use native.Mathlib.Omega.{arith}
 use lib.ListN.{length}
-use Rattle.base.proofs.Bools.{or-cases, or-left, or-right}
+use Rattle.base.proofs.Bools.{or-left, or-right}
 use Rattle.base.proofs.Each.{Each}
 use Rattle.base.proofs.Sums.{one-passes}
 use Rattle.base.specs.Below.{sumBelow, one, gatherBelow}
@@ -33,12 +32,6 @@ module _ {ℓ} {A : Type ℓ} where
   pub weigh-one : (l : List A) → weigh (λ a. 1) l ≡ length l
   weigh-one [] = refl
   weigh-one (a ∷ l) = omega (arith, weigh-one l)
-
-  -- a list with a member that passes a test counts one
-  pub any-counts : (t : A → Bool) (l : List A) → anyOf t l ≡ true → 0 < weigh (λ a. one (t a)) l
-  any-counts t [] e = absurd (false≢true e)
-  any-counts t (a ∷ l) e =
-      ⊎-elim (λ p. omega (arith, ap one p)) (λ p. omega (arith, any-counts t l p)) (or-cases (t a) (anyOf t l) e)
 
   -- where weight above 0 implies the test, a list that weighs more than 0 has a member that passes it
   pub weighs-any : (w : A → ℕ) (t : A → Bool) → ((a : A) → 0 < w a → t a ≡ true) → (l : List A) → 0 < weigh w l

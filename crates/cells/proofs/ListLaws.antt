@@ -8,7 +8,7 @@ use Rattle.cells.proofs.Stores.{push-stores}
 use Rattle.cells.specs.Layout.{WORKERS, LOG, WORK, DOMAIN, TAIL, LOGEND}
 use Rattle.cells.specs.Lists.{pushM, deleteM, copyM}
 use Rattle.cells.specs.Memory.{Mem, store}
-use Rattle.cells.specs.View.{codeOf}
+use Rattle.cells.specs.View.{labelNumber}
 
 -- ---- a push
 
@@ -25,11 +25,11 @@ module _ (r col i c e : ℕ) (m : Mem) (q : e ≡ m WORKERS i col) where
 
 -- ---- a deletion
 
-pub deleted : (i x v : ℕ) (m m₁ m₂ m₃ : Mem) → m₁ ≡ store m DOMAIN x v 0 → m₂ ≡ pushM LOG LOGEND i (codeOf x v) m₁
-    → m₃ ≡ pushM WORK TAIL i (codeOf x v) m₂ → m₃ ≡ deleteM i x v m
+pub deleted : (i x v : ℕ) (m m₁ m₂ m₃ : Mem) → m₁ ≡ store m DOMAIN x v 0 → m₂ ≡ pushM LOG LOGEND i (labelNumber x v) m₁
+    → m₃ ≡ pushM WORK TAIL i (labelNumber x v) m₂ → m₃ ≡ deleteM i x v m
 unfolding deleteM
 deleted i x v m m₁ m₂ m₃ p₁ p₂ p₃ =
-    p₃ ∙ ap (pushM WORK TAIL i (codeOf x v)) (p₂ ∙ ap (pushM LOG LOGEND i (codeOf x v)) p₁)
+    p₃ ∙ ap (pushM WORK TAIL i (labelNumber x v)) (p₂ ∙ ap (pushM LOG LOGEND i (labelNumber x v)) p₁)
 
 -- ---- a copy takes one label more
 

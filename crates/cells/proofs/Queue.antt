@@ -13,7 +13,7 @@ use Rattle.base.specs.Below.{listBelow}
 use Rattle.network.specs.Network.{Label, label}
 use Rattle.disac4.specs.Action.{isEmpty}
 use Rattle.cells.specs.Memory.{Mem}
-use Rattle.cells.specs.View.{codeOf, labelOf, listBetween, labelsBetween}
+use Rattle.cells.specs.View.{labelNumber, labelOf, listBetween, labelsBetween}
 
 -- where a queue begins, where it ends, and what stands at each place
 pub record Queue (A : Type 0) : Type 0 where
@@ -131,8 +131,8 @@ unfolding labelsBetween
 labels-length m r i from to = length-list-below (to - from) (λ d. labelOf (m r i (from + d)))
 
 -- a cell holds the label that was put into it
-pub label-code : (x v : ℕ) → v < 16 → labelOf (codeOf x v) ≡ label x v
+pub label-code : (x v : ℕ) → v < 16 → labelOf (labelNumber x v) ≡ label x v
 label-code x v h =
-    let p : codeOf x v / 16 ≡ x = omega arith in
-    let q : codeOf x v % 16 ≡ v = omega arith in
+    let p : labelNumber x v / 16 ≡ x = omega arith in
+    let q : labelNumber x v % 16 ≡ v = omega arith in
     λ i. record { variable = p i; value = q i }

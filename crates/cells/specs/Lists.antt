@@ -7,7 +7,7 @@ use lib.Dec.{ltb}
 use lib.ListN.{length}
 use Rattle.cells.specs.Layout.{WORKERS, LOG, WORK, DOMAIN, BEHIND, TAIL, LOGEND, regionAt}
 use Rattle.cells.specs.Memory.{Mem, store}
-use Rattle.cells.specs.View.{codeOf}
+use Rattle.cells.specs.View.{labelNumber}
 use Rattle.cells.specs.declared.Region.{Region}
 
 -- a push fits: the region is one of lists, LOG or WORK, and row, column and number are in range
@@ -31,7 +31,7 @@ pushM r col i c m =
 -- row `i` deletes label `v` of `x`: out of the domain, and at the end of the log and of the work list
 unfoldable pub deleteM : ℕ → ℕ → ℕ → Mem → Mem
 deleteM i x v m =
-    pushM WORK TAIL i (codeOf x v) (pushM LOG LOGEND i (codeOf x v) (store m DOMAIN x v 0))
+    pushM WORK TAIL i (labelNumber x v) (pushM LOG LOGEND i (labelNumber x v) (store m DOMAIN x v 0))
 
 -- the first `n` labels behind `from` in row `j`'s log join the end of row `i`'s work list
 unfoldable pub copyM : ℕ → ℕ → ℕ → ℕ → Mem → Mem

@@ -16,8 +16,8 @@ use Rattle.cells.specs.Layout.{WORKERS, CURSORS, BOUNDS, LOG, WORK, OUT,
 use Rattle.cells.specs.Memory.{Mem}
 
 -- a label in a cell: 16 for each variable before it, and its value
-abbrev pub codeOf : ℕ → ℕ → ℕ
-codeOf x v = x * 16 + v
+abbrev pub labelNumber : ℕ → ℕ → ℕ
+labelNumber x v = x * 16 + v
 
 abbrev pub labelOf : ℕ → Label
 labelOf c = label (c / 16) (c % 16)

@@ -1,13 +1,13 @@
 -- How many turns of a run change something: by the potential, at most 5pL + 2L + 3p + 1.
 use Prim.Native.Nat.{ℕ, suc, _+_, _*_, _≤_}
-use mathlib.Core.Bool.{Bool, true}
+use mathlib.Core.Bool.{true}
 use mathlib.Core.List.{List, [], _∷_}
 use mathlib.Core.Logic.{_↔_}
 use mathlib.Core.Path.{_≡_, refl, _∙_, ap}
-use native.Mathlib.Nat.{le-refl, mul-add, add-mul}
+use native.Mathlib.Nat.{mul-add, add-mul}
 use native.Mathlib.Omega.{arith}
-use Rattle.base.proofs.Bools.{and-left, and-intro, and-comm}
-use Rattle.base.proofs.Sums.{sum-zero, one-mono}
+use Rattle.base.proofs.Bools.{and-comm}
+use Rattle.base.proofs.Sums.{sum-zero}
 use Rattle.base.specs.Below.{one}
 use Rattle.disac4.proofs.Channels.{into}
 use Rattle.disac4.proofs.DomainSize.{load-size, deletions-loaded}
@@ -47,14 +47,6 @@ module _ (sys : System) (few : sys .workers ≤ 8) where
   turns-bounded [] st = omega arith
   turns-bounded (t ∷ ts) st =
       omega (arith, turns-bounded ts (after sys st t), turn-bounded st t, ap one (and-comm (changes sys st t) true))
-
-  -- a test picks some of the turns that change something
-  pub picked-fewer : (test : Turn → Bool) (ts : List Turn) (st : State)
-      → changesWhere sys test st ts ≤ changesWhere sys (λ t. true) st ts
-  unfolding changesWhere
-  picked-fewer test [] st = le-refl 0
-  picked-fewer test (t ∷ ts) st =
-      omega (arith, picked-fewer test ts (after sys st t), one-mono _ _ (λ e. and-intro (and-left (changes sys st t) (test t) e) refl))
 
 -- `gone` labels to treat and to send, and `listed` labels in the domains, weigh as much as the bound
 loaded-weight : (p listed gone : ℕ)

@@ -3,7 +3,7 @@
 use Prim.Native.Nat.{ℕ, zero, suc, _<_, _≤_}
 use mathlib.Core.Bool.{true, false, _&&_}
 use mathlib.Core.List.{List, [], _∷_, _++_}
-use mathlib.Core.Logic.{_⊎_, inl, inr, ⊎-elim}
+use mathlib.Core.Logic.{_⊎_, inl, inr}
 use mathlib.Core.Option.{Option, none, some}
 use mathlib.Core.Path.{_≡_, refl, sym, _∙_, ap, subst}
 use native.Mathlib.Nat.{not-suc-le-zero}
@@ -80,17 +80,6 @@ module _ (sys : System) where
         go : Effect sys st t → allowed (sys .workers) t ≡ true
         go (idle d a e) = clash c d
         go (acts d o l m) = l
-
-    -- where each turn of the round would leave the state as it is, every turn would
-    pub round-decides : (st : State) → Each (λ t. after sys st t ≡ st) (round (sys .workers)) → (t : Turn)
-        → after sys st t ≡ st
-    round-decides st same t =
-        ⊎-elim
-        (λ c.
-        each-member (λ t. after sys st t ≡ st) (round (sys .workers)) same
-        (allowed-round (sys .workers) t (changes-allowed st t c)))
-        (λ c. idle-stays st t c)
-        (decided (changes sys st t))
 
     -- where some turn would change something, a round does
     pub round-changes : (st : State) (t : Turn) → changes sys st t ≡ true

@@ -28,7 +28,7 @@ pub record Done (sys : System) (ts : List Turn) (x v : ℕ) : Type 0 where
   pub is-read : unread sys (events sys (load sys) ts) x v ≡ false
   pub is-treated : untreated sys (events sys (load sys) ts) x v ≡ false
 
--- Demand 3, about a whole list of turns: any turns, allowed or idle, and any number of them
+-- Demand 3, about a whole list of turns: any turns, allowed or not, and any number of them
 pub record Demand3 (sys : System) (ts : List Turn) : Type 0 where
   -- no label of the largest domains is deleted
   pub keeps-largest : (d : Domains) → Largest (sys .net) d → Within d (final sys ts .domain)

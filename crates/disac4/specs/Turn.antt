@@ -92,6 +92,10 @@ turnsOf b = listBelow (length b / 2) (turnAt b)
 unfoldable pub turnListFits : List ℕ → Bool
 turnListFits b = eqb (length b % 2) 0 && leb (length b) 65536
 
+-- the fault of turn `i` alone
+abbrev pub faultOf : ℕ → List ℕ → ℕ → Option Decline
+faultOf p b i = cond (allowed p (turnAt b i)) none (some (decline BadTurn i))
+
 -- the first turn that is not allowed, by its number from 0
 unfoldable pub turnFault : ℕ → List ℕ → Option Decline
-turnFault p b = firstBelow (length b / 2) (λ i. cond (allowed p (turnAt b i)) none (some (decline BadTurn i)))
+turnFault p b = firstBelow (length b / 2) (faultOf p b)

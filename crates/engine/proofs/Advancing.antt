@@ -17,7 +17,7 @@ use Rattle.engine.proofs.RunLaws.{workers-are, one-and}
 use Rattle.refinement.proofs.Start.{fits-regions}
 use Rattle.refinement.proofs.Underway.{under-inv, under-ready, under-small, at-next}
 use Rattle.index.specs.Allowed.{Listed}
-use Rattle.refinement.specs.Inv.{Inv, Code}
+use Rattle.refinement.specs.Inv.{Inv, LabelNumber}
 use Rattle.cells.specs.Layout.{WORKERS, HEAD}
 use Rattle.cells.specs.Memory.{memOf}
 use Rattle.refinement.specs.Run.{turnOn, Going, Plays, Playable}
@@ -39,16 +39,16 @@ module _ (b cells : List ℕ) (g : Progress) (go : Going b cells g) where
   few = omega (arith, fits-regions b (go .sound) .sound .few, workers-are b)
 
   -- the number stands for a label of the plan
-  code-listed : (c : ℕ) → Code (systemAt b) c → Listed b (c / 16) (c % 16)
+  number-listed : (c : ℕ) → LabelNumber (systemAt b) c → Listed b (c / 16) (c % 16)
   unfolding systemAt systemOf networkOf sizeOf
-  code-listed c k = record { variable = omega (arith, k .variable, variables-read b); value = k .value }
+  number-listed c k = record { variable = omega (arith, k .variable, variables-read b); value = k .value }
 
   pub playable : Playable b cells (g .tally)
   playable = record {
     ready = under-ready b (go .sound) (go .before) (go .turns) cells g (go .at) (go .long);
     marks = omega (arith, inv .marks, pow-le-pow-right {n = 2} (omega arith) (fits-regions b (go .sound) .sound .few));
     workers = few;
-    labels = λ i h l. code-listed _ (inv .rows i (omega (arith, workers-are b)) .work-codes (memOf cells WORKERS i HEAD) l);
+    labels = λ i h l. number-listed _ (inv .rows i (omega (arith, workers-are b)) .work-labels (memOf cells WORKERS i HEAD) l);
   }
 
   -- the counts have room for one turn more

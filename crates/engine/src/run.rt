@@ -86,7 +86,7 @@ pub fn work_turn(b: &[u8], cells: &mut [u16], t: Tally, p: usize, k: usize, d: u
     work(b, cells, t, k - 1, d)
 }
 
-// The same for a read, whose code is short.
+// The same for a read alone, without the tests for other actions: most turns of a round are reads.
 pub fn read_turn(b: &[u8], cells: &mut [u16], t: Tally, p: usize, k: usize, j: usize) -> usize
     requires { ⌜ Running (now b) (now cells) t × (p ≡ workerCount (now b)) × (0 < k) × (j < 9) × (allowed p (turn k j) ≡ true) ⌝ }
     ensures { λ r. ⌜ Works (now (b .entry)) (turn k j ∷ []) (now (cells .entry)) t (now (cells .exit)) r 0 × (r ≤ 1) ⌝ }

@@ -11,8 +11,7 @@ use native.Mathlib.Numerals.{add-one}
 use native.Mathlib.Omega.{arith}
 use lib.Dec.{eqb}
 use Rattle.base.proofs.Below.{below-cases}
-use Rattle.base.proofs.Bools.{decided, and-left, and-right, and-intro, and-false-left, and-comm, or-cases, or-comm, or-right, bool-ext}
-pub use Rattle.base.proofs.Bools.{and-true}
+use Rattle.base.proofs.Bools.{decided, and-left, and-right, and-intro, and-false-left, and-comm, or-cases, or-comm, or-right, bool-ext, and-true}
 use Rattle.base.proofs.Choice.{cond-true, cond-false}
 use Rattle.base.specs.Below.{allBelow, anyBelow}
 use Rattle.index.proofs.Own.{own-first, own-follow, own-keeps}

@@ -13,7 +13,7 @@ use Rattle.cells.proofs.Stores.{store-apart}
 use Rattle.cells.specs.Layout.{WORKERS, LOG, WORK, DOMAIN, HEADS, TAIL, LOGEND}
 use Rattle.cells.specs.Lists.{pushM, deleteM}
 use Rattle.cells.specs.Memory.{Mem, memOf, store}
-use Rattle.cells.specs.View.{codeOf, counterRow}
+use Rattle.cells.specs.View.{labelNumber, counterRow}
 
 -- those regions are in `n` what they are in `m`
 pub record Kept (m n : Mem) : Type 0 where
@@ -64,5 +64,5 @@ push-kept r col i c {n = n} h p =
 pub delete-kept : (i x v : ℕ) {m n : Mem} → Kept m n → Kept m (deleteM i x v n)
 unfolding deleteM
 delete-kept i x v p =
-    push-kept WORK TAIL i (codeOf x v) (omega arith)
-    (push-kept LOG LOGEND i (codeOf x v) (omega arith) (stored DOMAIN x v 0 (omega arith) p))
+    push-kept WORK TAIL i (labelNumber x v) (omega arith)
+    (push-kept LOG LOGEND i (labelNumber x v) (omega arith) (stored DOMAIN x v 0 (omega arith) p))

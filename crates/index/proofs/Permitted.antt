@@ -11,7 +11,7 @@ use lib.Dec.{eqb}
 use lib.ListN.{length, getD}
 use lib.Pow.{pow-mono}
 use Rattle.base.proofs.Below.{all-below, every-below, any-below, some-below, getD-list-below}
-use Rattle.base.proofs.Bools.{and-comm, refuted, or-false-left, or-false-right, bool-ext}
+use Rattle.base.proofs.Bools.{and-comm, refuted, or-false-left, or-false-right, bool-ext, and-true}
 use Rattle.base.proofs.Choice.{cond-true, cond-false}
 use Rattle.base.proofs.Members.{all-at, at-all, any-at, at-any}
 use Rattle.base.proofs.Row.{row-ext, row-small, rowCount-small}
@@ -19,7 +19,7 @@ use Rattle.base.proofs.Sums.{sum-more}
 use Rattle.base.specs.Below.{allBelow, anyBelow, listBelow}
 use Rattle.base.specs.Choice.{anyOf, allOf}
 use Rattle.base.specs.Row.{bit, rowOf, rowCount}
-use Rattle.index.proofs.Chains.{and-true, Ends, ends, over-ends, chain-low, chain-settled, chain-over, chain-any, chain-all}
+use Rattle.index.proofs.Chains.{Ends, ends, over-ends, chain-low, chain-settled, chain-over, chain-any, chain-all}
 use Rattle.index.proofs.Places.{few-sections, few-values, start-inside}
 use Rattle.index.specs.Allowed.{permitsAt, Listed}
 use Rattle.index.specs.Index.{over, chainBelow, Ready, constraintStart}

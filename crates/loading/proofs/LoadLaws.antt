@@ -19,7 +19,7 @@ use Rattle.loading.specs.Load.{suits, countPairM, countAgainstM, countVa
 use Rattle.cells.specs.Memory.{Mem, store}
 use Rattle.cells.specs.View.{LISTED, counterRow}
 
--- ---- the counters of one value, one variable more
+-- ---- the counters: one value more, one variable more
 
 pub counter-more : (sys : System) (x y v : ℕ) (m m₁ m₂ : Mem) (row count : ℕ) → m₁ ≡ countPairM sys x y v m
     → row ≡ counterRow m x y → count ≡ supportCount (sys .net) x v y → m₂ ≡ store m₁ COUNTERS row v count

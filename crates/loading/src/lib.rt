@@ -99,7 +99,7 @@ fn load_variable(b: &[u8], cells: &mut [u16], x: usize)
     list_values(b, cells, x, row);
 }
 
-// Every variable.
+// Loads every variable: its counters, its domain and its first deletions.
 pub fn load_plan(b: &[u8], cells: &mut [u16])
     requires { ⌜ Ready (now b) (now cells) ⌝ }
     ensures { λ _. ⌜ memOf (now (cells .exit)) ≡ loadM (systemOf (planOf (now (b .entry)))) (memOf (now (cells .entry))) ⌝ }

@@ -4,15 +4,15 @@ use mathlib.Core.Bool.{Bool, true, _&&_}
 use mathlib.Core.Path.{_≡_}
 use Rattle.base.proofs.Bools.{and-left, and-right, and-intro}
 use Rattle.network.proofs.Largest.{largest-contains}
-use Rattle.network.specs.Chain.{Tied, same, next, Apart, ConsistentOn}
+use Rattle.network.specs.Chain.{Tied, next, Apart, ConsistentOn}
 use Rattle.network.specs.Consistency.{Within, Supported, ArcConsistent, ConsistentWithin, Largest}
 use Rattle.network.specs.Network.{Network, Domains, loaded}
 
--- a set that no chain leaves holds all that a chain ties to one of its variables
-pub tied-inside : (net : Network) (a : ℕ → Bool) → Apart net a → {x y : ℕ} → Tied net x y → a x ≡ true → a y ≡ true
+-- no chain leaves the set of the variables that no chain ties to `z`
+pub untied-apart : (net : Network) (a : ℕ → Bool) (z : ℕ) → ((x : ℕ) → a x ≡ true → Tied net x z → ⊥)
+    → ((x : ℕ) → (Tied net x z → ⊥) → a x ≡ true) → Apart net a
 unfolding Apart
-tied-inside net a apart same h = h
-tied-inside net a apart (next {x} {y} l c) h = tied-inside net a apart c (apart x y h l)
+untied-apart net a z untied all x y h l = all y (λ c. untied x h (next l c))
 
 module _ (net : Network) (a : ℕ → Bool) (d : Domains) where
   -- the domains of the set alone

@@ -20,6 +20,7 @@ ghost use Rattle.parser.specs.Known.{PassedBefore};
 ghost use Rattle.plan.specs.Network.{networkOf};
 ghost use Rattle.parser.specs.Scan.{answerOf, trailingFault, sectionsFault};
 
+// The answer of a plan with a fault.
 pub fn declined(fault: Fault, place: usize) -> Checked
     ensures { λ r. ⌜ r ≡ Checked.Declined (decline fault place) ⌝ }
 {

@@ -21,7 +21,7 @@ unfoldable pub permits : Plan → Relation → ℕ → ℕ → ℕ → ℕ → B
 permits plan (table rows) x v y w = bit (getD rows v 0) w
 permits plan (sumLimit limit) x v y w = withinLimit limit (valueOf plan x v .figure) (valueOf plan y w .figure)
 
--- the constraint's first slot is `x` and its second `y`
+-- the constraint's first variable (slot) is `x` and its second `y`, counted from 0
 unfoldable pub joins : Constraint → ℕ → ℕ → Bool
 joins c x y = eqb (c .first) (suc x) && eqb (c .second) (suc y)
 

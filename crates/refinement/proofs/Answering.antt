@@ -91,8 +91,8 @@ module _ (sys : System) (m : Mem) (t : Tally) (i : ℕ) (inv : Inv sys (record {
             (r .out-list);
         polls-read = r .polls-read;
         held-read = omega (arith, none-held i m);
-        log-codes = r .log-codes;
-        work-codes = r .work-codes;
+        log-labels = r .log-labels;
+        work-labels = r .work-labels;
       }
 
   totals : Totals sys (answeredM i m) t

@@ -17,7 +17,7 @@ use Rattle.cells.proofs.Stores.{store-same, store-other, store-apart}
 use Rattle.cells.specs.Layout.{WORKERS, LOG, WORK, DOMAIN, COUNTERS, HEADS, TAIL, LOGEND}
 use Rattle.cells.specs.Lists.{pushM, deleteM}
 use Rattle.cells.specs.Memory.{Mem, store}
-use Rattle.cells.specs.View.{LISTED, codeOf, counterRow}
+use Rattle.cells.specs.View.{LISTED, labelNumber, counterRow}
 use Rattle.index.proofs.Kept.{row-heads}
 use Rattle.loading.specs.Load.{countPairM, countAgainstM, countVariableM, listLabelM, listValuesM, loadVariableM, loadVariablesM, loadM}
 use Rattle.index.specs.Index.{Paired}
@@ -158,10 +158,10 @@ push-lists q col i c h = record {
 delete-lists : (i x v : ℕ) → Listing (deleteM i x v)
 unfolding deleteM
 delete-lists i x v =
-    both-list (λ m. pushM LOG LOGEND i (codeOf x v) (store m DOMAIN x v 0)) (pushM WORK TAIL i (codeOf x v))
-    (both-list (λ m. store m DOMAIN x v 0) (pushM LOG LOGEND i (codeOf x v)) (store-lists DOMAIN x v 0 (omega arith))
-    (push-lists LOG LOGEND i (codeOf x v) (omega arith)))
-    (push-lists WORK TAIL i (codeOf x v) (omega arith))
+    both-list (λ m. pushM LOG LOGEND i (labelNumber x v) (store m DOMAIN x v 0)) (pushM WORK TAIL i (labelNumber x v))
+    (both-list (λ m. store m DOMAIN x v 0) (pushM LOG LOGEND i (labelNumber x v)) (store-lists DOMAIN x v 0 (omega arith))
+    (push-lists LOG LOGEND i (labelNumber x v) (omega arith)))
+    (push-lists WORK TAIL i (labelNumber x v) (omega arith))
 
 module _ (sys : System) where
   label-lists : (x v : ℕ) → Listing (listLabelM sys x v)

@@ -15,7 +15,7 @@ use Rattle.cells.specs.Layout.{WORKERS, CURSORS, BOUNDS, LOG, WORK, OUT, WANTED
 use Rattle.cells.specs.Memory.{Mem}
 use Rattle.controller.specs.Controller.{Machine}
 use Rattle.cells.specs.View.{LISTED, LISTMARK}
-use Rattle.refinement.specs.Inv.{Code, Row, Polled, Replied, Inv, Totals, listsOut}
+use Rattle.refinement.specs.Inv.{LabelNumber, Row, Polled, Replied, Inv, Totals, listsOut}
 use Rattle.index.specs.Index.{Paired}
 use Rattle.network.specs.Network.{domainSize}
 
@@ -34,8 +34,8 @@ pub record GrownRow (sys : System) (m m′ : Mem) (i : ℕ) : Type 0 where
   pub out : (e : ℕ) → m′ OUT i e ≡ m OUT i e
   pub queue : m′ WORKERS i HEAD ≤ m′ WORKERS i TAIL
   pub log-end : m WORKERS i LOGEND ≤ m′ WORKERS i LOGEND
-  pub log-codes : (d : ℕ) → d < m′ WORKERS i LOGEND → Code sys (m′ LOG i d)
-  pub work-codes : (d : ℕ) → d < m′ WORKERS i TAIL → Code sys (m′ WORK i d)
+  pub log-labels : (d : ℕ) → d < m′ WORKERS i LOGEND → LabelNumber sys (m′ LOG i d)
+  pub work-labels : (d : ℕ) → d < m′ WORKERS i TAIL → LabelNumber sys (m′ WORK i d)
 
 -- the wanted counts
 abbrev pub SameWanted : Mem → Mem → Type 0
@@ -58,8 +58,8 @@ module _ (m m′ : Mem) where
     out-list = λ e h k. omega (arith, g .out e, sends, r .out-list e (omega (arith, out-end)) (omega (arith, g .out e)));
     polls-read = omega (arith, polls, r .polls-read);
     held-read = omega (arith, g .column HELD (omega arith), polls, r .held-read);
-    log-codes = g .log-codes;
-    work-codes = g .work-codes;
+    log-labels = g .log-labels;
+    work-labels = g .work-labels;
   }
     where
       sends : m′ WORKERS i SENDS ≡ m WORKERS i SENDS
@@ -82,8 +82,8 @@ module _ (m m′ : Mem) where
         out = s .out;
         queue = omega (arith, s .workers HEAD, s .workers TAIL, r .queue);
         log-end = omega (arith, s .workers LOGEND);
-        log-codes = λ d h. rw (s .log d) (r .log-codes d (omega (arith, s .workers LOGEND)));
-        work-codes = λ d h. rw (s .work d) (r .work-codes d (omega (arith, s .workers TAIL)));
+        log-labels = λ d h. rw (s .log d) (r .log-labels d (omega (arith, s .workers LOGEND)));
+        work-labels = λ d h. rw (s .work d) (r .work-labels d (omega (arith, s .workers TAIL)));
       })
       l r
 

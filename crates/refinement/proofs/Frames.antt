@@ -8,7 +8,7 @@ use Rattle.cells.proofs.Stores.{store-same, store-other, Beside, push-other}
 use Rattle.cells.specs.Layout.{WORKERS, LOG, WORK, DOMAIN, COUNTERS, TAIL, LOGEND}
 use Rattle.cells.specs.Lists.{pushM, deleteM}
 use Rattle.cells.specs.Memory.{Mem, store}
-use Rattle.cells.specs.View.{codeOf, counterRow}
+use Rattle.cells.specs.View.{labelNumber, counterRow}
 
 -- the point stands apart from label `v` of `x` and from the lists of row `i`
 pub record Apart (sys : System) (m : Mem) (i x v r a b : ℕ) : Type 0 where
@@ -29,8 +29,8 @@ module _ (sys : System) (i x v : ℕ) (m : Mem) where
       → deleteM i x v m r a b ≡ store m DOMAIN x v 0 r a b
   unfolding deleteM
   delete-stores r a b work log =
-      push-other WORK TAIL i (codeOf x v) (pushM LOG LOGEND i (codeOf x v) (store m DOMAIN x v 0)) r a b work
-      ∙ push-other LOG LOGEND i (codeOf x v) (store m DOMAIN x v 0) r a b log
+      push-other WORK TAIL i (labelNumber x v) (pushM LOG LOGEND i (labelNumber x v) (store m DOMAIN x v 0)) r a b work
+      ∙ push-other LOG LOGEND i (labelNumber x v) (store m DOMAIN x v 0) r a b log
 
   -- deleting a label leaves what stands apart alone
   pub delete-apart : (n : Mem) (r a b : ℕ) → Apart sys n i x v r a b → deleteM i x v m r a b ≡ m r a b

@@ -13,16 +13,16 @@ use Rattle.cells.proofs.Stores.{store-same, store-other, Beside, push-stores, p
 use Rattle.cells.specs.Layout.{WORKERS, LOG, WORK, DOMAIN, TAIL, LOGEND}
 use Rattle.cells.specs.Lists.{pushM, deleteM, copyM}
 use Rattle.cells.specs.Memory.{Mem, store}
-use Rattle.cells.specs.View.{codeOf, labelOf, labelsBetween}
-use Rattle.refinement.specs.Inv.{Code}
+use Rattle.cells.specs.View.{labelNumber, labelOf, labelsBetween}
+use Rattle.refinement.specs.Inv.{LabelNumber}
 use Rattle.refinement.proofs.Frames.{deleteIf}
 
 -- the code of a loaded label
 pub loaded-code : (sys : System) (x v : ℕ) → v < 16 → x < sys .net .variables → v < sys .net .size x
-    → Code sys (codeOf x v)
+    → LabelNumber sys (labelNumber x v)
 loaded-code sys x v h k l =
-    let p : codeOf x v / 16 ≡ x = omega arith in
-    let q : codeOf x v % 16 ≡ v = omega arith in
+    let p : labelNumber x v / 16 ≡ x = omega arith in
+    let q : labelNumber x v % 16 ≡ v = omega arith in
     record { variable = omega arith; value = omega (arith, ap (sys .net .size) p) }
 
 -- ---- a row that has grown by the labels `l`; its end is kept in a column of the worker's row
@@ -32,7 +32,7 @@ pub record Longer (sys : System) (q col i : ℕ) (m n : Mem) (l : List Label) : 
   pub old : (d : ℕ) → d < m WORKERS i col → n q i d ≡ m q i d
   pub new : (from : ℕ) → from ≤ m WORKERS i col
       → labelsBetween n q i from (n WORKERS i col) ≡ labelsBetween m q i from (m WORKERS i col) ++ l
-  pub codes : ((d : ℕ) → d < m WORKERS i col → Code sys (m q i d)) → (d : ℕ) → d < n WORKERS i col → Code sys (n q i d)
+  pub codes : ((d : ℕ) → d < m WORKERS i col → LabelNumber sys (m q i d)) → (d : ℕ) → d < n WORKERS i col → LabelNumber sys (n q i d)
 
 module _ (sys : System) (q col i : ℕ) where
   -- a row that stays
@@ -44,7 +44,7 @@ module _ (sys : System) (q col i : ℕ) where
     new = λ from p.
         labels-same m n q i from (m WORKERS i col) refl e (λ d p q. h d)
         ∙ sym (append-nil (labelsBetween m q i from (m WORKERS i col)));
-    codes = λ c d p. subst (Code sys) (sym (h d)) (c d (omega arith));
+    codes = λ c d p. subst (LabelNumber sys) (sym (h d)) (c d (omega arith));
   }
 
   -- first by some labels, then by others
@@ -61,7 +61,7 @@ module _ (sys : System) (q col i : ℕ) where
   }
 
   -- a push
-  pub longer-push : (m : Mem) (c : ℕ) → (q ≡ WORKERS → ⊥) → m WORKERS i col < 512 → Code sys c
+  pub longer-push : (m : Mem) (c : ℕ) → (q ≡ WORKERS → ⊥) → m WORKERS i col < 512 → LabelNumber sys c
       → Longer sys q col i m (pushM q col i c m) (labelOf c ∷ [])
   longer-push m c apart room code = subst (λ n. Longer sys q col i m n (labelOf c ∷ [])) (sym (push-stores q col i c m room)) stored
     where
@@ -96,14 +96,14 @@ module _ (sys : System) (q col i : ℕ) where
             ∙ ap₂ (λ l a. l ++ (labelOf a ∷ [])) (labels-same m n q i from at refl refl (λ d h k. old-at d (λ e. omega arith))) new-at;
         codes = λ h d p.
             elim (ℕ-discrete d at) [
-              | yes e ↦ subst (λ (a : ℕ). Code sys (n q i a)) (sym e) (subst (Code sys) (sym new-at) code)
-              | no e ↦ subst (Code sys) (sym (old-at d e)) (h d (omega (arith, end-at)))
+              | yes e ↦ subst (λ (a : ℕ). LabelNumber sys (n q i a)) (sym e) (subst (LabelNumber sys) (sym new-at) code)
+              | no e ↦ subst (LabelNumber sys) (sym (old-at d e)) (h d (omega (arith, end-at)))
             ];
       }
 
 -- a copied list message: labels of row `j`'s log join the end of row `i`'s work list
 pub longer-copy : (sys : System) (j i from n : ℕ) (m : Mem) → m WORKERS i TAIL + n ≤ 512
-    → ((d : ℕ) → d < from + n → Code sys (m LOG j d))
+    → ((d : ℕ) → d < from + n → LabelNumber sys (m LOG j d))
     → Longer sys WORK TAIL i m (copyM j i from n m) (labelsBetween m LOG j from (from + n))
 unfolding copyM
 longer-copy sys j i from zero m room codes =
@@ -133,7 +133,7 @@ longer-copy sys j i from (suc n) m room codes = go (longer-copy sys j i from n m
         (longer-more sys WORK TAIL i m before (pushM WORK TAIL i next before) copied (labelOf next ∷ []) grown
         (longer-push sys WORK TAIL i before next (λ e. omega arith)
         (omega (arith, grown .end, labels-length m LOG j from (from + n)))
-        (subst (Code sys) (sym same) (codes (from + n) (omega arith)))))
+        (subst (LabelNumber sys) (sym same) (codes (from + n) (omega arith)))))
 
 -- ---- a row's log and work list that have grown by the same labels
 
@@ -182,9 +182,9 @@ module _ (sys : System) (i : ℕ) where
       })
     where
       c : ℕ
-      c = codeOf x v
+      c = labelNumber x v
 
-      code : Code sys c
+      code : LabelNumber sys c
       code = loaded-code sys x v l h k
 
       out : Mem

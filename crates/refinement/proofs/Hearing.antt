@@ -105,8 +105,8 @@ module _ (sys : System) (m : Mem) (t t′ : Tally) (i : ℕ) (inv : Inv sys (rec
         out-list = r .out-list;
         polls-read = omega (arith, r .polls-read, next .later);
         held-read = r .held-read;
-        log-codes = r .log-codes;
-        work-codes = r .work-codes;
+        log-labels = r .log-labels;
+        work-labels = r .work-labels;
       }
 
   totals : Totals sys (outReadM i m) t′

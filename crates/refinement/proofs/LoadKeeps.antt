@@ -37,8 +37,8 @@ module _ (sys : System) (small : Small sys) (z : Mem) (paired : Paired sys z) (b
     out-list = λ e p. absurd (omega (arith, blank WORKERS i OUTEND (omega arith)));
     polls-read = omega (arith, blank WORKERS i POLLS (omega arith));
     held-read = omega (arith, blank WORKERS i HELD (omega arith));
-    log-codes = λ d p. absurd (omega (arith, blank WORKERS i LOGEND (omega arith)));
-    work-codes = λ d p. absurd (omega (arith, blank WORKERS i TAIL (omega arith)));
+    log-labels = λ d p. absurd (omega (arith, blank WORKERS i LOGEND (omega arith)));
+    work-labels = λ d p. absurd (omega (arith, blank WORKERS i TAIL (omega arith)));
   }
 
   -- a column other than the ends of the lists

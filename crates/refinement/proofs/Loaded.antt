@@ -5,7 +5,7 @@ use Prim.Native.Nat.{ℕ}
 use Rattle.disac4.proofs.Demands.{plan-sound}
 use Rattle.disac4.specs.System.{systemOf}
 use Rattle.refinement.specs.Inv.{Small}
-use Rattle.plan.proofs.Links.{linked-symmetric, linked-in-range}
+use Rattle.plan.proofs.Links.{linked-in-range}
 use Rattle.plan.proofs.WellFormed.{well-formed, few-labels}
 use Rattle.plan.specs.Decode.{accepted, decode}
 use Rattle.plan.specs.Network.{networkOf}
@@ -18,9 +18,7 @@ small b plan e =
     let fits : WellFormed plan = well-formed b plan e in
     record {
       sound = plan-sound plan fits;
-      few-variables = fits .variables-high;
       few-values = λ x h. fits .each-variable x h .few-values;
       few-labels = few-labels plan fits;
       links-inside = linked-in-range plan fits;
-      links-both = linked-symmetric plan;
     }

@@ -61,8 +61,8 @@ module _ (sys : System) (m : Mem) (t : Tally) (i : ℕ) (inv : Inv sys (record {
         out-list = r .out-list;
         polls-read = omega (arith, more-polls);
         held-read = omega (arith, more-polls, newest-held);
-        log-codes = r .log-codes;
-        work-codes = r .work-codes;
+        log-labels = r .log-labels;
+        work-labels = r .work-labels;
       }
 
   totals : Totals sys (heldM i m) t

@@ -129,7 +129,7 @@ taken-list sys small s inv j i hj hi apart unread =
     let m = s .mem in
     let e : listStart j i m + listLength j i m ≡ listEnd j i m = omega (arith, inv .rows j hj .bounds-rise (m CURSORS j i) unread) in
     let g = longer-copy sys j i (listStart j i m) (listLength j i m) m (list-room sys small s inv j i hj hi apart unread)
-    (λ d l. inv .rows j hj .log-codes d (omega (arith, bound-logged sys small s inv j hj (m CURSORS j i + 1) (omega arith)))) in
+    (λ d l. inv .rows j hj .log-labels d (omega (arith, bound-logged sys small s inv j hj (m CURSORS j i + 1) (omega arith)))) in
     subst (λ (c : ℕ). Longer sys WORK TAIL i m (takenM j i m) (labelsBetween m LOG j (listStart j i m) c)) e
     (record { end = g .end; old = g .old; new = g .new; codes = g .codes })
 
@@ -148,9 +148,9 @@ module _ (sys : System) (m : Mem) (t : Tally) (j i : ℕ) (inv : Inv sys (record
         out = region j i m OUT (omega arith) i;
         queue = omega (arith, column j i m i HEAD (omega arith) (omega arith), joined .end, r .queue);
         log-end = omega (arith, column j i m i LOGEND (omega arith) (omega arith));
-        log-codes = λ d h. rw (region j i m LOG (omega arith) i d)
-            (r .log-codes d (omega (arith, column j i m i LOGEND (omega arith) (omega arith))));
-        work-codes = joined .codes (r .work-codes);
+        log-labels = λ d h. rw (region j i m LOG (omega arith) i d)
+            (r .log-labels d (omega (arith, column j i m i LOGEND (omega arith) (omega arith))));
+        work-labels = joined .codes (r .work-labels);
       })
       (omega arith) r
 

@@ -94,8 +94,8 @@ module _ (sys : System) (m : Mem) (t : Tally) (i : ℕ) (inv : Inv sys (record {
             (λ l. omega (arith, more-sends i m)) (r .out-list);
         polls-read = r .polls-read;
         held-read = r .held-read;
-        log-codes = r .log-codes;
-        work-codes = r .work-codes;
+        log-labels = r .log-labels;
+        work-labels = r .work-labels;
       }
 
   totals : Totals sys (sentM i m) t

@@ -60,8 +60,8 @@ module _ (sys : System) (m n : Mem) (t : Tally) (u : Unmoved m n) where
         out = u .out i;
         queue = queue;
         log-end = omega (arith, both .log .end);
-        log-codes = both .log .codes (row .log-codes);
-        work-codes = both .work .codes (row .work-codes);
+        log-labels = both .log .codes (row .log-labels);
+        work-labels = both .work .codes (row .work-labels);
       })
       (omega arith) row
 

@@ -18,18 +18,16 @@ use Rattle.cells.specs.View.{LISTED, LISTMARK}
 
 pub record Small (sys : System) : Type 0 where
   pub sound : Sound sys
-  pub few-variables : sys .net .variables ≤ 32
   pub few-values : (x : ℕ) → x < sys .net .variables → sys .net .size x ≤ 16
   pub few-labels : labelCount (sys .net) ≤ 512
   -- constraints join two different variables of the network
   pub links-inside : (x y : ℕ) → sys .net .linked x y ≡ true
       → (x < sys .net .variables) × (y < sys .net .variables) × (x ≡ y → ⊥)
-  pub links-both : (x y : ℕ) → sys .net .linked x y ≡ sys .net .linked y x
 
 -- ---- one worker's row
 
 -- the number stands for a loaded label
-pub record Code (sys : System) (c : ℕ) : Type 0 where
+pub record LabelNumber (sys : System) (c : ℕ) : Type 0 where
   pub variable : c / 16 < sys .net .variables
   pub value : c % 16 < sys .net .size (c / 16)
 
@@ -44,8 +42,8 @@ pub record Row (sys : System) (m : Mem) (t : Tally) (i : ℕ) : Type 0 where
   pub out-list : (e : ℕ) → e < m WORKERS i OUTEND → LISTMARK ≤ m OUT i e → m OUT i e - LISTMARK < m WORKERS i SENDS
   pub polls-read : m WORKERS i POLLS ≤ t .timestamp .0
   pub held-read : m WORKERS i HELD ≤ m WORKERS i POLLS
-  pub log-codes : (d : ℕ) → d < m WORKERS i LOGEND → Code sys (m LOG i d)
-  pub work-codes : (d : ℕ) → d < m WORKERS i TAIL → Code sys (m WORK i d)
+  pub log-labels : (d : ℕ) → d < m WORKERS i LOGEND → LabelNumber sys (m LOG i d)
+  pub work-labels : (d : ℕ) → d < m WORKERS i TAIL → LabelNumber sys (m WORK i d)
 
 -- ---- counts over all rows
 

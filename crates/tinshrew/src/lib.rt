@@ -19,6 +19,7 @@ pub fn check_plan(plan: &[u8]) -> Checked
     parser::check_plan(plan)
 }
 
+// The answer of a run that is declined.
 fn declined(fault: Fault, place: usize) -> Answer
     ensures { λ r. ⌜ r ≡ Answer.Declined (decline fault place) ⌝ }
 {

@@ -28,10 +28,8 @@ use Rattle.cells.proofs.Stores.{one-more}
 use Rattle.cells.specs.Layout.{WORKERS, WORK, DOMAIN, COUNTERS, HEAD, TAIL}
 use Rattle.cells.specs.Lists.{deleteM}
 use Rattle.cells.specs.Memory.{Mem, store}
-use Rattle.treating.specs.Treat.{Supported, loseM, touchM, touchValuesM, touchVariableM, touchVariablesM, treatM}
+use Rattle.treating.specs.Treat.{SupportRow, loseM, touchM, touchValuesM, touchVariableM, touchVariablesM, treatM}
 use Rattle.cells.specs.View.{LISTED, counterRow}
-
--- ---- a loop makes one step more
 
 -- ---- a count goes down
 
@@ -90,7 +88,7 @@ module _ (sys : System) (i y w x v t d : ℕ) (m : Mem) (cell : d ≡ m DOMAIN x
 -- the row of the treated label's supports holds the values that had it as a support: a pair reads the same from either side
 pub supported : (b : List ℕ) (m : Mem) (y w x n s r : ℕ) → shareConstraint (planOf b) y x ≡ true → n ≡ sizeOf (planOf b) x
     → s ≡ rowOf (sizeOf (planOf b) x) (supports (networkOf (planOf b)) y w x) → r ≡ counterRow m x y
-    → Supported (systemOf (planOf b)) m y w x n s r
+    → SupportRow (systemOf (planOf b)) m y w x n s r
 unfolding systemOf networkOf
 supported b m y w x n s r l k e c = record {
   holds = λ v h.

@@ -1,4 +1,4 @@
--- Treating a label in memory: the owner's variables that share a constraint with it, ascending, and their values.
+-- Treating a label in memory: the treating worker's variables that share a constraint with it, ascending, and their values.
 use Prim.Native.Nat.{ℕ, zero, suc, _+_, _-_, _/_, _%_, _<_}
 use mathlib.Core.Bool.{cond}
 use mathlib.Core.Option.{Option, none, some}
@@ -13,7 +13,7 @@ use Rattle.cells.specs.View.{LISTED, counterRow}
 
 -- what is asked for once in a variable: `row` holds those of the first `n` values of `x` that had label `w` of `y` as a
 -- support, and their counters against `y` stand in row `at`
-pub record Supported (sys : System) (m : Mem) (y w x n row at : ℕ) : Type 0 where
+pub record SupportRow (sys : System) (m : Mem) (y w x n row at : ℕ) : Type 0 where
   pub holds : (v : ℕ) → v < n → bit row v ≡ sys .net .allows x v y w
   pub counted : at ≡ counterRow m x y
 

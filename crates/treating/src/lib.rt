@@ -13,7 +13,7 @@ ghost use Rattle.index.specs.Allowed.{Listed};
 ghost use Rattle.index.specs.Index.{ownLinked, Ready};
 ghost use Rattle.cells.specs.Layout.{WORKERS, WORK, HEAD, TAIL};
 ghost use Rattle.cells.specs.Memory.{memOf, Acts};
-ghost use Rattle.treating.specs.Treat.{Supported, loseM, touchM, touchValuesM, touchVariableM, touchVariablesM, treatM};
+ghost use Rattle.treating.specs.Treat.{SupportRow, loseM, touchM, touchValuesM, touchVariableM, touchVariablesM, treatM};
 ghost use Rattle.cells.specs.View.{counterRow};
 
 // Label v of x loses one from its count, in a row of counters; at 0 row i deletes it.
@@ -45,7 +45,7 @@ fn touch(cells: &mut [u16], i: usize, x: usize, v: usize, supported: usize, row:
 // The first n values of x: those that had the treated label as a support are in one row, their counters in another.
 fn touch_values(cells: &mut [u16], i: usize, x: usize, n: usize, supported: usize, row: usize)
     requires { ⌜ (24576 ≤ length (now cells)) × (i < 8) × (x < 32) × (n ≤ 16) × (row ≤ 256) ⌝ }
-    ensures { λ _. ⌜ ((sys : System) (y w : ℕ) → Supported sys (memOf (now (cells .entry))) y w x n supported row → memOf (now (cells .exit)) ≡ touchValuesM sys i y w x n (memOf (now (cells .entry)))) ⌝ }
+    ensures { λ _. ⌜ ((sys : System) (y w : ℕ) → SupportRow sys (memOf (now (cells .entry))) y w x n supported row → memOf (now (cells .exit)) ≡ touchValuesM sys i y w x n (memOf (now (cells .entry)))) ⌝ }
 {
     let mut v = 0;
     while v < n {

@@ -2,7 +2,7 @@
 use Prim.Native.Nat.{ℕ, _+_, _*_, _/_, _<_}
 use mathlib.Core.Bool.{Bool, true, false, cond}
 use mathlib.Core.List.{List}
-use mathlib.Core.Option.{Option, none, some}
+use mathlib.Core.Option.{none, some}
 use mathlib.Core.Path.{_≡_, refl, sym, _∙_, ap₂}
 use borrow.Author.Tests.{lt-ltb, le-ltb}
 use native.Mathlib.Omega.{arith}
@@ -11,15 +11,10 @@ use Rattle.base.proofs.Below.{first-at, first-more, none-first}
 use Rattle.base.proofs.Choice.{none≢some, cond-true, cond-false}
 use Rattle.base.specs.Below.{firstBelow}
 use Rattle.base.specs.Bytes.{byteAt}
-use Rattle.disac4.specs.Turn.{turn, allowed, turnAt, turnFault}
+use Rattle.disac4.specs.Turn.{turn, allowed, turnAt, turnFault, faultOf}
 use Rattle.turns.specs.Bad.{badTurn}
 use Rattle.plan.specs.Fault.{decline}
-use Rattle.plan.specs.declared.Decline.{Decline}
 use Rattle.plan.specs.declared.Fault.the-variants.{BadTurn}
-
--- the fault of turn `i` alone
-abbrev pub faultOf : ℕ → List ℕ → ℕ → Option Decline
-faultOf p list i = cond (allowed p (turnAt list i)) none (some (decline BadTurn i))
 
 -- a turn as its two bytes are read
 pub turn-read : (list : List ℕ) (k actor action : ℕ) → actor ≡ byteAt list (2 * k) → action ≡ byteAt list (2 * k + 1)

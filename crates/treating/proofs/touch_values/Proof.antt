@@ -10,14 +10,14 @@ use Rattle.treating.proofs.TreatLaws.{value-more}
 use Rattle.cells.specs.Layout.{HEADS}
 use Rattle.cells.specs.Memory.{Mem, memOf}
 use Rattle.cells.specs.View.{counterRow}
-use Rattle.treating.specs.Treat.{Supported, touchValuesM}
+use Rattle.treating.specs.Treat.{SupportRow, touchValuesM}
 use Rattle.treating.proofs.touch_values.Statement.{statement}
 use Rattle.treating.proofs.touch_values.Tie as tie
 
 abbrev Inv-loop : tie.InvT-loop
 Inv-loop cells₀ i x n supported row v₀ cells v =
     (v ≤ n) × (length cells ≡ length cells₀)
-    × ((sys : System) (y w : ℕ) → Supported sys (memOf cells₀) y w x n supported row
+    × ((sys : System) (y w : ℕ) → SupportRow sys (memOf cells₀) y w x n supported row
     → memOf cells ≡ touchValuesM sys i y w x v (memOf cells₀))
 
 abbrev μ-loop : tie.MeasureT-loop

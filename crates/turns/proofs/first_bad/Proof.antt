@@ -8,8 +8,8 @@ use native.Mathlib.Omega.{arith}
 use denote.Ref.{now}
 use lib.ListN.{length}
 use Rattle.base.specs.Below.{firstBelow}
-use Rattle.disac4.specs.Turn.{allowed, turnAt}
-use Rattle.turns.proofs.TurnLists.{faultOf, turn-read, next-allowed, first-fault, no-fault}
+use Rattle.disac4.specs.Turn.{allowed, turnAt, faultOf}
+use Rattle.turns.proofs.TurnLists.{turn-read, next-allowed, first-fault, no-fault}
 use Rattle.turns.proofs.first_bad.Statement.{statement}
 use Rattle.turns.proofs.first_bad.Tie as tie
 
