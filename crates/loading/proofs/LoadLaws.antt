@@ -5,6 +5,7 @@ use mathlib.Core.Path.{_≡_, refl, sym, _∙_, ap}
 use native.Mathlib.Numerals.{add-one}
 use lib.Bits.{bitAnd}
 use lib.Dec.{eqb}
+use Rattle.base.proofs.Bools.{and-true}
 use Rattle.base.proofs.Choice.{cond-true, cond-false}
 use Rattle.base.proofs.Row.{bit-and, row-bit}
 use Rattle.base.specs.Below.{anyBelow, allBelow}
@@ -48,11 +49,7 @@ module _ (sys : System) (x y : ℕ) where
     pub not-counted : (r row : ℕ) → sys .net .linked x y ≡ false → r ≡ row
         → (m ≡ countAgainstM sys x y m) × ((v : ℕ) → bit r v ≡ bit row v && suits (sys .net) x v y)
     unfolding countAgainstM suits
-    not-counted r row l e = (sym (cond-false _ m l), λ v. rw (l, e) (sym (kept (bit row v))))
-      where
-        kept : (b : Bool) → b && true ≡ b
-        kept true = refl
-        kept false = refl
+    not-counted r row l e = (sym (cond-false _ m l), λ v. rw (l, e) (sym (and-true (bit row v) refl)))
 
     -- linked, the values that don't suit leave the row
     pub counted : (n : Mem) (row part : ℕ) → sys .net .linked x y ≡ true → n ≡ countPairM sys x y (sys .net .size x) m

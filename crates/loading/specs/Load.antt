@@ -39,6 +39,7 @@ unfoldable pub listValuesM : System → ℕ → ℕ → Mem → Mem
 listValuesM sys x zero m = m
 listValuesM sys x (suc n) m = listLabelM sys x n (listValuesM sys x n m)
 
+-- variable `x`: the counters of its values, then its labels
 unfoldable pub loadVariableM : System → ℕ → Mem → Mem
 loadVariableM sys x m = listValuesM sys x (sys .net .size x) (countVariableM sys x (sys .net .variables) m)
 

@@ -35,14 +35,14 @@ pub record Counting (f : Mem → Mem) : Type 0 where
       → f m COUNTERS a b ≡ f n COUNTERS a b
 
 -- the two memories are the same beside the counters
-abbrev Beside : Mem → Mem → Type 0
-Beside m n = (r a b : ℕ) → (r ≡ COUNTERS → ⊥) → m r a b ≡ n r a b
+abbrev SameElse : Mem → Mem → Type 0
+SameElse m n = (r a b : ℕ) → (r ≡ COUNTERS → ⊥) → m r a b ≡ n r a b
 
 -- writes neither the counters nor the index, and does not read the counters
 record Listing (g : Mem → Mem) : Type 0 where
   heads : (m : Mem) (a b : ℕ) → g m HEADS a b ≡ m HEADS a b
   counters : (m : Mem) (a b : ℕ) → g m COUNTERS a b ≡ m COUNTERS a b
-  alike : (m n : Mem) → Beside m n → Beside (g m) (g n)
+  alike : (m n : Mem) → SameElse m n → SameElse (g m) (g n)
 
 commute : (f g : Mem → Mem) → Counting f → Listing g → (m : Mem) → f (g m) ≡ g (f m)
 commute f g p q m = fun-ext λ r. fun-ext λ a. fun-ext λ b. at r a b

@@ -7,7 +7,6 @@ use mathlib.Core.Bool.{Bool, cond}
 use mathlib.Core.List.{List}
 use mathlib.Core.Path.{_≡_, refl, _∙_, ap}
 use native.Mathlib.Omega.{arith}
-use Rattle.base.proofs.Sums.{sum-more}
 use Rattle.base.specs.Row.{rowOf}
 use Rattle.cells.proofs.Ranges.{may-put}
 use Rattle.cells.specs.Memory.{memOf}
@@ -19,7 +18,7 @@ use Rattle.loading.proofs.count_pair.Tie as tie
 use Rattle.loading.specs.Load.{suits, countPairM}
 use Rattle.disac4.specs.System.{systemOf}
 use Rattle.index.proofs.Labels.{label-small, numbered}
-use Rattle.index.proofs.Permitted.{row-low}
+use Rattle.index.proofs.Permitted.{row-more, row-low}
 use Rattle.index.proofs.Places.{few-sections}
 use Rattle.index.specs.Allowed.{Listed}
 use Rattle.index.specs.Index.{Ready}
@@ -110,10 +109,10 @@ module _ (c : tie.After-row-if Inv-loop μ-loop) where
   abbrev test : ℕ → Bool
   test v = suits (systemOf (planOf (b l)) .net) (s l .args .x) v (s l .args .y)
 
-  row-more : l .loop .row + c .row-if .result ≡ rowOf (l .loop .v + 1) test
-  unfolding rowOf systemOf networkOf
-  row-more =
-      sum-more (l .loop .row) (c .row-if .result) (l .loop .v) (λ v. cond (test v) (2 ^ v) 0) (l .loop .inv .3)
+  longer : l .loop .row + c .row-if .result ≡ rowOf (l .loop .v + 1) test
+  unfolding systemOf networkOf
+  longer =
+      row-more (l .loop .v) (l .loop .row) (c .row-if .result) test (l .loop .inv .3)
       (c .row-if .ensures
       ∙ ap (λ (t : Bool). cond t (2 ^ l .loop .v) 0)
       (suits-linked (systemOf (planOf (b l))) (s l .args .x) (s l .args .y) (l .loop .v) (counted .support-count .result) _
@@ -124,7 +123,7 @@ add-row c =
     let t = counted c .before .before in
     omega (
       arith,
-      row-more c,
+      longer c,
       row-low (l c .loop .v + 1) (test c) (omega (arith, t .loop-test .taken, sized (l c) .size .ensures)),
     )
 
@@ -141,7 +140,7 @@ loop-again c = (
   omega (arith, l c .loop .inv .1),
   counter-more (systemOf (planOf (b (l c)))) (s (l c) .args .x) (s (l c) .args .y) (l c .loop .v) _ _ _ _ _ (l c .loop .inv .2)
       (l c .before .counter-row .ensures .0) (counted c .support-count .ensures .0) (c .before .before .before .put .ensures),
-  row-more c,
+  longer c,
 )
 
 same-length : tie.Need-same-length Inv-loop μ-loop
