@@ -7,11 +7,11 @@ use native.Mathlib.Nat.{not-suc-le-zero, le-of-suc-le-suc, two-pow-succ, pow-suc
 use native.Mathlib.Omega.{arith}
 use borrow.Author.Tests.{eqb-true, eqb-false, eq-eqb, ne-eqb}
 use lib.Dec.{eqb}
-use lib.Bits.{bitAnd, and-step, and-self}
+use lib.Bits.{bitAnd, and-step, and-self, and-le-l}
 use lib.Pow.{pow-mono, pow-pos, shr-shr, high}
 use Rattle.base.proofs.Bools.{decided}
 use Rattle.base.proofs.Choice.{cond-true, cond-false}
-use Rattle.base.proofs.Sums.{sum-ext, sum-times, sum-first, count-ext, count-le}
+use Rattle.base.proofs.Sums.{sum-ext, sum-more, sum-times, sum-first, count-ext, count-le}
 use Rattle.base.specs.Below.{countBelow, one}
 use Rattle.base.specs.Row.{isOdd, bit, rowOf, withoutLowest, rowCountIn, rowCount}
 
@@ -141,6 +141,20 @@ row-doubled n r t = omega (arith, doubled (t n), ap (λ (k : ℕ). r * k) (two-p
     doubled true = omega arith
     doubled false = omega arith
 
+-- a row with one value more
+pub row-more : (n r p : ℕ) (t : ℕ → Bool) → r ≡ rowOf n t → p ≡ cond (t n) (2 ^ n) 0 → r + p ≡ rowOf (n + 1) t
+unfolding rowOf
+row-more n r p t e q = sum-more r p n (λ w. cond (t w) (2 ^ w) 0) e q
+
+-- a row of at most 16 values
+pub row-low : (n : ℕ) (t : ℕ → Bool) → n ≤ 16 → rowOf n t < 65536
+row-low n t h = omega (arith, row-small n t, pow-mono h)
+
+-- a value's bit as a number
+pub bit-one : (r w : ℕ) → one (bit r w) ≡ r / 2 ^ w % 2
+unfolding bit
+bit-one r w = odd-rest (r / 2 ^ w)
+
 -- `2 ^ n - 1` is the row of all values below n
 pub row-full : (n : ℕ) → 2 ^ n - 1 ≡ rowOf n (λ w. true)
 unfolding rowOf
@@ -168,6 +182,13 @@ bit-and r q (suc w) =
     (half-of (bitAnd r q) (bitAnd (r / 2) (q / 2)) (isOdd r && isOdd q) (and-halves r q))
     ∙ bit-and (r / 2) (q / 2) w
     ∙ sym (ap₂ _&&_ (bit-suc r w) (bit-suc q w))
+
+-- so `&` of two rows is the row of both tests
+pub row-both : (n : ℕ) (t u : ℕ → Bool) → bitAnd (rowOf n t) (rowOf n u) ≡ rowOf n (λ w. t w && u w)
+row-both n t u =
+    sym (row-of-bits n (bitAnd (rowOf n t) (rowOf n u)) (omega (arith, and-le-l (rowOf n t) (rowOf n u), row-small n t)))
+    ∙ row-ext n (bit (bitAnd (rowOf n t) (rowOf n u))) (λ w. t w && u w)
+    (λ w h. bit-and (rowOf n t) (rowOf n u) w ∙ ap₂ _&&_ (row-bit n t w h) (row-bit n u w h))
 
 -- ---- how many values a row holds
 

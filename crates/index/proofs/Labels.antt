@@ -7,6 +7,7 @@ use mathlib.Core.Path.{_≡_, refl, sym, _∙_, ap}
 use native.Mathlib.Numerals.{add-one}
 use native.Mathlib.Omega.{arith}
 use borrow.Author.Tests.{lt-ltb}
+use lib.ListN.{length}
 use Rattle.base.proofs.Bools.{and-intro}
 use Rattle.disac4.specs.System.{systemOf}
 use Rattle.network.specs.Network.{loaded}
@@ -84,3 +85,14 @@ module _ (b : List ℕ) (sound : planFault b ≡ none) where
       let i = linked-inside b sound x y e in
       let p = paired b sound m index in
       (i .0, i .1, record { low = p .low x y e; high = p .high x y e })
+
+-- so the row can be read
+pub linked-row : (b cells : List ℕ) → Ready b cells → (x y : ℕ) → shareConstraint (planOf b) x y ≡ true
+    → (24576 ≤ length cells) × (x < 32) × (y < 32) × Numbered (memOf cells) x y
+linked-row b cells ready x y e =
+    omega (
+      arith,
+      few-sections b (ready .sound),
+      ready .long,
+      numbered b (ready .sound) (memOf cells) (ready .index) x y e,
+    )

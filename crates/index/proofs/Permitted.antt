@@ -9,13 +9,11 @@ use native.Mathlib.Numerals.{add-one}
 use native.Mathlib.Omega.{arith}
 use lib.Dec.{eqb}
 use lib.ListN.{length, getD}
-use lib.Pow.{pow-mono}
 use Rattle.base.proofs.Below.{all-below, every-below, any-below, some-below, getD-list-below}
 use Rattle.base.proofs.Bools.{and-comm, refuted, or-false-left, or-false-right, bool-ext, and-true}
 use Rattle.base.proofs.Choice.{cond-true, cond-false}
 use Rattle.base.proofs.Members.{all-at, at-all, any-at, at-any}
 use Rattle.base.proofs.Row.{row-ext, row-small, rowCount-small}
-use Rattle.base.proofs.Sums.{sum-more}
 use Rattle.base.specs.Below.{allBelow, anyBelow, listBelow}
 use Rattle.base.specs.Choice.{anyOf, allOf}
 use Rattle.base.specs.Row.{bit, rowOf, rowCount}
@@ -271,15 +269,6 @@ pub linked-inside : (b : List ℕ) → planFault b ≡ none → (x y : ℕ) → 
     → (x < variableCount b) × (y < variableCount b)
 linked-inside b none-found x y e =
     omega (arith, linked-in-range (planOf b) (read-well-formed b none-found) x y e, variables-read b)
-
--- a row with one value more
-pub row-more : (n r p : ℕ) (t : ℕ → Bool) → r ≡ rowOf n t → p ≡ cond (t n) (2 ^ n) 0 → r + p ≡ rowOf (n + 1) t
-unfolding rowOf
-row-more n r p t e q = sum-more r p n (λ w. cond (t w) (2 ^ w) 0) e q
-
--- a row of at most 16 values
-pub row-low : (n : ℕ) (t : ℕ → Bool) → n ≤ 16 → rowOf n t < 65536
-row-low n t h = omega (arith, row-small n t, pow-mono h)
 
 -- the count of the row of supports is the count of supports
 pub supports-counted : (b : List ℕ) → planFault b ≡ none → (x v y row r : ℕ) → y < variableCount b

@@ -1,53 +1,44 @@
--- Loading in memory, where the plan's index stands already: for each variable the counters of its values, then for each of its
--- labels the domain cell, and the deletion where a count is 0.
+-- Loading in memory, where the plan's index stands already: all supports are counted, then for each label the domain cell is
+-- set, and the label deleted where a counter is 0.
 use Prim.Native.Nat.{ℕ, zero, suc, _-_}
 use mathlib.Core.Bool.{Bool, cond, _&&_, not}
 use lib.Dec.{eqb}
-use Rattle.disac4.specs.Loading.{unsupported}
+use Rattle.base.specs.Below.{allBelow}
+use Rattle.base.specs.Row.{bit, rowOf}
 use Rattle.disac4.specs.System.{System}
-use Rattle.network.specs.Network.{Network, supportCount}
 use Rattle.cells.specs.Layout.{DOMAIN, COUNTERS}
 use Rattle.cells.specs.Lists.{deleteM}
 use Rattle.cells.specs.Memory.{Mem, store}
 use Rattle.cells.specs.View.{LISTED, counterRow}
+use Rattle.counting.specs.Count.{countM}
 
--- label `v` of `x` has no count against `y`, or one that is not 0
-unfoldable pub suits : Network → ℕ → ℕ → ℕ → Bool
-suits net x v y = not (net .linked x y && eqb (supportCount net x v y) 0)
+-- label `v` of `x` has no counter against `y`, or one that is not 0
+unfoldable pub suits : System → Mem → ℕ → ℕ → ℕ → Bool
+suits sys m x v y = not (sys .net .linked x y && eqb (m COUNTERS (counterRow m x y) v) 0)
 
--- the counters of the first `n` values of `x` against `y`
-unfoldable pub countPairM : System → ℕ → ℕ → ℕ → Mem → Mem
-countPairM sys x y zero m = m
-countPairM sys x y (suc n) m = store (countPairM sys x y n m) COUNTERS (counterRow m x y) n (supportCount (sys .net) x n y)
+-- the values of `x` whose counters against the first `n` variables suit
+unfoldable pub suitedRow : System → Mem → ℕ → ℕ → ℕ
+suitedRow sys m x n = rowOf (sys .net .size x) (λ v. allBelow n (suits sys m x v))
 
--- the counters of the values of `x` against `y`, if the two are linked
-unfoldable pub countAgainstM : System → ℕ → ℕ → Mem → Mem
-countAgainstM sys x y m = cond (sys .net .linked x y) (countPairM sys x y (sys .net .size x) m) m
+-- label `v` of `x` is in its domain; its owner deletes it unless it is supported
+unfoldable pub listLabelM : System → ℕ → ℕ → Bool → Mem → Mem
+listLabelM sys x v supported m =
+    cond supported (store m DOMAIN x v LISTED) (deleteM (sys .owner x - 1) x v (store m DOMAIN x v LISTED))
 
--- the counters of the values of `x` against the first `n` variables
-unfoldable pub countVariableM : System → ℕ → ℕ → Mem → Mem
-countVariableM sys x zero m = m
-countVariableM sys x (suc n) m = countAgainstM sys x n (countVariableM sys x n m)
+-- the first `n` values of `x`, of which the row holds those that are supported
+unfoldable pub listValuesM : System → ℕ → ℕ → ℕ → Mem → Mem
+listValuesM sys x row zero m = m
+listValuesM sys x row (suc n) m = listLabelM sys x n (bit row n) (listValuesM sys x row n m)
 
--- label `v` of `x` is in its domain; one with a count of 0 is deleted by its owner
-unfoldable pub listLabelM : System → ℕ → ℕ → Mem → Mem
-listLabelM sys x v m =
-    cond (unsupported (sys .net) x v) (deleteM (sys .owner x - 1) x v (store m DOMAIN x v LISTED)) (store m DOMAIN x v LISTED)
-
--- the first `n` values of `x`
-unfoldable pub listValuesM : System → ℕ → ℕ → Mem → Mem
-listValuesM sys x zero m = m
-listValuesM sys x (suc n) m = listLabelM sys x n (listValuesM sys x n m)
-
--- variable `x`: the counters of its values, then its labels
-unfoldable pub loadVariableM : System → ℕ → Mem → Mem
-loadVariableM sys x m = listValuesM sys x (sys .net .size x) (countVariableM sys x (sys .net .variables) m)
+-- the values of `x`
+unfoldable pub listVariableM : System → ℕ → Mem → Mem
+listVariableM sys x m = listValuesM sys x (suitedRow sys m x (sys .net .variables)) (sys .net .size x) m
 
 -- the first `n` variables
-unfoldable pub loadVariablesM : System → ℕ → Mem → Mem
-loadVariablesM sys zero m = m
-loadVariablesM sys (suc n) m = loadVariableM sys n (loadVariablesM sys n m)
+unfoldable pub listM : System → ℕ → Mem → Mem
+listM sys zero m = m
+listM sys (suc n) m = listVariableM sys n (listM sys n m)
 
 -- from a memory that holds the plan's index and is 0 elsewhere
 unfoldable pub loadM : System → Mem → Mem
-loadM sys m = loadVariablesM sys (sys .net .variables) m
+loadM sys m = listM sys (sys .net .variables) (countM sys (sys .net .variables) m)

@@ -1,16 +1,20 @@
-// Loading the labels of a plan whose index stands in the cells: counters, domains, and the first deletions. All values of a
-// variable are counted against one other before the next one: what the two share is then looked up side by side.
+// Loading the labels of a plan whose index stands in the cells: counters, domains, and the first deletions.
+use base::power;
 use base::row_holds;
 use base::row_if;
 use cells::layout;
 use cells::lists;
+use counting::count_supports;
 use format::read;
 use index::parts;
-ghost use mathlib.Core.Bool.{true, _&&_, not};
+ghost use mathlib.Core.Bool.{true, not};
 ghost use mathlib.Core.Path.{_≡_};
-ghost use Prim.Native.Nat.{ℕ, _<_};
-ghost use Rattle.base.specs.Row.{bit, rowOf};
-ghost use Rattle.disac4.specs.Loading.{unsupported};
+ghost use Prim.Native.Nat.{_+_, _<_};
+ghost use lib.Dec.{eqb};
+ghost use Rattle.base.specs.Row.{rowOf};
+ghost use Rattle.cells.specs.Layout.{COUNTERS};
+ghost use Rattle.cells.specs.Memory.{memOf};
+ghost use Rattle.cells.specs.View.{counterRow};
 ghost use Rattle.disac4.specs.System.{systemOf};
 ghost use Rattle.plan.specs.Decode.{planOf};
 ghost use Rattle.plan.specs.Network.{shareConstraint};
@@ -18,57 +22,54 @@ ghost use Rattle.plan.specs.WellFormed.{sizeOf};
 ghost use Rattle.format.specs.Format.{variableCount};
 ghost use Rattle.index.specs.Allowed.{Listed};
 ghost use Rattle.index.specs.Index.{Ready};
-ghost use Rattle.loading.specs.Load.{suits, countPairM, countAgainstM, countVariableM, listLabelM, listValuesM, loadVariableM, loadM};
-ghost use Rattle.cells.specs.Memory.{memOf};
+ghost use Rattle.loading.specs.Load.{suitedRow, listLabelM, listValuesM, listVariableM, listM, loadM};
 
-// The counters of the values of x against y, which shares a constraint with x: the row of those whose count is not 0.
-fn count_pair(b: &[u8], cells: &mut [u16], x: usize, y: usize) -> usize
-    requires { ⌜ Ready (now b) (now cells) × (x < variableCount (now b)) × (shareConstraint (planOf (now b)) x y ≡ true) ⌝ }
-    ensures { λ r. ⌜ (memOf (now (cells .exit)) ≡ countPairM (systemOf (planOf (now (b .entry)))) x y (sizeOf (planOf (now (b .entry))) x) (memOf (now (cells .entry)))) × (r ≡ rowOf (sizeOf (planOf (now (b .entry))) x) (λ v. suits (systemOf (planOf (now (b .entry))) .net) x v y)) ⌝ }
+// The row of the values of x whose counter against y is not 0; y shares a constraint with x.
+fn counted_row(b: &[u8], cells: &[u16], x: usize, y: usize) -> usize
+    requires { ⌜ Ready (now b) (now cells) × (shareConstraint (planOf (now b)) x y ≡ true) ⌝ }
+    ensures { λ r. ⌜ r ≡ rowOf (sizeOf (planOf (now (b .entry))) x) (λ v. not (eqb (memOf (now (cells .entry)) COUNTERS (counterRow (memOf (now (cells .entry))) x y) v) 0)) ⌝ }
 {
     let n = parts::size(b, cells, x);
     let at = parts::counter_row(cells, x, y);
     let mut row = 0;
     let mut v = 0;
     while v < n {
-        let count = pairs::support_count(b, cells, x, v, y);
-        layout::put(cells, layout::COUNTERS, at, v, count);
-        row += row_if(count != 0, v);
+        row += row_if(layout::get(cells, layout::COUNTERS, at, v) != 0, v);
         v += 1;
     }
     row
 }
 
-// The counters of the values of x against y, if the two share a constraint; of the row, the values whose count is not 0.
-fn count_against(b: &[u8], cells: &mut [u16], x: usize, y: usize, row: usize) -> usize
-    requires { ⌜ Ready (now b) (now cells) × (x < variableCount (now b)) × (y < variableCount (now b)) ⌝ }
-    ensures { λ r. ⌜ (memOf (now (cells .exit)) ≡ countAgainstM (systemOf (planOf (now (b .entry)))) x y (memOf (now (cells .entry)))) × ((v : ℕ) → v < sizeOf (planOf (now (b .entry))) x → bit r v ≡ bit row v && suits (systemOf (planOf (now (b .entry))) .net) x v y) ⌝ }
+// The row of the values of x that suit the variables before y, and then y too.
+fn suited_beside(b: &[u8], cells: &[u16], x: usize, y: usize, row: usize) -> usize
+    requires { ⌜ Ready (now b) (now cells) × (x < variableCount (now b)) × (y < variableCount (now b)) × (row ≡ suitedRow (systemOf (planOf (now b))) (memOf (now cells)) x y) ⌝ }
+    ensures { λ r. ⌜ r ≡ suitedRow (systemOf (planOf (now (b .entry)))) (memOf (now (cells .entry))) x (y + 1) ⌝ }
 {
     if !parts::linked(cells, x, y) {
         return row;
     }
-    row & count_pair(b, cells, x, y)
+    row & counted_row(b, cells, x, y)
 }
 
-// The counters of the values of x against every variable: the row of those that have no count of 0.
-fn count_variable(b: &[u8], cells: &mut [u16], x: usize) -> usize
+// The row of the values of x that have no counter of 0.
+fn supported_row(b: &[u8], cells: &[u16], x: usize) -> usize
     requires { ⌜ Ready (now b) (now cells) × (x < variableCount (now b)) ⌝ }
-    ensures { λ r. ⌜ (memOf (now (cells .exit)) ≡ countVariableM (systemOf (planOf (now (b .entry)))) x (systemOf (planOf (now (b .entry))) .net .variables) (memOf (now (cells .entry)))) × ((v : ℕ) → v < sizeOf (planOf (now (b .entry))) x → bit r v ≡ not (unsupported (systemOf (planOf (now (b .entry))) .net) x v)) ⌝ }
+    ensures { λ r. ⌜ r ≡ suitedRow (systemOf (planOf (now (b .entry)))) (memOf (now (cells .entry))) x (systemOf (planOf (now (b .entry))) .net .variables) ⌝ }
 {
     let n = read::variable_count(b);
-    let mut row = 65535;
+    let mut row = power(parts::size(b, cells, x)) - 1;
     let mut y = 0;
     while y < n {
-        row = count_against(b, cells, x, y, row);
+        row = suited_beside(b, cells, x, y, row);
         y += 1;
     }
     row
 }
 
-// Label v of x, which its owner deletes unless it is supported in each variable that x shares a constraint with.
+// Label v of x, which its owner deletes unless it is supported.
 fn list_label(b: &[u8], cells: &mut [u16], x: usize, v: usize, supported: bool)
-    requires { ⌜ Ready (now b) (now cells) × Listed (now b) x v × (supported ≡ not (unsupported (systemOf (planOf (now b)) .net) x v)) ⌝ }
-    ensures { λ _. ⌜ memOf (now (cells .exit)) ≡ listLabelM (systemOf (planOf (now (b .entry)))) x v (memOf (now (cells .entry))) ⌝ }
+    requires { ⌜ Ready (now b) (now cells) × Listed (now b) x v ⌝ }
+    ensures { λ _. ⌜ memOf (now (cells .exit)) ≡ listLabelM (systemOf (planOf (now (b .entry)))) x v supported (memOf (now (cells .entry))) ⌝ }
 {
     layout::put(cells, layout::DOMAIN, x, v, 65535);
     if !supported {
@@ -79,8 +80,8 @@ fn list_label(b: &[u8], cells: &mut [u16], x: usize, v: usize, supported: bool)
 
 // The values of x, of which the row holds those that are supported.
 fn list_values(b: &[u8], cells: &mut [u16], x: usize, row: usize)
-    requires { ⌜ Ready (now b) (now cells) × (x < variableCount (now b)) × ((v : ℕ) → v < sizeOf (planOf (now b)) x → bit row v ≡ not (unsupported (systemOf (planOf (now b)) .net) x v)) ⌝ }
-    ensures { λ _. ⌜ memOf (now (cells .exit)) ≡ listValuesM (systemOf (planOf (now (b .entry)))) x (sizeOf (planOf (now (b .entry))) x) (memOf (now (cells .entry))) ⌝ }
+    requires { ⌜ Ready (now b) (now cells) × (x < variableCount (now b)) ⌝ }
+    ensures { λ _. ⌜ memOf (now (cells .exit)) ≡ listValuesM (systemOf (planOf (now (b .entry)))) x row (sizeOf (planOf (now (b .entry))) x) (memOf (now (cells .entry))) ⌝ }
 {
     let n = parts::size(b, cells, x);
     let mut v = 0;
@@ -90,24 +91,33 @@ fn list_values(b: &[u8], cells: &mut [u16], x: usize, row: usize)
     }
 }
 
-// Variable x: its counters, then its labels.
-fn load_variable(b: &[u8], cells: &mut [u16], x: usize)
+// The values of x, once the supports are counted.
+fn list_variable(b: &[u8], cells: &mut [u16], x: usize)
     requires { ⌜ Ready (now b) (now cells) × (x < variableCount (now b)) ⌝ }
-    ensures { λ _. ⌜ memOf (now (cells .exit)) ≡ loadVariableM (systemOf (planOf (now (b .entry)))) x (memOf (now (cells .entry))) ⌝ }
+    ensures { λ _. ⌜ memOf (now (cells .exit)) ≡ listVariableM (systemOf (planOf (now (b .entry)))) x (memOf (now (cells .entry))) ⌝ }
 {
-    let row = count_variable(b, cells, x);
+    let row = supported_row(b, cells, x);
     list_values(b, cells, x, row);
 }
 
-// Loads every variable: its counters, its domain and its first deletions.
-pub fn load_plan(b: &[u8], cells: &mut [u16])
+// The values of all variables.
+fn list_plan(b: &[u8], cells: &mut [u16])
     requires { ⌜ Ready (now b) (now cells) ⌝ }
-    ensures { λ _. ⌜ memOf (now (cells .exit)) ≡ loadM (systemOf (planOf (now (b .entry)))) (memOf (now (cells .entry))) ⌝ }
+    ensures { λ _. ⌜ memOf (now (cells .exit)) ≡ listM (systemOf (planOf (now (b .entry)))) (systemOf (planOf (now (b .entry))) .net .variables) (memOf (now (cells .entry))) ⌝ }
 {
     let n = read::variable_count(b);
     let mut x = 0;
     while x < n {
-        load_variable(b, cells, x);
+        list_variable(b, cells, x);
         x += 1;
     }
+}
+
+// Loads the plan: the counters, then the domains and the first deletions.
+pub fn load_plan(b: &[u8], cells: &mut [u16])
+    requires { ⌜ Ready (now b) (now cells) ⌝ }
+    ensures { λ _. ⌜ memOf (now (cells .exit)) ≡ loadM (systemOf (planOf (now (b .entry)))) (memOf (now (cells .entry))) ⌝ }
+{
+    count_supports(b, cells);
+    list_plan(b, cells);
 }

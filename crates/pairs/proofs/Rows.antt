@@ -14,13 +14,13 @@ use lib.Dec.{leb, ltb, eqb}
 use lib.Pow.{pow-pos}
 use Rattle.base.proofs.Bools.{decided, and-comm, or-comm, bool-ext, and-true}
 use Rattle.base.proofs.Choice.{cond-true, cond-false}
-use Rattle.base.proofs.Row.{bit-and, bit-low, bit-high, row-bit, row-doubled, row-ext, row-full, row-of-bits}
+use Rattle.base.proofs.Row.{bit-and, bit-low, bit-high, row-bit, row-doubled, row-ext, row-full, row-low, row-of-bits}
 use Rattle.base.specs.Below.{one}
 use Rattle.base.specs.Bytes.{byteAt, wordAt}
 use Rattle.base.specs.Row.{bit, rowOf}
 use Rattle.format.specs.Format.{variableCount, constraintCount, kindAt, tableRowAt, tableByteAt, limitAt, figureAt}
 use Rattle.index.proofs.Chains.{over-turned}
-use Rattle.index.proofs.Permitted.{acceptsAt, Placed, Along, along-start, along-next, Rest, rest-start, rest-next, permits-table, permits-limit, permitted, row-low}
+use Rattle.index.proofs.Permitted.{acceptsAt, Placed, Along, along-start, along-next, Rest, rest-start, rest-next, permits-table, permits-limit, permitted}
 use Rattle.index.specs.Allowed.{permitsAt, permitsFrom, limited, inColumn, Listed}
 use Rattle.index.specs.Index.{over, chainBelow}
 use Rattle.plan.proofs.Limits.{unrecorded-allows, recorded-judges}

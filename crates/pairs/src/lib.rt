@@ -1,6 +1,5 @@
 // Which pairs of values an accepted plan allows, read through its index in the work cells.
 use base::power;
-use base::row_count;
 use base::row_holds;
 use base::row_if;
 use cells::layout;
@@ -13,7 +12,7 @@ ghost use lib.ListN.{length};
 ghost use Rattle.base.specs.Row.{bit, rowOf};
 ghost use Rattle.index.specs.Allowed.{permitsFrom, limited, inColumn, Listed};
 ghost use Rattle.index.specs.Index.{Ready};
-ghost use Rattle.network.specs.Network.{supports, supportCount};
+ghost use Rattle.network.specs.Network.{supports};
 ghost use Rattle.plan.specs.Decode.{planOf};
 ghost use Rattle.plan.specs.Network.{withinLimit, shareConstraint, pairAllowed, networkOf};
 ghost use Rattle.plan.specs.WellFormed.{sizeOf};
@@ -119,14 +118,6 @@ pub fn support_row(b: &[u8], cells: &[u16], x: usize, v: usize, y: usize) -> usi
         next = layout::get(cells, layout::NEXT, 0, next - 1);
     }
     row
-}
-
-// How many values of y support value v of x.
-pub fn support_count(b: &[u8], cells: &[u16], x: usize, v: usize, y: usize) -> usize
-    requires { ⌜ Ready (now b) (now cells) × Listed (now b) x v × (shareConstraint (planOf (now b)) x y ≡ true) ⌝ }
-    ensures { λ r. ⌜ (r ≡ supportCount (networkOf (planOf (now (b .entry)))) x v y) × (r ≤ 16) ⌝ }
-{
-    row_count(support_row(b, cells, x, v, y))
 }
 
 // Whether value v of x and value w of y may stand together, where the two share a constraint.

@@ -17,6 +17,7 @@ pub mod HeldPoll
 pub mod Keeps
 pub mod LabelLoad
 pub mod Labelwise
+pub mod Listing
 pub mod LoadKeeps
 pub mod Loaded
 pub mod Loading

@@ -23,8 +23,9 @@ use Rattle.network.proofs.Supports.{support-count}
 use Rattle.network.specs.Network.{Label, label, loaded, labelsWhere, supports, supportCount}
 use Rattle.cells.proofs.Queue.{labels-none, queue-none}
 use Rattle.cells.specs.Layout.{WORKERS, CURSORS, BOUNDS, LOG, WORK, OUT, WANTED, DOMAIN, COUNTERS, HEADS, HEAD, TAIL, LOGEND, SENDS, LISTS, HELD, OUTEND}
+use Rattle.counting.specs.Count.{countM}
 use Rattle.index.proofs.Kept.{row-heads}
-use Rattle.loading.specs.Load.{listLabelM, loadM}
+use Rattle.loading.specs.Load.{loadM}
 use Rattle.cells.specs.Memory.{Mem}
 pub use Rattle.refinement.specs.Run.{freshTally as startTally}
 use Rattle.cells.specs.View.{LISTED, isWorker, labelsBetween, counterRow, viewCounter, viewWork, viewSend, viewHeld, viewLists, viewListMessages, viewPolls, viewOut, viewChannel, view}
@@ -34,10 +35,11 @@ use Rattle.refinement.proofs.Growing.{Longer, Both, both-none, both-mor
 use Rattle.refinement.specs.Inv.{Small}
 use Rattle.index.specs.Index.{Paired}
 use Rattle.refinement.proofs.Grown.{listMessagesQueue, outQueue, pollsQueue}
-use Rattle.refinement.proofs.Counting.{countedM, counted-counts, counted-at, load-walk}
+use Rattle.refinement.proofs.Counting.{count-else, counted-at}
 use Rattle.refinement.proofs.Frame.{paired-kept}
-use Rattle.refinement.proofs.LabelLoad.{list-apart, list-shows, list-both}
+use Rattle.refinement.proofs.LabelLoad.{listStep, list-apart, list-shows, list-both}
 use Rattle.refinement.proofs.Labelwise.{unloaded-apart, Shows, walk-apart, walk-shows, walk-both, Local}
+use Rattle.refinement.proofs.Listing.{load-walk}
 use Rattle.refinement.proofs.Unmoved.{Unmoved}
 
 -- the regions before the index are 0
@@ -60,15 +62,15 @@ module _ (sys : System) (small : Small sys) (z : Mem) (paired : Paired sys z) (b
 
   -- the memory where all is counted, and no label is listed yet
   abbrev z₁ : Mem
-  z₁ = countedM sys (sys .net .variables) z
+  z₁ = countM sys (sys .net .variables) z
 
   counted-heads : (a b : ℕ) → z₁ HEADS a b ≡ z HEADS a b
-  counted-heads a b = counted-counts sys (sys .net .variables) .elsewhere z HEADS a b (omega arith)
+  counted-heads a b = count-else sys (sys .net .variables) z HEADS a b (omega arith)
 
   paired₁ : Paired sys z₁
   paired₁ = paired-kept z z₁ sys counted-heads paired
 
-  local : Local sys small (listLabelM sys) (λ x. sys .owner x - 1)
+  local : Local sys small (listStep sys) (λ x. sys .owner x - 1)
   local x v h l = list-apart sys x v
 
   -- beside the counters, what stands apart from all labels is left alone
@@ -76,15 +78,15 @@ module _ (sys : System) (small : Small sys) (z : Mem) (paired : Paired sys z) (b
       → ((x v : ℕ) → x < sys .net .variables → v < sys .net .size x → Apart sys z₁ (sys .owner x - 1) x v r a b)
       → loadM sys z r a b ≡ z r a b
   loaded-apart r a b d p =
-      walk-apart sys small (listLabelM sys) (λ x. sys .owner x - 1) local z₁ paired₁ n (load-walk sys z) r a b p
-      ∙ counted-counts sys (sys .net .variables) .elsewhere z r a b d
+      walk-apart sys small (listStep sys) (λ x. sys .owner x - 1) local z₁ paired₁ n (load-walk sys small z paired) r a b p
+      ∙ count-else sys (sys .net .variables) z r a b d
 
   -- each label's own cells
   pub loaded-shows : (x v : ℕ) → x < sys .net .variables → v < sys .net .size x
       → Shows sys z₁ x v (cond (unsupported (sys .net) x v) 0 LISTED) (supportCount (sys .net) x v) (loadM sys z)
   loaded-shows x v h l =
       let s =
-      walk-shows sys small (listLabelM sys) (λ x. sys .owner x - 1) local z₁ paired₁ n (load-walk sys z) x v _ _ h l
+      walk-shows sys small (listStep sys) (λ x. sys .owner x - 1) local z₁ paired₁ n (load-walk sys small z paired) x v _ _ h l
       (list-shows sys x v z₁ (z₁ DOMAIN x v) (λ y. z₁ COUNTERS (counterRow z₁ x y) v)) in
       record {
         heads = s .heads;
@@ -113,14 +115,14 @@ module _ (sys : System) (small : Small sys) (z : Mem) (paired : Paired sys z) (b
       both-more sys i z z₁ n [] (loadedDeletions sys (suc i))
       (both-none sys i z z₁ (put WORKERS LOGEND (omega arith)) (put WORKERS TAIL (omega arith)) (λ d. put LOG d (omega arith))
       (λ d. put WORK d (omega arith)))
-      (walk-both sys small (listLabelM sys) (λ x. sys .owner x - 1) local z₁ paired₁ n (load-walk sys z) i
+      (walk-both sys small (listStep sys) (λ x. sys .owner x - 1) local z₁ paired₁ n (load-walk sys small z paired) i
       (λ x v. cond (eqb (sys .owner x) (suc i) && unsupported (sys .net) x v) (label x v ∷ []) [])
       (λ x v k l m s. list-both sys x v small k l i m)
       (omega (arith, put WORKERS LOGEND (omega arith), blank WORKERS i LOGEND (omega arith), few-deleted i h))
       (omega (arith, put WORKERS TAIL (omega arith), blank WORKERS i TAIL (omega arith), few-deleted i h)))
     where
       put : (r b : ℕ) → (r ≡ COUNTERS → ⊥) → z₁ r i b ≡ z r i b
-      put r b d = counted-counts sys (sys .net .variables) .elsewhere z r i b d
+      put r b d = count-else sys (sys .net .variables) z r i b d
 
   -- what else the view shows stays
   pub loaded-unmoved : Unmoved z (loadM sys z)

@@ -18,7 +18,7 @@ use Rattle.refinement.proofs.Loading.{Blank, load-refines}
 use Rattle.index.specs.Index.{Indexed, indexM}
 use Rattle.refinement.specs.Inv.{Small, Inv}
 use Rattle.cells.specs.Layout.{HEADS, BEHIND}
-use Rattle.loading.proofs.Kept.{load-variables-kept}
+use Rattle.loading.proofs.Kept.{load-kept}
 use Rattle.cells.specs.Memory.{clearedM, Mem}
 use Rattle.loading.specs.Load.{loadM}
 use Rattle.refinement.specs.Run.{viewOf, startM}
@@ -60,8 +60,7 @@ module _ (b : List ℕ) (sound : planFault b ≡ none) where
 
     -- loading leaves the index alone, and the cells behind
     load-static : (r i j : ℕ) → HEADS ≤ r → loadM (systemAt b) ground r i j ≡ ground r i j
-    unfolding loadM
-    load-static = load-variables-kept (systemAt b) (systemAt b .net .variables) ground .static
+    load-static = load-kept (systemAt b) ground .static
 
     -- the loaded memory holds the plan's index
     pub start-indexed : Indexed b (startM b m .mem)

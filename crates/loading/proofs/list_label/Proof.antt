@@ -1,7 +1,7 @@
 -- `loading::list_label` puts a label into its domain, or deletes it. Assumes nothing.
 use borrow.Author.Needs.{needs}
 use borrow.Author.Tests.{not-true, not-false}
-use mathlib.Core.Path.{refl, sym, _∙_}
+use mathlib.Core.Path.{refl}
 use native.Mathlib.Omega.{arith}
 use denote.Ref.{now}
 use Rattle.disac4.specs.System.{systemOf}
@@ -56,8 +56,8 @@ returns c =
     let p = t .before .before .before in
     let s = p .before .before .before .before in
     let a = s .args in
-    label-deleted (systemOf (planOf (now (a .b)))) (a .x) (a .v) _ _ (p .put .ensures) _ _
-    (not-false _ (sym (s .pre .2) ∙ not-true _ (t .if1 .taken)))
+    label-deleted (systemOf (planOf (now (a .b)))) (a .x) (a .v) _ _ (p .put .ensures) (a .supported) _ _
+    (not-true _ (t .if1 .taken))
     (o .owner .ensures .0) (c .before .before .delete .ensures)
 
 same-length-2 : tie.Need-same-length-2
@@ -68,8 +68,8 @@ returns-2 c =
     let p = c .before .before .before in
     let s = p .before .before .before .before in
     let a = s .args in
-    label-kept (systemOf (planOf (now (a .b)))) (a .x) (a .v) _ _ (p .put .ensures)
-    (not-true _ (sym (s .pre .2) ∙ not-false _ (c .if1 .left)))
+    label-kept (systemOf (planOf (now (a .b)))) (a .x) (a .v) _ _ (p .put .ensures) (a .supported)
+    (not-false _ (c .if1 .left))
 
 pub list-label-spec : {M : Type 1} → statement M
 list-label-spec =

@@ -16,7 +16,7 @@ use Rattle.loading.proofs.list_values.Tie as tie
 
 abbrev Inv-loop : tie.InvT-loop
 Inv-loop b cells₀ x row n v₀ cells v =
-    (v ≤ n) × (length cells ≡ length cells₀) × (memOf cells ≡ listValuesM (systemOf (planOf b)) x v (memOf cells₀))
+    (v ≤ n) × (length cells ≡ length cells₀) × (memOf cells ≡ listValuesM (systemOf (planOf b)) x row v (memOf cells₀))
 
 abbrev μ-loop : tie.MeasureT-loop
 μ-loop b cells₀ x row n v₀ cells v = n - v
@@ -38,9 +38,8 @@ list-label-requires c κs =
     let z = l .before in
     let s = z .before .before .before .before in (
       ready-kept (now (s .args .b)) (now (s .args .cells)) (l .loop .cells) (s .pre .0) (l .loop .inv .1) (l .loop .inv .2)
-          (list-values-kept _ (s .args .x) (l .loop .v) _),
+          (list-values-kept _ (s .args .x) (s .args .row) (l .loop .v) _),
       record { variable = s .pre .1; value = omega (arith, t .loop-test .taken, z .size .ensures .0) },
-      c .row-holds .ensures ∙ s .pre .2 (l .loop .v) (omega (arith, t .loop-test .taken, z .size .ensures .0)),
     )
 
 add-v : tie.Need-add-v Inv-loop μ-loop
@@ -51,11 +50,13 @@ loop-less c = omega arith
 
 loop-again : tie.Need-loop-again Inv-loop μ-loop
 loop-again c =
-    let l = c .before .before .before .before .before .before in
+    let h = c .before .before .before in
+    let l = h .before .before .before in
     let a = l .before .before .before .before .before .args in (
       omega arith,
       omega arith,
-      value-listed _ (a .x) (l .loop .v) _ _ _ (l .loop .inv .2) (c .before .before .list-label .ensures),
+      value-listed _ (a .x) (a .row) (l .loop .v) _ _ _ _ (h .row-holds .ensures) (l .loop .inv .2)
+          (c .before .before .list-label .ensures),
     )
 
 same-length : tie.Need-same-length Inv-loop μ-loop

@@ -1,79 +1,35 @@
--- `loading::load_plan` loads the variables. Assumes nothing.
-use Prim.Native.Nat.{_≤_, _-_}
-use mathlib.Core.Path.{_≡_, refl}
-use native.Mathlib.Omega.{arith}
+-- `loading::load_plan` counts the supports, then lists the values. Assumes nothing.
+use borrow.Author.Needs.{needs}
 use denote.Ref.{now}
-use lib.ListN.{length}
+use mathlib.Core.Path.{_∙_, ap}
+use Rattle.counting.proofs.Kept.{count-kept}
 use Rattle.disac4.specs.System.{systemOf}
-use Rattle.plan.specs.Decode.{planOf}
 use Rattle.index.proofs.Kept.{ready-kept}
-use Rattle.loading.proofs.Kept.{load-variables-kept}
-use Rattle.index.proofs.Labels.{variables-are}
-use Rattle.loading.proofs.LoadLaws.{variable-loaded}
-use Rattle.loading.specs.Load.{loadVariablesM, loadM}
-use Rattle.cells.specs.Memory.{memOf}
 use Rattle.loading.proofs.load_plan.Statement.{statement}
 use Rattle.loading.proofs.load_plan.Tie as tie
+use Rattle.loading.specs.Load.{listM, loadM}
+use Rattle.plan.specs.Decode.{planOf}
 
-abbrev Inv-loop : tie.InvT-loop
-Inv-loop b cells₀ n x₀ cells x =
-    (x ≤ n) × (length cells ≡ length cells₀) × (memOf cells ≡ loadVariablesM (systemOf (planOf b)) x (memOf cells₀))
+count-supports-requires : tie.Need-count-supports-requires
+count-supports-requires c κs = search needs
 
-abbrev μ-loop : tie.MeasureT-loop
-μ-loop b cells₀ n x₀ cells x = n - x
+list-plan-requires : tie.Need-list-plan-requires
+list-plan-requires c κs =
+    let k = c .before .before .before in
+    let s = k .before .before .before .before in
+    ready-kept (now (s .args .b)) (now (s .args .cells)) _ (s .pre) (k .count-supports .kept .1 .0) (k .count-supports .ensures)
+    (count-kept _ _ _)
 
-variable-count-requires : tie.Need-variable-count-requires Inv-loop μ-loop
-variable-count-requires c κs = tt
+same-length : tie.Need-same-length
+same-length c = search needs
 
-loop-holds : tie.Need-loop-holds Inv-loop μ-loop
-unfolding loadVariablesM
-loop-holds c = (omega arith, refl, refl)
-
-load-variable-requires : tie.Need-load-variable-requires Inv-loop μ-loop
-load-variable-requires c κs =
-    let l = c .before .before in
-    let s = l .before .before .before .before in (
-      ready-kept (now (s .args .b)) (now (s .args .cells)) (l .loop .cells) (s .pre) (l .loop .inv .1) (l .loop .inv .2)
-          (load-variables-kept _ (l .loop .x) _),
-      omega (arith, l .before .variable-count .ensures .0),
-    )
-
-add-x : tie.Need-add-x Inv-loop μ-loop
-add-x c = omega arith
-
-loop-less : tie.Need-loop-less Inv-loop μ-loop
-loop-less c = omega arith
-
-loop-again : tie.Need-loop-again Inv-loop μ-loop
-loop-again c =
-    let l = c .before .before .before .before .before in (
-      omega arith,
-      omega arith,
-      variable-loaded _ (l .loop .x) _ _ _ (l .loop .inv .2) (c .before .before .load-variable .ensures),
-    )
-
-same-length : tie.Need-same-length Inv-loop μ-loop
-same-length c = omega arith
-
-returns : tie.Need-returns Inv-loop μ-loop
+returns : tie.Need-returns
 unfolding loadM
 returns c =
-    let v = c .before .before in
-    let b = now (v .before .before .before .args .b) in
-    let e : c .before .loop .x ≡ systemOf (planOf b) .net .variables = omega (arith, v .variable-count .ensures .0, variables-are b) in
-    rw e at (c .before .loop .inv .2)
+    let l = c .before .before in
+    let k = l .before .before .before .before in
+    let a = k .before .before .before .before .args in
+    l .list-plan .ensures ∙ ap (listM (systemOf (planOf (now (a .b)))) _) (k .count-supports .ensures)
 
 pub load-plan-spec : {M : Type 1} → statement M
-load-plan-spec =
-    tie.close
-    (tie.spec
-    Inv-loop
-    μ-loop
-    variable-count-requires
-    loop-holds
-    load-variable-requires
-    add-x
-    loop-less
-    loop-again
-    same-length
-    returns)
+load-plan-spec = tie.close (tie.spec count-supports-requires list-plan-requires same-length returns)

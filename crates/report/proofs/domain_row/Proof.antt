@@ -7,7 +7,7 @@ use mathlib.Core.Path.{_≡_, refl, _∙_, ap}
 use native.Mathlib.Omega.{arith}
 use lib.Dec.{eqb}
 use Rattle.base.specs.Row.{rowOf}
-use Rattle.index.proofs.Permitted.{row-more, row-low}
+use Rattle.base.proofs.Row.{row-more, row-low}
 use Rattle.report.proofs.Reported.{isListed, domain-fits}
 use Rattle.report.proofs.domain_row.Statement.{statement}
 use Rattle.report.proofs.domain_row.Tie as tie

@@ -1,0 +1,46 @@
+-- `loading::suited_beside` takes the values with a counter of 0 from the row. Assumes nothing.
+use borrow.Author.Tests.{not-true, not-false}
+use denote.Ref.{now}
+use mathlib.Core.Path.{sym, _∙_}
+use native.Mathlib.Omega.{arith}
+use Rattle.cells.specs.Memory.{memOf}
+use Rattle.disac4.specs.System.{systemOf}
+use Rattle.index.proofs.Places.{few-sections}
+use Rattle.loading.proofs.LoadLaws.{suited-apart, suited-linked}
+use Rattle.loading.proofs.suited_beside.Statement.{statement}
+use Rattle.loading.proofs.suited_beside.Tie as tie
+use Rattle.plan.specs.Decode.{planOf}
+use Rattle.plan.specs.Network.{networkOf}
+use Rattle.plan.specs.WellFormed.{sizeOf}
+
+linked-requires : tie.Need-linked-requires
+linked-requires c κs =
+    let s = c .before .before in
+    omega (arith, s .pre .0 .long, s .pre .1, s .pre .2, few-sections (now (s .args .b)) (s .pre .0 .sound))
+
+returns : tie.Need-returns
+unfolding systemOf networkOf
+returns c =
+    let s = c .before .before .before .before in
+    let a = s .args in
+    suited-apart (systemOf (planOf (now (a .b)))) (memOf (now (a .cells))) (a .x) (a .y) (a .row)
+    (sym (c .before .linked .ensures (now (a .b)) (s .pre .0 .index)) ∙ not-true _ (c .if1 .taken))
+    (s .pre .3)
+
+counted-row-requires : tie.Need-counted-row-requires
+counted-row-requires c κs =
+    let s = c .before .before .before .before in
+    (s .pre .0, sym (c .before .linked .ensures (now (s .args .b)) (s .pre .0 .index)) ∙ not-false _ (c .if1 .left))
+
+returns-2 : tie.Need-returns-2
+unfolding systemOf networkOf sizeOf
+returns-2 c =
+    let t = c .before in
+    let s = t .before .before .before .before in
+    let a = s .args in
+    suited-linked (systemOf (planOf (now (a .b)))) (memOf (now (a .cells))) (a .x) (a .y) (a .row) (c .counted-row .result)
+    (sym (t .before .linked .ensures (now (a .b)) (s .pre .0 .index)) ∙ not-false _ (t .if1 .left))
+    (s .pre .3) (c .counted-row .ensures)
+
+pub suited-beside-spec : {M : Type 1} → statement M
+suited-beside-spec = tie.close (tie.spec linked-requires returns counted-row-requires returns-2)

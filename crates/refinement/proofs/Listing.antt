@@ -1,0 +1,146 @@
+-- Listing the labels by their counters leaves the counters alone: each label is deleted exactly if it is unsupported.
+use Prim.Native.Nat.{ℕ, zero, suc, _-_, _<_, _≤_}
+use mathlib.Core.Bool.{Bool, true, false, cond, _&&_, _||_, not}
+use mathlib.Core.Path.{_≡_, refl, sym, _∙_, ap}
+use native.Mathlib.Nat.{le-refl}
+use native.Mathlib.Omega.{arith}
+use lib.Dec.{eqb}
+use Rattle.base.proofs.Below.{all-ext}
+use Rattle.base.proofs.Row.{row-bit}
+use Rattle.base.specs.Below.{anyBelow, allBelow}
+use Rattle.base.specs.Row.{bit}
+use Rattle.disac4.specs.Loading.{loadedCounter, unsupported}
+use Rattle.disac4.specs.System.{System}
+use Rattle.network.proofs.Loaded.{loaded-intro}
+use Rattle.network.specs.Network.{Network, loaded, supportCount}
+use Rattle.cells.proofs.Stores.{store-apart}
+use Rattle.cells.specs.Layout.{DOMAIN, COUNTERS, HEADS}
+use Rattle.cells.specs.Memory.{Mem, store}
+use Rattle.cells.specs.View.{LISTED, counterRow}
+use Rattle.counting.specs.Count.{countM}
+use Rattle.index.proofs.Kept.{row-heads}
+use Rattle.index.specs.Index.{Paired}
+use Rattle.loading.specs.Load.{suits, suitedRow, listLabelM, listValuesM, listVariableM, listM, loadM}
+use Rattle.refinement.proofs.Counting.{count-else, counted-at}
+use Rattle.refinement.proofs.Frames.{deleteIf, delete-counter}
+use Rattle.refinement.proofs.LabelLoad.{listStep, list-apart}
+use Rattle.refinement.proofs.Walking.{loop, loop-keeps, walk}
+use Rattle.refinement.specs.Inv.{Small}
+
+-- a label that suits every variable by its count is supported
+all-suit : (net : Network) (x v : ℕ) → loaded net x v ≡ true
+    → allBelow (net .variables) (λ y. not (net .linked x y && eqb (supportCount net x v y) 0)) ≡ not (unsupported net x v)
+unfolding unsupported loadedCounter
+all-suit net x v l =
+    rw l (go (net .variables))
+  where
+    both : (a b : Bool) → not a && not b ≡ not (a || b)
+    both true b = refl
+    both false b = refl
+
+    lacks : ℕ → Bool
+    lacks y = net .linked x y && eqb (supportCount net x v y) 0
+
+    go : (n : ℕ) → allBelow n (λ y. not (lacks y)) ≡ not (anyBelow n lacks)
+    go zero = refl
+    go (suc n) = rw (go n) (both (anyBelow n lacks) (lacks n))
+
+module _ (sys : System) where
+  -- each value of `x` has its count against each linked variable
+  abbrev Counted : ℕ → Mem → Type 0
+  Counted x m = (v y : ℕ) → v < sys .net .size x → sys .net .linked x y ≡ true
+      → m COUNTERS (counterRow m x y) v ≡ supportCount (sys .net) x v y
+
+  -- ---- one variable's labels
+
+  module _ (x : ℕ) (inside : x < sys .net .variables) (m : Mem) (counted : Counted x m) where
+    suited-bit : (v : ℕ) → v < sys .net .size x
+        → bit (suitedRow sys m x (sys .net .variables)) v ≡ not (unsupported (sys .net) x v)
+    unfolding suitedRow suits
+    suited-bit v h =
+        row-bit (sys .net .size x) (λ v. allBelow (sys .net .variables) (suits sys m x v)) v h
+        ∙ all-ext (sys .net .variables) (suits sys m x v) (λ y. not (sys .net .linked x y && eqb (supportCount (sys .net) x v y) 0))
+        (λ y k. go y (sys .net .linked x y) refl)
+        ∙ all-suit (sys .net) x v (loaded-intro (sys .net) x v inside h)
+      where
+        go : (y : ℕ) (t : Bool) → sys .net .linked x y ≡ t
+            → not (t && eqb (m COUNTERS (counterRow m x y) v) 0) ≡ not (t && eqb (supportCount (sys .net) x v y) 0)
+        go y true e = ap (λ (k : ℕ). not (eqb k 0)) (counted v y h e)
+        go y false e = refl
+
+    label-step : (v : ℕ) (t : Bool) → t ≡ not (unsupported (sys .net) x v) → (o : Mem) → listLabelM sys x v t o ≡ listStep sys x v o
+    unfolding listLabelM
+    label-step v t e o = ap (λ (t : Bool). listLabelM sys x v t o) e ∙ go (unsupported (sys .net) x v)
+      where
+        listed : Mem
+        listed = store o DOMAIN x v LISTED
+
+        go : (u : Bool) → listLabelM sys x v (not u) o ≡ deleteIf u (sys .owner x - 1) x v listed
+        go true = refl
+        go false = refl
+
+    values-walk : (n : ℕ) → n ≤ sys .net .size x
+        → listValuesM sys x (suitedRow sys m x (sys .net .variables)) n m ≡ loop (listStep sys x) n m
+    unfolding listValuesM
+    values-walk zero h = refl
+    values-walk (suc n) h =
+        label-step n (bit row n) (suited-bit n h) (listValuesM sys x row n m)
+        ∙ ap (listStep sys x n) (values-walk n (omega arith))
+      where
+        row : ℕ
+        row = suitedRow sys m x (sys .net .variables)
+
+  -- ---- all of them
+
+  -- the counters and their index are those of `z`
+  abbrev Same : Mem → Mem → Type 0
+  Same z m = ((a b : ℕ) → m HEADS a b ≡ z HEADS a b) × ((a b : ℕ) → m COUNTERS a b ≡ z COUNTERS a b)
+
+  step-same : (z : Mem) (x v : ℕ) (m : Mem) → Same z m → Same z (listStep sys x v m)
+  step-same z x v m s = (
+    λ a b. list-apart sys x v m HEADS a b (omega arith) ∙ s .0 a b,
+    λ a b. go a b (unsupported (sys .net) x v) ∙ store-apart m DOMAIN x v LISTED COUNTERS a b (omega arith) ∙ s .1 a b,
+  )
+    where
+      listed : Mem
+      listed = store m DOMAIN x v LISTED
+
+      go : (a b : ℕ) (u : Bool) → deleteIf u (sys .owner x - 1) x v listed COUNTERS a b ≡ listed COUNTERS a b
+      go a b true = delete-counter sys (sys .owner x - 1) x v listed a b
+      go a b false = refl
+
+  walk-same : (z : Mem) (n : ℕ) → Same z (walk (sys .net) (listStep sys) n z)
+  walk-same z n =
+      loop-keeps (Same z) (λ x m. loop (listStep sys x) (sys .net .size x) m) n
+      (λ x h m s. loop-keeps (Same z) (listStep sys x) (sys .net .size x) (λ v k. step-same z x v) m s)
+      z ((λ a b. refl), (λ a b. refl))
+
+  list-walk : (z : Mem) → ((x : ℕ) → Counted x z) → (n : ℕ) → n ≤ sys .net .variables
+      → listM sys n z ≡ walk (sys .net) (listStep sys) n z
+  unfolding listM listVariableM
+  list-walk z counted zero h = refl
+  list-walk z counted (suc n) h =
+      ap (listVariableM sys n) (list-walk z counted n (omega arith))
+      ∙ values-walk n h m
+      (λ v y k l.
+      ap (λ (a : ℕ). m COUNTERS a v) (row-heads z m n y (walk-same z n .0 n y))
+      ∙ walk-same z n .1 (counterRow z n y) v
+      ∙ counted n v y k l)
+      (sys .net .size n) (le-refl (sys .net .size n))
+    where
+      m : Mem
+      m = walk (sys .net) (listStep sys) n z
+
+  -- loading lists the labels one by one in a memory where all is counted
+  pub load-walk : Small sys → (z : Mem) → Paired sys z
+      → loadM sys z ≡ walk (sys .net) (listStep sys) (sys .net .variables) (countM sys (sys .net .variables) z)
+  unfolding loadM
+  load-walk small z paired =
+      list-walk z₁
+      (λ x v y h l.
+      ap (λ (a : ℕ). z₁ COUNTERS a v) (row-heads z z₁ x y (count-else sys (sys .net .variables) z HEADS x y (omega arith)))
+      ∙ counted-at sys small z paired x v y h l)
+      (sys .net .variables) (le-refl (sys .net .variables))
+    where
+      z₁ : Mem
+      z₁ = countM sys (sys .net .variables) z
