@@ -48,17 +48,17 @@ not-declined run work lists none r e = refl
 not-declined run work lists (some d) r e = let z : _≡_ {A = ℕ} 0 1 = cc in absurd (omega arith)
 
 -- two tests of which none fails
-neither : (o u : Option Decline) → firstOf o u ≡ none → (o ≡ none) × (u ≡ none)
+pub neither : (o u : Option Decline) → firstOf o u ≡ none → (o ≡ none) × (u ≡ none)
 neither none u e = (refl, e)
 neither (some d) u e = let z : _≡_ {A = ℕ} 0 1 = cc in absurd (omega arith)
 
 -- a plan without a fault is accepted
-decoded : (b : List ℕ) → planFault b ≡ none → decode b ≡ accepted (planOf b)
+pub decoded : (b : List ℕ) → planFault b ≡ none → decode b ≡ accepted (planOf b)
 unfolding decode
 decoded b e = ap (decodedAs (planOf b)) e
 
 -- neither the plan nor its turns have a fault
-inputs-pass : (b ts : List ℕ) → inputFault b ts ≡ none → (planFault b ≡ none) × (turnFault (workerCount b) ts ≡ none)
+pub inputs-pass : (b ts : List ℕ) → inputFault b ts ≡ none → (planFault b ≡ none) × (turnFault (workerCount b) ts ≡ none)
 unfolding inputFault
 inputs-pass b ts e =
     neither (planFault b) (turnFault (workerCount b) ts)

@@ -1,7 +1,7 @@
--- `lists::print` writes the text of an answer. Assumes nothing.
-use mathlib.Core.Path.{sym}
+-- `lists::print` writes what is shown. Assumes nothing.
+use mathlib.Core.Path.{sym, _∙_, ap}
 use native.Mathlib.Omega.{arith}
-use lib.Seq.{length-take-le}
+use lib.ListN.{length, length-take}
 use borrow.Author.Needs.{needs}
 use Rattle.lists.proofs.print.Statement.{statement}
 use Rattle.lists.proofs.print.Tie as tie
@@ -9,19 +9,18 @@ use Rattle.lists.proofs.print.Tie as tie
 buffer-requires : tie.Need-buffer-requires
 buffer-requires c κs = search needs
 
-slice-aggregate-print-answer : tie.Need-slice-aggregate-print-answer
-slice-aggregate-print-answer c = search needs
-
-print-answer-requires : tie.Need-print-answer-requires
-print-answer-requires c κs = search needs
+show-requires : tie.Need-show-requires
+show-requires c κs = search needs
 
 array-share-prefix-out : tie.Need-array-share-prefix-out
-array-share-prefix-out c = search needs
+array-share-prefix-out c =
+    let s = c .show .ensures in
+    omega (arith, s .counted, ap length (s .whole), length-take (c .show .result) (c .show .last .1 .1 .1 .0))
 
 slice-aggregate-write-all : tie.Need-slice-aggregate-write-all
 slice-aggregate-write-all c =
-    let a = c .before .before .print-answer in
-    sym (length-take-le _ _ (omega (arith, a .ensures .counted, a .kept .1 .1 .1 .0)))
+    let s = c .before .show .ensures in
+    s .counted ∙ ap length (sym (s .whole))
 
 write-all-requires : tie.Need-write-all-requires
 write-all-requires c κs = search needs
@@ -34,8 +33,7 @@ print-spec =
     tie.close
     (tie.spec
     buffer-requires
-    slice-aggregate-print-answer
-    print-answer-requires
+    show-requires
     array-share-prefix-out
     slice-aggregate-write-all
     write-all-requires

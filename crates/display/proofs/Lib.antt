@@ -1,0 +1,4 @@
+pub mod Fits
+pub mod Places
+pub mod Texts
+pub mod Worked

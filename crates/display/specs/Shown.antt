@@ -1,0 +1,37 @@
+-- What the program prints for a plan and its turns: the text of a whole run, and a buffer that starts with it.
+use Prim.Native.Nat.{ℕ}
+use mathlib.Core.Bool.{Bool, cond}
+use mathlib.Core.List.{List}
+use mathlib.Core.Path.{_≡_}
+use lib.ListN.{length, take, drop, replicate}
+use Rattle.disac4.specs.Outcome.{Outcome, turnRun, roundRun, workNeed, listNeed}
+use Rattle.text.specs.Printed.{printed}
+
+-- the buffers of a run as the program lends them: as long as a run needs them, every cell 0
+unfoldable pub freshWork : List ℕ
+freshWork = replicate workNeed 0
+
+unfoldable pub freshLists : List ℕ
+freshLists = replicate listNeed 0
+
+-- the text of an outcome: its answer, with the list cells that the run leaves
+unfoldable pub shownOf : List ℕ → Outcome → List ℕ
+shownOf b o = printed (o .answer) b (o .lists)
+
+-- the text of a round run ("a run without a turn list")
+unfoldable pub shownRounds : List ℕ → List ℕ
+shownRounds b = shownOf b (roundRun b freshWork freshLists)
+
+-- the text of a turn run
+unfoldable pub shownTurns : List ℕ → List ℕ → List ℕ
+shownTurns b turns = shownOf b (turnRun b turns freshWork freshLists)
+
+-- what the program prints, by rounds or by the turn list
+unfoldable pub shown : List ℕ → List ℕ → Bool → List ℕ
+shown b turns rounds = cond rounds (shownRounds b) (shownTurns b turns)
+
+-- the buffer starts with the whole text, `count` bytes, and keeps its other cells
+pub record Shows (text before after : List ℕ) (count : ℕ) : Type 0 where
+  pub counted : count ≡ length text
+  pub whole : take count after ≡ text
+  pub kept : drop count after ≡ drop count before
