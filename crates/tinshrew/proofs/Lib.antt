@@ -1,4 +1,2 @@
-pub mod Checked
 pub mod Conclusions
 pub mod Numbers
-pub mod Outcomes

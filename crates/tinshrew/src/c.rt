@@ -13,7 +13,7 @@ ghost use Rattle.tinshrew.specs.Numbers.{GivesNumbers};
 pub extern "C" fn tinshrew_check_plan(plan: &[u8], out: &mut [usize; 5])
     ensures { λ _. ⌜ now (out .exit) ≡ checkedNumbers (planCheck (now (plan .entry))) ⌝ }
 {
-    *out = checked_numbers(crate::check_plan(plan));
+    *out = checked_numbers(calls::check_plan(plan));
 }
 
 // `run_turns`, as numbers.
@@ -27,7 +27,7 @@ pub extern "C" fn tinshrew_run_turns(
 )
     ensures { λ _. ⌜ GivesNumbers (turnRun (now (plan .entry)) (now (turns .entry)) (now (work .entry)) (now (lists .entry))) (now (out .exit)) (now (work .exit)) (now (lists .exit)) ⌝ }
 {
-    *out = answer_numbers(crate::run_turns(plan, turns, work, lists));
+    *out = answer_numbers(calls::run_turns(plan, turns, work, lists));
 }
 
 // `run_round`, as numbers.
@@ -40,5 +40,5 @@ pub extern "C" fn tinshrew_run_round(
 )
     ensures { λ _. ⌜ GivesNumbers (roundRun (now (plan .entry)) (now (work .entry)) (now (lists .entry))) (now (out .exit)) (now (work .exit)) (now (lists .exit)) ⌝ }
 {
-    *out = answer_numbers(crate::run_round(plan, work, lists));
+    *out = answer_numbers(calls::run_round(plan, work, lists));
 }

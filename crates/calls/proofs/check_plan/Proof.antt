@@ -1,7 +1,7 @@
--- `tinshrew::check_plan` is the plan check. Assumes nothing.
+-- `calls::check_plan` is the plan check. Assumes nothing.
 use borrow.Author.Needs.{needs}
-use Rattle.tinshrew.proofs.check_plan.Statement.{statement}
-use Rattle.tinshrew.proofs.check_plan.Tie as tie
+use Rattle.calls.proofs.check_plan.Statement.{statement}
+use Rattle.calls.proofs.check_plan.Tie as tie
 
 check-plan-requires : tie.Need-check-plan-requires
 check-plan-requires c κs = search needs

@@ -1,4 +1,4 @@
--- `tinshrew::run_turns` is the turn run. Assumes nothing.
+-- `calls::run_turns` is the turn run. Assumes nothing.
 use denote.Ref.{now}
 use mathlib.Core.Bool.{true}
 use mathlib.Core.Option.{Option, none}
@@ -14,11 +14,11 @@ use Rattle.plan.proofs.Branches.{holds, fails}
 use Rattle.plan.specs.Decode.{planFault}
 use Rattle.format.specs.Format.{workerCount}
 use Rattle.plan.specs.declared.Decline.{Decline}
-use Rattle.tinshrew.proofs.Checked.{no-fault, its-fault, its-workers}
-use Rattle.tinshrew.proofs.Outcomes.{buffers-pass, buffers-fail, long-enough, turns-refused, then-inputs, turns-played, bad-turn, no-bad-turn}
+use Rattle.calls.proofs.Checked.{no-fault, its-fault, its-workers}
+use Rattle.calls.proofs.Outcomes.{buffers-pass, buffers-fail, long-enough, turns-refused, then-inputs, turns-played, bad-turn, no-bad-turn}
 use borrow.Author.Needs.{needs}
-use Rattle.tinshrew.proofs.run_turns.Statement.{statement}
-use Rattle.tinshrew.proofs.run_turns.Tie as tie
+use Rattle.calls.proofs.run_turns.Statement.{statement}
+use Rattle.calls.proofs.run_turns.Tie as tie
 
 -- ---- what has passed so far
 
