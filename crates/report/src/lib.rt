@@ -26,7 +26,7 @@ ghost use Rattle.format.specs.Format.{variableCount};
 ghost use Rattle.plan.specs.WellFormed.{sizeOf};
 
 // The row of the values in a variable's domain.
-pub fn domain_row(b: &[u8], cells: &[u16], x: usize) -> usize
+fn domain_row(b: &[u8], cells: &[u16], x: usize) -> usize
     requires { ⌜ Ready (now b) (now cells) × (x < variableCount (now b)) ⌝ }
     ensures { λ r. ⌜ (r ≡ rowOf (sizeOf (planOf (now (b .entry))) x) (λ v. eqb (memOf (now (cells .entry)) DOMAIN x v) LISTED)) × (r < 65536) ⌝ }
 {
@@ -54,7 +54,7 @@ pub fn write_lists(b: &[u8], cells: &[u16], lists: &mut [u16])
 }
 
 // One more than the lowest variable whose domain is empty, 0 for none.
-pub fn lowest_empty(b: &[u8], cells: &[u16]) -> usize
+fn lowest_empty(b: &[u8], cells: &[u16]) -> usize
     requires { ⌜ Ready (now b) (now cells) ⌝ }
     ensures { λ r. ⌜ ((t : Tally) → r ≡ lowestEmpty (systemOf (planOf (now (b .entry)))) (view (systemOf (planOf (now (b .entry)))) (memOf (now (cells .entry))) t)) × (r ≤ 32) ⌝ }
 {
