@@ -34,7 +34,10 @@ fn domain_row(b: &[u8], cells: &[u16], x: usize) -> usize
     let mut row = 0;
     let mut v = 0;
     while v < values {
-        row += row_if(layout::get(cells, layout::DOMAIN, x, v) == 65535, v);
+        row += row_if(
+            layout::get(cells, layout::DOMAIN, x, v) == layout::LISTED,
+            v,
+        );
         v += 1;
     }
     row
