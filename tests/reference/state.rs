@@ -96,7 +96,6 @@ pub enum Event {
     /// The controller dropped a reply: to an earlier poll, or to the current
     /// one after a list message ended it.
     Dropped { earlier: bool },
-    Closed,
 }
 
 impl Turn {
@@ -357,7 +356,6 @@ impl State {
                 controller.marks[from] = true;
                 if (1..=plan.workers).all(|worker| controller.marks[worker]) {
                     controller.closed = true;
-                    events.push(Event::Closed);
                 }
             }
             Some(Message::Poll(_)) => unreachable!("a poll goes to a worker"),

@@ -70,7 +70,6 @@ impl Trace {
             Event::Polled => self.polls_sent += 1,
             Event::Dropped { earlier: true } => self.earlier_replies += 1,
             Event::Dropped { earlier: false } => self.late_replies += 1,
-            Event::Closed => {}
         }
     }
 

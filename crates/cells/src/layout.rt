@@ -125,6 +125,9 @@ pub const OUTREAD: usize = 8;
 // The mark of a list message among the messages to the controller.
 pub const LISTMARK: usize = 1024;
 
+// What the cell of a value holds while the value is in its domain.
+pub const LISTED: usize = 65535;
+
 // What stands at a row and column of a region.
 pub fn get(cells: &[u16], g: Region, i: usize, j: usize) -> usize
     requires { ⌜ Fits (now cells) g i j ⌝ }

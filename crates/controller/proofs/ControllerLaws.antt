@@ -1,15 +1,14 @@
 -- Laws by which the code of the controller meets its definitions: the row of marks, the tally, poll and read.
-use Prim.Native.Nat.{ℕ, zero, suc, _+_, _*_, _/_, _%_, _^_, _<_, _≤_}
-use mathlib.Core.Bool.{Bool, true, false, not}
+use Prim.Native.Nat.{ℕ, zero, suc, _+_, _/_, _%_, _^_, _<_, _≤_}
+use mathlib.Core.Bool.{Bool, true, false, not, _&&_}
 use mathlib.Core.List.{List}
 use mathlib.Core.Option.{Option, none, some}
 use mathlib.Core.Path.{_≡_, sym, _∙_}
 use native.Mathlib.Nat.{pow-zero, two-pow-succ}
 use native.Mathlib.Omega.{arith}
-use borrow.Author.Tests.{ltb-true, lt-ltb, le-ltb, le-leb, lt-leb, eqb-false, eq-eqb, ne-eqb, not-true, not-false}
+use borrow.Author.Tests.{ltb-true, le-leb, lt-leb, eqb-false, eq-eqb, ne-eqb, not-true, not-false}
 use lib.Dec.{ltb, eqb}
-use lib.Pow.{pow-mono}
-use Rattle.base.proofs.Bools.{and-right}
+use Rattle.base.proofs.Bools.{and-left, and-right}
 use Rattle.base.proofs.Choice.{cond-true, cond-false}
 use Rattle.base.proofs.Row.{bit-zero, bit-suc}
 use Rattle.base.specs.Row.{bit}
@@ -20,10 +19,6 @@ use Rattle.cells.specs.Memory.{memOf, store}
 use Rattle.controller.specs.Controller.{askedT, asksT, countedT, withMark, markedT, toldT, hasOut, outReadM, askM, Machine, machine, Hears, pollM, hearM}
 
 -- ---- the row of marks
-
--- a bit shifted by at most 8 stays in the word
-pub shifted : (k : ℕ) → k ≤ 8 → 1 * 2 ^ k % 18446744073709551616 ≡ 2 ^ k
-shifted k h = omega (arith, pow-mono h)
 
 -- a row has room for a bit that it lacks
 mark-room : (n r w : ℕ) → w < n → r < 2 ^ n → bit r w ≡ false → r + 2 ^ w < 2 ^ n
@@ -38,32 +33,22 @@ mark-room (suc n) r (suc w) h l e =
       mark-room n (r / 2) w (omega arith) (omega (arith, two-pow-succ n)) (sym (bit-suc r w) ∙ e),
     )
 
-module _ (marks i : ℕ) (small : marks < 256) where
-  pub mark-stays : marks / 2 ^ i % 2 ≡ 1 → (marks ≡ withMark marks i) × (marks < 256)
-  unfolding withMark bit
-  mark-stays h = (rw (eq-eqb (marks / 2 ^ i % 2) 1 h), small)
+module _ (marks i : ℕ) (small : marks < 256) {held : Bool} (q : held ≡ bit marks i) where
+  pub mark-stays : held ≡ true → (marks ≡ withMark marks i) × (marks < 256)
+  unfolding withMark
+  mark-stays h = (rw (← q, h), small)
 
-  pub mark-joins : i < 8 → (marks / 2 ^ i % 2 ≡ 1 → ⊥)
-      → (marks + 1 * 2 ^ i % 18446744073709551616 ≡ withMark marks i)
-      × (marks + 1 * 2 ^ i % 18446744073709551616 < 256)
-  unfolding withMark bit
-  mark-joins l h =
-      let e = ne-eqb (marks / 2 ^ i % 2) 1 h in
-      (rw (e, shifted i (omega arith)), rw (shifted i (omega arith)) (mark-room 8 marks i l small e))
+  pub mark-joins : {r : ℕ} → r ≡ 2 ^ i → i < 8 → held ≡ false → (marks + r ≡ withMark marks i) × (marks + r < 256)
+  unfolding withMark
+  mark-joins e l h = (rw (← q, h, e), rw e (mark-room 8 marks i l small (sym q ∙ h)))
 
 -- ---- the tally
 
-pub marked-as : (p i r : ℕ) (t : Tally) → r ≡ withMark (t .marks) i → p ≤ 8
-    → record {
-      lists = t .lists;
-      timestamp = t .timestamp;
-      polling = t .polling;
-      marks = r;
-      closed = eqb (r + 1) (1 * 2 ^ p % 18446744073709551616);
-    }
+pub marked-as : (p i r n : ℕ) (t : Tally) → r ≡ withMark (t .marks) i → n ≡ 2 ^ p
+    → record { lists = t .lists; timestamp = t .timestamp; polling = t .polling; marks = r; closed = eqb (r + 1) n }
     ≡ markedT p i t
 unfolding markedT
-marked-as p i r t e h = rw (shifted p h, e)
+marked-as p i r n t e f = rw (e, f)
 
 module _ (p i c : ℕ) (t : Tally) where
   pub told-list : {u : Tally} → 1024 ≤ c → u ≡ countedT t → u ≡ toldT p i c t
@@ -120,25 +105,28 @@ module _ (t : Tally) {b : Bool} (q : b ≡ asksT t) where
 
 -- ---- read, controller
 
-module _ (sys : System) (i : ℕ) (cells : List ℕ) (t : Tally) {read end : ℕ} (q₁ : read ≡ memOf cells WORKERS i OUTREAD)
-    (q₂ : end ≡ memOf cells WORKERS i OUTEND) where
-  pub hear-all : end ≤ read → hearM sys i (machine cells t) ≡ none
-  unfolding hearM hasOut
-  hear-all h = rw (← q₁, ← q₂, le-ltb read end h)
+module _ (t : Tally) (read end : ℕ) {b : Bool} (q : b ≡ ltb read end && ltb read 520 && ltb (t .lists .0) 65535) where
+  -- where it finds a message, it has room for its place and for the count
+  pub hear-room : not b ≡ false → (read < 520) × (t .lists .0 < 65535)
+  hear-room h =
+      let found = sym q ∙ not-false b h in
+      let unread = and-left (ltb read end && ltb read 520) (ltb (t .lists .0) 65535) found in (
+        ltb-true read 520 (and-right (ltb read end) (ltb read 520) unread),
+        ltb-true (t .lists .0) 65535 (and-right (ltb read end && ltb read 520) (ltb (t .lists .0) 65535) found),
+      )
 
-  module _ (h₁ : read < end) where
-    pub hear-full : 520 ≤ read → hearM sys i (machine cells t) ≡ none
-    unfolding hearM hasOut
-    hear-full h = rw (← q₁, ← q₂, lt-ltb read end h₁, le-ltb read 520 h)
+  module _ (sys : System) (i : ℕ) (cells : List ℕ) (q₁ : read ≡ memOf cells WORKERS i OUTREAD)
+      (q₂ : end ≡ memOf cells WORKERS i OUTEND) where
+    finds : hasOut i t (memOf cells) ≡ b
+    unfolding hasOut
+    finds = rw (← q₁, ← q₂, q)
 
-    module _ (h₂ : read < 520) where
-      pub hear-counted : 65535 ≤ t .lists .0 → hearM sys i (machine cells t) ≡ none
-      unfolding hearM hasOut
-      hear-counted h = rw (← q₁, ← q₂, lt-ltb read end h₁, lt-ltb read 520 h₂, le-ltb (t .lists .0) 65535 h)
+    pub hear-idle : not b ≡ true → hearM sys i (machine cells t) ≡ none
+    unfolding hearM
+    hear-idle h = rw (finds, not-true b h)
 
-      pub hear-takes : {p c : ℕ} → t .lists .0 < 65535 → c ≡ memOf cells OUT i read → sys .workers ≡ p
-          → hearM sys i (machine cells t)
-          ≡ some (record { mem = store (memOf cells) WORKERS i OUTREAD (read + 1); tally = toldT p i c t })
-      unfolding hearM hasOut outReadM
-      hear-takes h q₃ e =
-          rw (← q₁, ← q₂, lt-ltb read end h₁, lt-ltb read 520 h₂, lt-ltb (t .lists .0) 65535 h, ← q₃, e)
+    pub hear-takes : {p c : ℕ} → not b ≡ false → c ≡ memOf cells OUT i read → sys .workers ≡ p
+        → hearM sys i (machine cells t)
+        ≡ some (record { mem = store (memOf cells) WORKERS i OUTREAD (read + 1); tally = toldT p i c t })
+    unfolding hearM outReadM
+    hear-takes h q₃ e = rw (finds, not-false b h, ← q₁, ← q₃, e)

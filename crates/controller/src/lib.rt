@@ -1,4 +1,6 @@
 // The controller's tally by value, and the controller's actions: poll and read.
+use base::power;
+use base::row_holds;
 use cells::layout::LISTMARK;
 use cells::layout::OUT;
 use cells::layout::OUTEND;
@@ -10,8 +12,10 @@ use cells::layout::put;
 use disac4::ListCounter;
 use disac4::Tally;
 use disac4::Timestamp;
+ghost use mathlib.Core.Bool.{_&&_};
 ghost use mathlib.Core.Path.{_≡_};
 ghost use Prim.Native.Nat.{_<_, _≤_};
+ghost use lib.Dec.{ltb};
 ghost use lib.ListN.{length};
 ghost use Rattle.disac4.specs.System.{System};
 ghost use Rattle.controller.specs.Controller.{askedT, asksT, countedT, withMark, markedT, toldT, pollM, hearM, Hears};
@@ -23,7 +27,7 @@ pub struct Heard {
 }
 
 // The tally after a poll was sent.
-pub fn asked(t: Tally) -> Tally
+fn asked(t: Tally) -> Tally
     requires { ⌜ t .timestamp .0 < 519 ⌝ }
     ensures { λ r. ⌜ r ≡ askedT t ⌝ }
 {
@@ -39,7 +43,7 @@ pub fn asked(t: Tally) -> Tally
 }
 
 // Whether a poll is sent: none is open, and there is room for its number.
-pub fn asks(t: Tally) -> bool
+fn asks(t: Tally) -> bool
     ensures { λ r. ⌜ r ≡ asksT t ⌝ }
 {
     let at = t.timestamp;
@@ -71,10 +75,10 @@ fn with_mark(marks: usize, i: usize) -> usize
     requires { ⌜ (marks < 256) × (i < 8) ⌝ }
     ensures { λ r. ⌜ (r ≡ withMark marks i) × (r < 256) ⌝ }
 {
-    if (marks >> i) % 2 == 1 {
+    if row_holds(marks, i) {
         marks
     } else {
-        marks + (1 << i)
+        marks + power(i)
     }
 }
 
@@ -91,12 +95,12 @@ fn marked(t: Tally, p: usize, i: usize) -> Tally
         timestamp: at,
         marks: marks as u16,
         polling: t.polling,
-        closed: marks + 1 == 1 << p,
+        closed: marks + 1 == power(p),
     }
 }
 
 // The tally after the message `c` from row `i` was read.
-pub fn told(t: Tally, p: usize, i: usize, c: usize) -> Tally
+fn told(t: Tally, p: usize, i: usize, c: usize) -> Tally
     requires { ⌜ (t .lists .0 < 65535) × (t .marks < 256) × (i < 8) × (p ≤ 8) ⌝ }
     ensures { λ r. ⌜ r ≡ toldT p i c t ⌝ }
 {
@@ -136,28 +140,25 @@ pub fn poll(cells: &mut [u16], t: Tally) -> Heard
     }
 }
 
+// Whether a queue has a message behind those that are read, and there is room to count it.
+fn has_out(read: usize, end: usize, lists: u16) -> bool
+    ensures { λ r. ⌜ r ≡ (ltb read end && ltb read 520 && ltb lists 65535) ⌝ }
+{
+    if read >= end {
+        return false;
+    }
+    read < 520 && lists < 65535
+}
+
 // Read: the controller takes the next message of row `i`, of `p` workers.
 pub fn hear(cells: &mut [u16], t: Tally, p: usize, i: usize) -> Heard
     requires { ⌜ (24576 ≤ length (now cells)) × (t .marks < 256) × (i < 8) × (p ≤ 8) ⌝ }
     ensures { λ r. ⌜ ((sys : System) → sys .workers ≡ p → Hears (hearM sys i) (now (cells .entry)) t (now (cells .exit)) r) ⌝ }
 {
     let lists = t.lists;
-    let n = lists.0;
     let read = get(cells, WORKERS, i, OUTREAD);
     let end = get(cells, WORKERS, i, OUTEND);
-    if read >= end {
-        return Heard {
-            changed: 0,
-            tally: t,
-        };
-    }
-    if read >= 520 {
-        return Heard {
-            changed: 0,
-            tally: t,
-        };
-    }
-    if n >= 65535 {
+    if !has_out(read, end, lists.0) {
         return Heard {
             changed: 0,
             tally: t,

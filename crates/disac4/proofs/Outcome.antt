@@ -5,7 +5,7 @@ use mathlib.Core.Option.{Option, none, some}
 use mathlib.Core.Path.{_≡_, refl, _∙_, subst}
 use native.Mathlib.Nat.{le-dest}
 use native.Mathlib.Omega.{arith}
-use lib.ListN.{length, getD, drop, replicate, length-replicate, getD-replicate, List·getD-append}
+use lib.ListN.{length, getD, drop, replicate, length-append, length-drop, length-replicate, getD-replicate, List·getD-append}
 use lib.Seq.{getD-append-add, getD-drop}
 use Rattle.base.specs.Choice.{firstOf}
 use Rattle.plan.specs.Decode.{planFault}
@@ -33,6 +33,12 @@ overwrite-back new cells i h =
     subst (λ (j : ℕ). getD (new ++ drop (length new) cells) j 0 ≡ getD cells j 0) (d .1)
     (getD-append-add new (drop (length new) cells) (d .0) 0 ∙ getD-drop (length new) cells (d .0) 0)
 
+-- and where there is room for it, the length stays
+overwrite-length : (new cells : List ℕ) → length new ≤ length cells → length (overwrite new cells) ≡ length cells
+unfolding overwrite
+overwrite-length new cells h =
+    omega (arith, length-append new (drop (length new) cells), length-drop (length new) cells)
+
 -- ---- the two ways in which a call ends
 
 module _ (work lists : List ℕ) (sys : System) (turns : List Turn) where
@@ -44,9 +50,15 @@ module _ (work lists : List ℕ) (sys : System) (turns : List Turn) where
   declined-untouched none d e = absurd (let z : _≡_ {A = ℕ} 0 1 = cc in omega arith)
   declined-untouched (some f) d e = record { same-work = refl; same-lists = refl }
 
-  run-written : Written work lists sys turns (played work lists sys turns)
+  -- the buffers have room for what the run writes
+  abbrev pub Room : Type 0
+  Room = (workNeed ≤ length work) × (length (listCells sys (final sys turns)) ≤ length lists)
+
+  run-written : Room → Written work lists sys turns (played work lists sys turns)
   unfolding played
-  run-written = record {
+  run-written room = record {
+    work-length = overwrite-length (replicate workNeed 0) work (omega (arith, length-replicate {A = ℕ} workNeed 0, room .0));
+    list-length = overwrite-length (listCells sys (final sys turns)) lists (room .1);
     cleared = λ i h.
         overwrite-front (replicate workNeed 0) work i (omega (arith, length-replicate {A = ℕ} workNeed 0))
         ∙ getD-replicate workNeed i 0 0 h;
@@ -55,11 +67,11 @@ module _ (work lists : List ℕ) (sys : System) (turns : List Turn) where
     lists-kept = overwrite-back (listCells sys (final sys turns)) lists;
   }
 
-  reported-written : (o : Option Decline) (r : Report) → Ends o .answer ≡ Reported r
+  reported-written : Room → (o : Option Decline) (r : Report) → Ends o .answer ≡ Reported r
       → (r ≡ reportOf sys turns) × Written work lists sys turns (Ends o)
   unfolding played refused
-  reported-written none r e = (let z : r ≡ reportOf sys turns = cc in z, run-written)
-  reported-written (some d) r e = absurd (let z : _≡_ {A = ℕ} 0 1 = cc in omega arith)
+  reported-written room none r e = (let z : r ≡ reportOf sys turns = cc in z, run-written room)
+  reported-written room (some d) r e = absurd (let z : _≡_ {A = ℕ} 0 1 = cc in omega arith)
 
 -- ---- the delivered runs
 
@@ -78,16 +90,18 @@ roundRun-declined b work lists d e =
     declined-untouched work lists (systemAt b) (roundRunTurns (systemAt b)) (firstOf (bufferFault work lists) (planFault b)) d e
 
 -- a turn run that reports gives the report of its turns, and its cells
-pub turnRun-reported : (b ts work lists : List ℕ) (r : Report) → turnRun b ts work lists .answer ≡ Reported r
+pub turnRun-reported : (b ts work lists : List ℕ) → Room work lists (systemAt b) (turnsOf ts) → (r : Report)
+    → turnRun b ts work lists .answer ≡ Reported r
     → (r ≡ reportOf (systemAt b) (turnsOf ts)) × Written work lists (systemAt b) (turnsOf ts) (turnRun b ts work lists)
 unfolding turnRun
-turnRun-reported b ts work lists r e =
-    reported-written work lists (systemAt b) (turnsOf ts) (firstOf (bufferFault work lists) (inputFault b ts)) r e
+turnRun-reported b ts work lists room r e =
+    reported-written work lists (systemAt b) (turnsOf ts) room (firstOf (bufferFault work lists) (inputFault b ts)) r e
 
 -- a round run that reports gives the report of its turns, and its cells
-pub roundRun-reported : (b work lists : List ℕ) (r : Report) → roundRun b work lists .answer ≡ Reported r
+pub roundRun-reported : (b work lists : List ℕ) → Room work lists (systemAt b) (roundRunTurns (systemAt b)) → (r : Report)
+    → roundRun b work lists .answer ≡ Reported r
     → (r ≡ reportOf (systemAt b) (roundRunTurns (systemAt b)))
     × Written work lists (systemAt b) (roundRunTurns (systemAt b)) (roundRun b work lists)
 unfolding roundRun
-roundRun-reported b work lists r e =
-    reported-written work lists (systemAt b) (roundRunTurns (systemAt b)) (firstOf (bufferFault work lists) (planFault b)) r e
+roundRun-reported b work lists room r e =
+    reported-written work lists (systemAt b) (roundRunTurns (systemAt b)) room (firstOf (bufferFault work lists) (planFault b)) r e

@@ -93,8 +93,10 @@ pub record Untouched (work lists : List ℕ) (o : Outcome) : Type 0 where
   pub same-work : o .work ≡ work
   pub same-lists : o .lists ≡ lists
 
--- a run clears the first work cells, writes a cell for each variable, and keeps all later cells
+-- a run clears the first work cells, writes a cell for each variable, and keeps all later cells and both lengths
 pub record Written (work lists : List ℕ) (sys : System) (turns : List Turn) (o : Outcome) : Type 0 where
+  pub work-length : length (o .work) ≡ length work
+  pub list-length : length (o .lists) ≡ length lists
   pub cleared : (i : ℕ) → i < workNeed → getD (o .work) i 0 ≡ 0
   pub work-kept : (i : ℕ) → workNeed ≤ i → getD (o .work) i 0 ≡ getD work i 0
   pub cells : (i : ℕ) → i < length (listCells sys (final sys turns))

@@ -2,12 +2,17 @@
 ghost use Rattle.buffer.specs.Buffer.{Holds};
 ghost use Rattle.display.specs.Shown.{shownRounds, shownTurns, shown, Shows};
 
+// As many cells as a run needs.
+const WORK_CELLS: usize = 24576;
+
+const LIST_CELLS: usize = 32;
+
 // The text of a run by rounds, as much of it as fits.
 fn show_rounds(plan: &[u8], out: &mut [u8]) -> usize
     ensures { λ r. ⌜ Holds (shownRounds (now (plan .entry))) (now (out .entry)) (now (out .exit)) r ⌝ }
 {
-    let mut work = [0u16; 24576];
-    let mut lists = [0u16; 32];
+    let mut work = [0u16; WORK_CELLS];
+    let mut lists = [0u16; LIST_CELLS];
     let answer = tinshrew::run_round(plan, &mut work, &mut lists);
     text::print_answer(answer, plan, &lists, out)
 }
@@ -16,8 +21,8 @@ fn show_rounds(plan: &[u8], out: &mut [u8]) -> usize
 fn show_turns(plan: &[u8], turns: &[u8], out: &mut [u8]) -> usize
     ensures { λ r. ⌜ Holds (shownTurns (now (plan .entry)) (now (turns .entry))) (now (out .entry)) (now (out .exit)) r ⌝ }
 {
-    let mut work = [0u16; 24576];
-    let mut lists = [0u16; 32];
+    let mut work = [0u16; WORK_CELLS];
+    let mut lists = [0u16; LIST_CELLS];
     let answer = tinshrew::run_turns(plan, turns, &mut work, &mut lists);
     text::print_answer(answer, plan, &lists, out)
 }

@@ -45,7 +45,7 @@ module _ (b c₀ c₁ c₂ : List ℕ) (sound : planFault b ≡ none) (cleared :
   unfolding clearedM
   start-ready long = record {
     sound = sound;
-    index = subst (Indexed b) (sym ground) (indexed b sound (clearedM (memOf c₀)) (λ x y. refl));
+    index = subst (Indexed b) (sym ground) (indexed b sound (clearedM (memOf c₀)) (λ x y. refl) (λ i y. refl));
     long = long;
   }
 

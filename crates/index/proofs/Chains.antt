@@ -171,10 +171,27 @@ module _ (b : List ℕ) (c f s : ℕ) (e : Ends b c f s) where
 
 -- ---- the memory that indexing leaves
 
-pub chains-keep : (b : List ℕ) (k : ℕ) (m : Mem) (i j : ℕ) → chainsM b k m PLACES i j ≡ m PLACES i j
+-- writing the places touches no other region
+places-keep : (b : List ℕ) (n : ℕ) (m : Mem) (r i j : ℕ) → (r ≡ PLACES → ⊥) → placesM b n m r i j ≡ m r i j
+unfolding placesM
+places-keep b zero m r i j h = refl
+places-keep b (suc n) m r i j h =
+    store-apart (placesM b n m) PLACES 0 n (sectionStart b n) r i j h ∙ places-keep b n m r i j h
+
+-- nor does writing the chains touch regions other than theirs
+pub chains-keep : (b : List ℕ) (k : ℕ) (m : Mem) (r i j : ℕ) → (r ≡ HEADS → ⊥) → (r ≡ NEXT → ⊥)
+    → chainsM b k m r i j ≡ m r i j
 unfolding chainsM linkM
-chains-keep b zero m i j = refl
-chains-keep b (suc k) m i j = chains-keep b k m i j
+chains-keep b zero m r i j h l = refl
+chains-keep b (suc k) m r i j h l =
+    go (chainsM b k m) (firstAt b (constraintStart b k) - 1) (secondAt b (constraintStart b k) - 1)
+    ∙ chains-keep b k m r i j h l
+  where
+    go : (m : Mem) (x y : ℕ) → linkM x y k m r i j ≡ m r i j
+    go m x y =
+        store-apart (store (store m NEXT 0 k (m HEADS x y)) HEADS x y (k + 1)) HEADS y x (k + 1) r i j h
+        ∙ store-apart (store m NEXT 0 k (m HEADS x y)) HEADS x y (k + 1) r i j h
+        ∙ store-apart m NEXT 0 k (m HEADS x y) r i j l
 
 pub places-at : (b : List ℕ) (n : ℕ) (m : Mem) (k : ℕ) → k < n → placesM b n m PLACES 0 k ≡ sectionStart b k
 unfolding placesM
@@ -188,11 +205,6 @@ places-at b (suc n) m k h =
     cond-false (sectionStart b n) (placesM b n m PLACES 0 k) (and-false-left true (ne-eqb k n (λ e. omega arith)))
     ∙ places-at b n m k l)
     (below-cases h)
-
-places-heads : (b : List ℕ) (n : ℕ) (m : Mem) (i j : ℕ) → placesM b n m HEADS i j ≡ m HEADS i j
-unfolding placesM
-places-heads b zero m i j = refl
-places-heads b (suc n) m i j = places-heads b n m i j
 
 module _ (b : List ℕ) (none-found : planFault b ≡ none) (m : Mem) (empty : (x y : ℕ) → m HEADS x y ≡ 0) where
   chains-heads : (k : ℕ) → k ≤ constraintCount b → (x y : ℕ) → chainsM b k m HEADS x y ≡ chainBelow b x y k
@@ -230,13 +242,19 @@ module _ (b : List ℕ) (none-found : planFault b ≡ none) (m : Mem) (empty : (
           (over-ends b k f s (ends b none-found k h) x y q)
 
 -- from a memory without chains, indexing leaves the plan's index
-pub indexed : (b : List ℕ) → planFault b ≡ none → (m : Mem) → ((x y : ℕ) → m HEADS x y ≡ 0) → Indexed b (indexM b m)
+pub indexed : (b : List ℕ) → planFault b ≡ none → (m : Mem) → ((x y : ℕ) → m HEADS x y ≡ 0)
+    → ((i y : ℕ) → m FIRST i y ≡ 0) → Indexed b (indexM b m)
 unfolding indexM
-indexed b none-found m empty =
+indexed b none-found m empty unled =
     let n = sectionCount b in
     let c = constraintCount b in
     let l = chainsM b c (placesM b n m) in
-    let empty′ : (x y : ℕ) → placesM b n m HEADS x y ≡ 0 = λ x y. places-heads b n m x y ∙ empty x y in
+    let empty′ : (x y : ℕ) → placesM b n m HEADS x y ≡ 0 =
+    λ x y. places-keep b n m HEADS x y (λ e. omega arith) ∙ empty x y in
+    let unled′ : (i y : ℕ) → l FIRST i y ≡ 0 =
+    λ i y.
+    chains-keep b c (placesM b n m) FIRST i y (λ e. omega arith) (λ e. omega arith)
+    ∙ places-keep b n m FIRST i y (λ e. omega arith) ∙ unled i y in
     let v = variableCount b in
     let kept : (r i j : ℕ) → r < FIRST → ownM b v l r i j ≡ l r i j =
     λ r i j h. own-keeps b l v r i j (λ e. omega arith) (λ e. omega arith) in
@@ -245,41 +263,28 @@ indexed b none-found m empty =
     ap (λ (h : ℕ). eqb h 0) (chains-heads b none-found (placesM b n m) empty′ c (le-refl c) x y)
     ∙ not-turned (anyBelow c (over b x y)) (eqb (chainBelow b x y c) 0) (chain-any b x y c) in
     record {
-      places = λ k h. kept PLACES 0 k (omega arith) ∙ chains-keep b c (placesM b n m) 0 k ∙ places-at b n m k h;
+      places = λ k h.
+          kept PLACES 0 k (omega arith)
+          ∙ chains-keep b c (placesM b n m) PLACES 0 k (λ e. omega arith) (λ e. omega arith) ∙ places-at b n m k h;
       heads = λ x y. kept HEADS x y (omega arith) ∙ chains-heads b none-found (placesM b n m) empty′ c (le-refl c) x y;
       nexts = λ k h x y o.
           kept NEXT 0 k (omega arith) ∙ chains-nexts b none-found (placesM b n m) empty′ c (le-refl c) k h x y o;
-      first = own-first b none-found l linked v (le-refl v);
-      follow = λ i h x y. own-follow b none-found l linked v (le-refl v) i h x y (omega arith);
+      first = own-first b none-found l linked unled′ v (le-refl v);
+      follow = λ i h x y. own-follow b none-found l linked unled′ v (le-refl v) i h x y (omega arith);
     }
 
 -- every region but the index's own is as it was
 pub index-keeps : (b : List ℕ) (m : Mem) (r : ℕ) → (r < HEADS) ⊎ (FOLLOW < r) → (i j : ℕ) → indexM b m r i j ≡ m r i j
-unfolding indexM placesM linkM chainsM
+unfolding indexM
 index-keeps b m r apart i j =
     own-keeps b (chainsM b (constraintCount b) (placesM b (sectionCount b) m)) (variableCount b) r i j
     (other FIRST (omega arith) (omega arith)) (other FOLLOW (omega arith) (omega arith))
-    ∙ chains (constraintCount b) (placesM b (sectionCount b) m) ∙ places (sectionCount b)
+    ∙ chains-keep b (constraintCount b) (placesM b (sectionCount b) m) r i j (other HEADS (omega arith) (omega arith))
+    (other NEXT (omega arith) (omega arith))
+    ∙ places-keep b (sectionCount b) m r i j (other PLACES (omega arith) (omega arith))
   where
     other : (s : ℕ) → HEADS ≤ s → s ≤ FOLLOW → r ≡ s → ⊥
     other s l h e = ⊎-elim (λ (p : r < HEADS). omega arith) (λ (p : FOLLOW < r). omega arith) apart
-
-    places : (n : ℕ) → placesM b n m r i j ≡ m r i j
-    places zero = refl
-    places (suc n) =
-        store-apart (placesM b n m) PLACES 0 n (sectionStart b n) r i j (other PLACES (omega arith) (omega arith)) ∙ places n
-
-    linked : (m : Mem) (x y c : ℕ) → linkM x y c m r i j ≡ m r i j
-    linked m x y c =
-        store-apart (store (store m NEXT 0 c (m HEADS x y)) HEADS x y (c + 1)) HEADS y x (c + 1) r i j
-        (other HEADS (omega arith) (omega arith))
-        ∙ store-apart (store m NEXT 0 c (m HEADS x y)) HEADS x y (c + 1) r i j (other HEADS (omega arith) (omega arith))
-        ∙ store-apart m NEXT 0 c (m HEADS x y) r i j (other NEXT (omega arith) (omega arith))
-
-    chains : (k : ℕ) (m : Mem) → chainsM b k m r i j ≡ m r i j
-    chains zero m = refl
-    chains (suc k) m =
-        linked (chainsM b k m) (firstAt b (constraintStart b k) - 1) (secondAt b (constraintStart b k) - 1) k ∙ chains k m
 
 -- the index stays where its regions do
 pub indexed-kept : (b : List ℕ) (m n : Mem) → ((r i j : ℕ) → HEADS ≤ r → n r i j ≡ m r i j) → Indexed b m → Indexed b n
@@ -320,5 +325,6 @@ pub place-found : (b : List ℕ) (v c at : ℕ) (m n : Mem) → ((k : ℕ) → k
     → n ≡ chainsM b c m → v ≡ variableCount b → c < constraintCount b → at ≡ n PLACES 0 (v + c + 1) → at ≡ constraintStart b c
 unfolding sectionCount
 place-found b v c at m n known e p h q =
-    q ∙ ap (λ (n : Mem). n PLACES 0 (v + c + 1)) e ∙ chains-keep b c m 0 (v + c + 1) ∙ known (v + c + 1) (omega arith)
+    q ∙ ap (λ (n : Mem). n PLACES 0 (v + c + 1)) e
+    ∙ chains-keep b c m PLACES 0 (v + c + 1) (λ e. omega arith) (λ e. omega arith) ∙ known (v + c + 1) (omega arith)
     ∙ ap (sectionStart b) (omega arith)

@@ -1,6 +1,6 @@
 -- The chains of the workers' own variables: what they go through, and that indexing leaves them.
-use Prim.Native.Nat.{ℕ, zero, suc, _+_, _-_, _*_, _/_, _%_, _<_, _≤_}
-use mathlib.Core.Bool.{Bool, true, false, cond, _&&_, not}
+use Prim.Native.Nat.{ℕ, zero, suc, _+_, _-_, _<_, _≤_}
+use mathlib.Core.Bool.{Bool, true, false, cond, not}
 use mathlib.Core.List.{List}
 use mathlib.Core.Logic.{_⊎_, inl, inr, ⊎-elim}
 use mathlib.Core.Option.{none}
@@ -14,7 +14,7 @@ use lib.Dec.{eqb}
 use lib.ListN.{length}
 use Rattle.base.proofs.Below.{below-cases}
 use Rattle.base.proofs.Bools.{decided, and-left, and-right, and-intro, and-false-left, and-false-right}
-use Rattle.base.proofs.Choice.{cond-true, cond-false, cond-same}
+use Rattle.base.proofs.Choice.{cond-true, cond-false}
 use Rattle.base.specs.Below.{anyBelow}
 use Rattle.disac4.specs.System.{systemOf}
 use Rattle.format.specs.Format.{variableCount, constraintCount}
@@ -22,9 +22,8 @@ use Rattle.plan.proofs.Parts.{variables-read}
 use Rattle.plan.proofs.WellFormed.{read-well-formed}
 use Rattle.plan.specs.Decode.{planFault, planOf}
 use Rattle.plan.specs.WellFormed.{WellFormed}
-use Rattle.index.proofs.Places.{few-sections}
-use Rattle.index.specs.Index.{over, owns, ownLinked, nextOwn, Located, noneM, leadM, leadsM, ownM}
-use Rattle.cells.proofs.Stores.{store-same, store-other, store-apart}
+use Rattle.index.specs.Index.{over, owns, ownLinked, nextOwn, Located, leadM, leadsM, ownM}
+use Rattle.cells.proofs.Stores.{store-same, store-other}
 use Rattle.cells.specs.Layout.{HEADS, PLACES, FIRST, FOLLOW}
 use Rattle.cells.specs.Memory.{Mem, memOf, store}
 
@@ -75,25 +74,6 @@ module _ (b : List ℕ) (x : ℕ) where
   owns-alone i e = omega (arith, eqb-true (systemOf (planOf b) .owner x) (suc i) e)
 
 -- ---- the memory that indexing leaves
-
--- the first variables: none
-pub none-at : (m : Mem) (n i y : ℕ) → y < 32 → i * 32 + y < n → noneM n m FIRST i y ≡ 0
-unfolding noneM
-none-at m zero i y h l = absurd (not-suc-le-zero l)
-none-at m (suc n) i y h l =
-    ⊎-elim
-    (λ e.
-    let p : y ≡ n % 32 = omega arith in
-    let q : i ≡ n / 32 = omega arith in
-    cond-true 0 (noneM n m FIRST i y) (and-intro (eq-eqb y (n % 32) p) (eq-eqb i (n / 32) q)))
-    (λ k. cond-same (eqb y (n % 32) && eqb i (n / 32)) 0 (noneM n m FIRST i y) 0 refl (none-at m n i y h k))
-    (below-cases l)
-
-pub none-keeps : (m : Mem) (n r k j : ℕ) → (r ≡ FIRST → ⊥) → noneM n m r k j ≡ m r k j
-unfolding noneM
-none-keeps m zero r k j h = refl
-none-keeps m (suc n) r k j h =
-    store-apart (noneM n m) FIRST (n / 32) (n % 32) 0 r k j h ∙ none-keeps m n r k j h
 
 module _ (i x : ℕ) where
   -- one variable in front of another's chain: two points change, and none if the two are not linked
@@ -180,15 +160,16 @@ module _ (i x : ℕ) where
 -- the other regions are as they were
 pub own-keeps : (b : List ℕ) (m : Mem) (n r k j : ℕ) → (r ≡ FIRST → ⊥) → (r ≡ FOLLOW → ⊥) → ownM b n m r k j ≡ m r k j
 unfolding ownM
-own-keeps b m zero r k j h l = none-keeps m 256 r k j h
+own-keeps b m zero r k j h l = refl
 own-keeps b m (suc n) r k j h l =
     leads-same (systemOf (planOf b) .owner (variableCount b - suc n) - 1) (variableCount b - suc n) (variableCount b)
     (ownM b n m) r k j (λ p q e. h p) (λ p q e. l p)
     ∙ own-keeps b m n r k j h l
 
--- from a memory that holds the chains of constraints
+-- from a memory that holds the chains of constraints, and none of own variables
 module _ (b : List ℕ) (sound : planFault b ≡ none) (m : Mem)
-    (heads : (x y : ℕ) → eqb (m HEADS x y) 0 ≡ not (anyBelow (constraintCount b) (over b x y))) where
+    (heads : (x y : ℕ) → eqb (m HEADS x y) 0 ≡ not (anyBelow (constraintCount b) (over b x y)))
+    (empty : (i y : ℕ) → m FIRST i y ≡ 0) where
   abbrev row : ℕ → ℕ
   row x = systemOf (planOf b) .owner x - 1
 
@@ -202,7 +183,7 @@ module _ (b : List ℕ) (sound : planFault b ≡ none) (m : Mem)
   pub own-first : (n : ℕ) → n ≤ variableCount b → (i : ℕ) → i < 8 → (y : ℕ) → y < variableCount b
       → ownM b n m FIRST i y ≡ nextOwn b i y n
   unfolding ownM ownLinked
-  own-first zero h i l y k = none-at m 256 i y (omega (arith, few-sections b sound)) (omega (arith, few-sections b sound)) ∙ sym (next-none b i y)
+  own-first zero h i l y k = empty i y ∙ sym (next-none b i y)
   own-first (suc n) h i l y k = go (own-first n (omega arith) i l y k)
     where
       x : ℕ
@@ -270,10 +251,6 @@ located-kept b old new n l e p same = record {
   long = omega (arith, l .long);
 }
 
-pub none-more : (k : ℕ) (m n p : Mem) → n ≡ noneM k m → p ≡ store n FIRST (k / 32) (k % 32) 0 → p ≡ noneM (k + 1) m
-unfolding noneM
-none-more k m n p e r = rw add-one (r ∙ ap (λ (n : Mem). store n FIRST (k / 32) (k % 32) 0) e)
-
 module _ (i x y : ℕ) (m : Mem) where
   pub lead-passed : (h : ℕ) → h ≡ m HEADS x y → h ≡ 0 → m ≡ leadM i x y m
   lead-passed h e z = sym (lead-none i x y m (eq-eqb (m HEADS x y) 0 (sym e ∙ z)))
@@ -288,11 +265,11 @@ pub leads-more : (i x y : ℕ) (m n p : Mem) → n ≡ leadsM i x y m → p ≡ 
 unfolding leadsM
 leads-more i x y m n p e r = rw add-one (r ∙ ap (leadM i x y) e)
 
-pub own-start : (b : List ℕ) (x : ℕ) (m p : Mem) → x ≡ variableCount b → p ≡ noneM 256 m → p ≡ ownM b (variableCount b - x) m
+pub own-start : (b : List ℕ) (x : ℕ) (m : Mem) → x ≡ variableCount b → m ≡ ownM b (variableCount b - x) m
 unfolding ownM
-own-start b x m p h e =
+own-start b x m h =
     let z : 0 ≡ variableCount b - x = omega arith in
-    e ∙ ap (λ (k : ℕ). ownM b k m) z
+    ap (λ (k : ℕ). ownM b k m) z
 
 pub own-more : (b : List ℕ) (x o n : ℕ) (m p q : Mem) → x < variableCount b → n ≡ variableCount b
     → o ≡ systemOf (planOf b) .owner x → p ≡ ownM b (variableCount b - suc x) m → q ≡ leadsM (o - 1) x n p

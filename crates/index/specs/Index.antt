@@ -1,6 +1,6 @@
 -- The index of a plan in memory: where its sections start, the constraints over each two variables as chains, and each
 -- worker's own variables that are linked with another one as chains too.
-use Prim.Native.Nat.{ℕ, zero, suc, _+_, _-_, _/_, _%_, _<_, _≤_}
+use Prim.Native.Nat.{ℕ, zero, suc, _+_, _-_, _<_, _≤_}
 use mathlib.Core.Bool.{Bool, true, cond, _&&_, _||_}
 use mathlib.Core.List.{List}
 use mathlib.Core.Logic.{_⊎_}
@@ -94,11 +94,6 @@ chainsM b zero m = m
 chainsM b (suc c) m =
     linkM (firstAt b (constraintStart b c) - 1) (secondAt b (constraintStart b c) - 1) c (chainsM b c m)
 
--- the first `n` cells of the rows' first variables hold none
-unfoldable pub noneM : ℕ → Mem → Mem
-noneM zero m = m
-noneM (suc k) m = store (noneM k m) FIRST (k / 32) (k % 32) 0
-
 -- variable `x` in front of the chain of row `i` for `y`, if there is a chain of constraints over the two
 unfoldable pub leadM : ℕ → ℕ → ℕ → Mem → Mem
 leadM i x y m = cond (eqb (m HEADS x y) 0) m (store (store m FOLLOW x y (m FIRST i y)) FIRST i y (x + 1))
@@ -110,7 +105,7 @@ leadsM i x (suc y) m = leadM i x y (leadsM i x y m)
 
 -- the last `n` variables, from the last one on, each in front of its owner's chains
 unfoldable pub ownM : List ℕ → ℕ → Mem → Mem
-ownM b zero m = noneM 256 m
+ownM b zero m = m
 ownM b (suc n) m =
     leadsM (systemOf (planOf b) .owner (variableCount b - suc n) - 1) (variableCount b - suc n) (variableCount b) (ownM b n m)
 

@@ -7,7 +7,7 @@ ghost use mathlib.Core.Option.{none};
 ghost use mathlib.Core.Path.{_≡_};
 ghost use Prim.Native.Nat.{_<_, _≤_};
 ghost use lib.ListN.{length};
-ghost use Rattle.index.specs.Index.{Located, placesM, linkM, chainsM, noneM, leadM, leadsM, ownM, indexM};
+ghost use Rattle.index.specs.Index.{Located, placesM, linkM, chainsM, leadM, leadsM, ownM, indexM};
 ghost use Rattle.cells.specs.Memory.{memOf};
 ghost use Rattle.plan.specs.Decode.{planFault, sectionCount};
 ghost use Rattle.format.specs.Format.{variableCount, constraintCount};
@@ -58,18 +58,6 @@ fn index_chains(b: &[u8], cells: &mut [u16])
     }
 }
 
-// No row has a first variable yet.
-fn index_none(cells: &mut [u16])
-    requires { ⌜ 24576 ≤ length (now cells) ⌝ }
-    ensures { λ _. ⌜ memOf (now (cells .exit)) ≡ noneM 256 (memOf (now (cells .entry))) ⌝ }
-{
-    let mut k = 0;
-    while k < 256 {
-        layout::put(cells, layout::FIRST, k / 32, k % 32, 0);
-        k += 1;
-    }
-}
-
 // Puts variable x in front of the chain of row i for y, if it is linked with y.
 fn lead(cells: &mut [u16], i: usize, x: usize, y: usize)
     requires { ⌜ (i < 8) × (x < 32) × (y < 32) × (24576 ≤ length (now cells)) ⌝ }
@@ -99,7 +87,6 @@ fn index_own(b: &[u8], cells: &mut [u16])
     requires { ⌜ Located (now b) (now cells) ⌝ }
     ensures { λ _. ⌜ memOf (now (cells .exit)) ≡ ownM (now (b .entry)) (variableCount (now (b .entry))) (memOf (now (cells .entry))) ⌝ }
 {
-    index_none(cells);
     let n = read::variable_count(b);
     let mut x = n;
     while x != 0 {
@@ -108,7 +95,7 @@ fn index_own(b: &[u8], cells: &mut [u16])
     }
 }
 
-// Writes the index of an accepted plan.
+// Writes the index of an accepted plan. The chains grow from what the cells hold, so a run clears them first.
 pub fn index_plan(b: &[u8], cells: &mut [u16])
     requires { ⌜ (planFault (now b) ≡ none) × (24576 ≤ length (now cells)) ⌝ }
     ensures { λ _. ⌜ memOf (now (cells .exit)) ≡ indexM (now (b .entry)) (memOf (now (cells .entry))) ⌝ }

@@ -71,7 +71,7 @@ fn list_label(b: &[u8], cells: &mut [u16], x: usize, v: usize, supported: bool)
     requires { ⌜ Ready (now b) (now cells) × Listed (now b) x v ⌝ }
     ensures { λ _. ⌜ memOf (now (cells .exit)) ≡ listLabelM (systemOf (planOf (now (b .entry)))) x v supported (memOf (now (cells .entry))) ⌝ }
 {
-    layout::put(cells, layout::DOMAIN, x, v, 65535);
+    layout::put(cells, layout::DOMAIN, x, v, layout::LISTED);
     if !supported {
         let owner = parts::owner(b, cells, x);
         lists::delete(cells, owner - 1, x, v);

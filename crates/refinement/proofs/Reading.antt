@@ -158,31 +158,68 @@ module _ (sys : System) (m : Mem) (t : Tally) (j i : ℕ) (inv : Inv sys (record
   unfolding listAt
   longer = omega (arith, joined .end, labels-length m LOG j (listStart j i m) (listEnd j i m))
 
+  -- no row has read more lists than were sent
+  cursors-behind : (l k : ℕ) → l < sys .workers → k < sys .workers → takenM j i m CURSORS l k ≤ m WORKERS l SENDS
+  cursors-behind l k p q =
+      elim (ℕ-discrete k i) [
+        | yes e ↦ elim (ℕ-discrete l j) [
+          | yes f ↦
+              omega (
+                arith,
+                ap (takenM j i m CURSORS l) e,
+                ap (λ x. takenM j i m CURSORS x i) f,
+                ap (λ x. m WORKERS x SENDS) f,
+                new-cursor j i m,
+              )
+          | no n ↦ omega (arith, old-cursor j i m l k (λ x y. n x), inv .totals .cursor l k p q)
+        ]
+        | no n ↦ omega (arith, old-cursor j i m l k (λ x y. n y), inv .totals .cursor l k p q)
+      ]
+
+  -- a column that reading a list message does not write
+  abbrev Still : ℕ → Type 0
+  Still c = (k : ℕ) → takenM j i m WORKERS k c ≡ m WORKERS k c
+
+  log-ends : Still LOGEND
+  log-ends k = column j i m k LOGEND (omega arith) (omega arith)
+
+  sends : Still SENDS
+  sends k = column j i m k SENDS (omega arith) (omega arith)
+
+  -- each row had on its work list what it deleted and read
+  work-pushed : (k : ℕ) → k < sys .workers
+      → takenM j i m WORKERS k TAIL
+      ≡ takenM j i m WORKERS k LOGEND + sumBelow (sys .workers) (λ l. takenM j i m BOUNDS l (takenM j i m CURSORS l k))
+  work-pushed k p =
+      total-read j i m (sys .workers) TAIL LOGEND (m BOUNDS) hj
+      (omega (arith, longer, inv .rows j hj .bounds-rise (m CURSORS j i) unread))
+      (λ k n. column j i m k TAIL (λ e x. n e) (omega arith)) log-ends k (inv .totals .pushed k p)
+      ∙ ap (λ x. takenM j i m WORKERS k LOGEND + x)
+      (sum-ext (sys .workers) (λ l. m BOUNDS l (takenM j i m CURSORS l k))
+      (λ l. takenM j i m BOUNDS l (takenM j i m CURSORS l k)) (λ l q.
+      sym (region j i m BOUNDS (omega arith) l (takenM j i m CURSORS l k))))
+
+  -- each row counts the lists that it sent and read
+  lists-counted : (k : ℕ) → k < sys .workers
+      → takenM j i m WORKERS k LISTS
+      ≡ takenM j i m WORKERS k SENDS + sumBelow (sys .workers) (λ l. takenM j i m CURSORS l k)
+  lists-counted k p =
+      total-read j i m (sys .workers) LISTS SENDS (λ l c. c) hj (omega (arith, more-lists j i m))
+      (λ k n. column j i m k LISTS (omega arith) (λ e x. n e)) sends k (inv .totals .counted k p)
+
   totals : Totals sys (takenM j i m) t
   totals =
       let u = inv .totals in
       record {
         own-cursor = λ k p. old-cursor j i m k k (λ q e. apart (sym q ∙ e)) ∙ u .own-cursor k p;
-        cursor = λ l k p q. omega (arith, cursors l k p q, column j i m l SENDS (omega arith) (omega arith));
-        pushed = λ k p.
-            total-read j i m (sys .workers) TAIL LOGEND (m BOUNDS) hj
-            (omega (arith, longer, inv .rows j hj .bounds-rise (m CURSORS j i) unread))
-            (λ k n. column j i m k TAIL (λ e x. n e) (omega arith))
-            (λ k. column j i m k LOGEND (omega arith) (omega arith)) k (u .pushed k p)
-            ∙ ap (λ x. takenM j i m WORKERS k LOGEND + x) (bounds k);
-        counted = λ k p.
-            total-read j i m (sys .workers) LISTS SENDS (λ l c. c) hj (omega (arith, more-lists j i m))
-            (λ k n. column j i m k LISTS (omega arith) (λ e x. n e))
-            (λ k. column j i m k SENDS (omega arith) (omega arith)) k (u .counted k p);
-        logged =
-            logged-kept m (takenM j i m) sys (λ k. column j i m k LOGEND (omega arith) (omega arith))
-            (region j i m DOMAIN (omega arith))
-            ∙ u .logged;
+        cursor = λ l k p q. omega (arith, cursors-behind l k p q, sends l);
+        pushed = work-pushed;
+        counted = lists-counted;
+        logged = logged-kept m (takenM j i m) sys log-ends (region j i m DOMAIN (omega arith)) ∙ u .logged;
         all-out = λ k p.
             lists-out-kept m (takenM j i m) k (m WORKERS k OUTEND) (takenM j i m WORKERS k OUTEND)
             (column j i m k OUTEND (omega arith) (omega arith)) (λ e l. region j i m OUT (omega arith) k e)
-            ∙ u .all-out k p
-            ∙ sym (column j i m k SENDS (omega arith) (omega arith));
+            ∙ u .all-out k p ∙ sym (sends k);
         heard =
             u .heard
             ∙ sym
@@ -191,31 +228,6 @@ module _ (sys : System) (m : Mem) (t : Tally) (j i : ℕ) (inv : Inv sys (record
             column j i m k OUTREAD (omega arith) (omega arith))
             (λ k e p l. region j i m OUT (omega arith) k e));
       }
-    where
-      cursors : (l k : ℕ) → l < sys .workers → k < sys .workers → takenM j i m CURSORS l k ≤ m WORKERS l SENDS
-      cursors l k p q =
-          elim (ℕ-discrete k i) [
-            | yes e ↦ elim (ℕ-discrete l j) [
-              | yes f ↦
-                  omega (
-                    arith,
-                    ap (takenM j i m CURSORS l) e,
-                    ap (λ x. takenM j i m CURSORS x i) f,
-                    ap (λ x. m WORKERS x SENDS) f,
-                    new-cursor j i m,
-                  )
-              | no n ↦ omega (arith, old-cursor j i m l k (λ x y. n x), inv .totals .cursor l k p q)
-            ]
-            | no n ↦ omega (arith, old-cursor j i m l k (λ x y. n y), inv .totals .cursor l k p q)
-          ]
-
-      bounds : (k : ℕ)
-          → sumBelow (sys .workers) (λ l. m BOUNDS l (takenM j i m CURSORS l k))
-          ≡ sumBelow (sys .workers) (λ l. takenM j i m BOUNDS l (takenM j i m CURSORS l k))
-      bounds k =
-          sum-ext (sys .workers) (λ l. m BOUNDS l (takenM j i m CURSORS l k))
-          (λ l. takenM j i m BOUNDS l (takenM j i m CURSORS l k)) (λ l q.
-          sym (region j i m BOUNDS (omega arith) l (takenM j i m CURSORS l k)))
 
   -- a reader has not replied at its new count
   answered : Answered (takenM j i m) t i

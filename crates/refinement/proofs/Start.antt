@@ -17,7 +17,7 @@ use Rattle.index.proofs.Pairing.{paired}
 use Rattle.refinement.proofs.Loading.{Blank, load-refines}
 use Rattle.index.specs.Index.{Indexed, indexM}
 use Rattle.refinement.specs.Inv.{Small, Inv}
-use Rattle.cells.specs.Layout.{HEADS, BEHIND}
+use Rattle.cells.specs.Layout.{HEADS, FIRST, BEHIND}
 use Rattle.loading.proofs.Kept.{load-kept}
 use Rattle.cells.specs.Memory.{clearedM, Mem}
 use Rattle.loading.specs.Load.{loadM}
@@ -45,7 +45,8 @@ module _ (b : List ℕ) (sound : planFault b ≡ none) where
     cleared-low r i j h = cond-true 0 (m r i j) (lt-ltb r BEHIND h)
 
     ground-indexed : Indexed b ground
-    ground-indexed = indexed b sound (clearedM m) (λ x y. cleared-low HEADS x y (omega arith))
+    ground-indexed =
+        indexed b sound (clearedM m) (λ x y. cleared-low HEADS x y (omega arith)) (λ i y. cleared-low FIRST i y (omega arith))
 
     blank : Blank ground
     blank r i j h = index-keeps b (clearedM m) r (inl h) i j ∙ cleared-low r i j (omega arith)

@@ -26,7 +26,7 @@ ghost use Rattle.format.specs.Format.{variableCount};
 ghost use Rattle.plan.specs.WellFormed.{sizeOf};
 
 // The row of the values in a variable's domain.
-pub fn domain_row(b: &[u8], cells: &[u16], x: usize) -> usize
+fn domain_row(b: &[u8], cells: &[u16], x: usize) -> usize
     requires { ⌜ Ready (now b) (now cells) × (x < variableCount (now b)) ⌝ }
     ensures { λ r. ⌜ (r ≡ rowOf (sizeOf (planOf (now (b .entry))) x) (λ v. eqb (memOf (now (cells .entry)) DOMAIN x v) LISTED)) × (r < 65536) ⌝ }
 {
@@ -34,7 +34,10 @@ pub fn domain_row(b: &[u8], cells: &[u16], x: usize) -> usize
     let mut row = 0;
     let mut v = 0;
     while v < values {
-        row += row_if(layout::get(cells, layout::DOMAIN, x, v) == 65535, v);
+        row += row_if(
+            layout::get(cells, layout::DOMAIN, x, v) == layout::LISTED,
+            v,
+        );
         v += 1;
     }
     row
@@ -54,7 +57,7 @@ pub fn write_lists(b: &[u8], cells: &[u16], lists: &mut [u16])
 }
 
 // One more than the lowest variable whose domain is empty, 0 for none.
-pub fn lowest_empty(b: &[u8], cells: &[u16]) -> usize
+fn lowest_empty(b: &[u8], cells: &[u16]) -> usize
     requires { ⌜ Ready (now b) (now cells) ⌝ }
     ensures { λ r. ⌜ ((t : Tally) → r ≡ lowestEmpty (systemOf (planOf (now (b .entry)))) (view (systemOf (planOf (now (b .entry)))) (memOf (now (cells .entry))) t)) × (r ≤ 32) ⌝ }
 {

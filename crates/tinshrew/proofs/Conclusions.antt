@@ -14,12 +14,13 @@ use Rattle.base.proofs.Row.{row-bit}
 use Rattle.base.specs.Choice.{firstOf, allOf}
 use Rattle.base.specs.Row.{bit, rowOf}
 use Rattle.disac4.proofs.Demands.{demand2, demand3, round-closes-plan}
-use Rattle.disac4.proofs.Outcome.{turnRun-declined, roundRun-declined, turnRun-reported, roundRun-reported}
+use Rattle.disac4.proofs.Outcome.{Room, turnRun-declined, roundRun-declined, turnRun-reported, roundRun-reported}
 use Rattle.disac4.specs.Demands.{closedAfter, Demand2, Demand3, RoundCloses}
-use Rattle.disac4.specs.Outcome.{Outcome, Gives, refused, unlessFault, bufferFault, inputFault, systemAt, turnRun, roundRun, Untouched, Written}
+use Rattle.disac4.specs.Outcome.{Outcome, Gives, refused, unlessFault, bufferFault, inputFault, listNeed, systemAt, turnRun, roundRun, Untouched, Written}
 use Rattle.disac4.specs.Report.{final, listCells, lowestEmpty, statusOf, reportOf}
 use Rattle.disac4.specs.Round.{roundRunTurns}
-use Rattle.disac4.specs.System.{systemOf}
+use Rattle.disac4.specs.State.{State}
+use Rattle.disac4.specs.System.{System, systemOf}
 use Rattle.disac4.specs.Turn.{Turn, allowed, turnsOf, turnListFits, turnFault}
 use Rattle.disac4.specs.declared.Answer.{Answer}
 use Rattle.disac4.specs.declared.Answer.the-variants.{Reported, Declined}
@@ -31,11 +32,14 @@ use Rattle.network.proofs.Largest.{largest-consistent}
 use Rattle.network.proofs.Loaded.{loaded-variable, loaded-value}
 use Rattle.network.specs.Consistency.{Within, Largest}
 use Rattle.network.specs.Network.{Domains, loaded}
+use Rattle.plan.proofs.WellFormed.{read-well-formed}
 use Rattle.plan.specs.Check.{_orElse_, firstFault, faultAt}
 use Rattle.plan.specs.Decode.{planFault, planOf, decode, decodedAs, accepted}
+use Rattle.plan.specs.Network.{networkOf}
 use Rattle.format.specs.Format.{workerCount}
 use Rattle.plan.specs.declared.Decline.{Decline}
 use Rattle.plan.specs.declared.Fault.the-variants.{BadTurnList}
+use Rattle.tinshrew.proofs.Outcomes.{long-enough}
 use Rattle.tinshrew.specs.Conclusions.{listedIn, Concluded}
 
 -- ---- from a report to what was checked
@@ -72,6 +76,21 @@ list-allowed b ts e =
     each-all (allowed (workerCount b)) (turnsOf ts)
     (each-gather (λ t. allowed (workerCount b) t ≡ true) (length ts / 2) _ (λ i h. (is-allowed (workerCount b) ts e i h, tt)))
 
+-- a run writes a list cell for each variable
+list-cell-each : (sys : System) (st : State) → length (listCells sys st) ≡ sys .net .variables
+unfolding listCells
+list-cell-each sys st = length-list-below (sys .net .variables) _
+
+-- buffers that pass have room for what a run on an accepted plan writes
+has-room : (b work lists : List ℕ) → bufferFault work lists ≡ none → planFault b ≡ none → (ts : List Turn)
+    → Room work lists (systemAt b) ts
+unfolding systemAt systemOf networkOf listNeed
+has-room b work lists fit sound ts =
+    let long = long-enough work lists fit in (
+      long .0,
+      omega (arith, long .1, list-cell-each (systemAt b) (final (systemAt b) ts), read-well-formed b sound .variables-high),
+    )
+
 -- ---- the status
 
 -- what is not open is closed
@@ -100,7 +119,7 @@ module _ (b : List ℕ) (ts : List Turn) (lists′ : List ℕ) where
       let low = loaded-variable net x v h in
       rw h
       (ap (λ (c : ℕ). bit c v)
-      (cells x (omega (arith, low, length-list-below (net .variables) row)) ∙ getD-list-below (net .variables) row 0 x low)
+      (cells x (omega (arith, low, list-cell-each (systemAt b) (final (systemAt b) ts))) ∙ getD-list-below (net .variables) row 0 x low)
       ∙ row-bit (net .size x) (final (systemAt b) ts .domain x) v (loaded-value net x v h))
 
 -- a run of allowed turns on an accepted plan, from its report and its cells
@@ -157,7 +176,7 @@ turn-run b ts work lists work′ lists′ r g =
     let checks = neither (bufferFault work lists) (inputFault b ts) (not-declined _ work lists _ r (sym (g .answer))) in
     let inputs = inputs-pass b ts (checks .1) in
     concluded b (inputs .0) (turnsOf ts) (list-allowed b ts (inputs .1)) work lists work′ lists′ _ r g
-    (turnRun-reported b ts work lists r (sym (g .answer)))
+    (turnRun-reported b ts work lists (has-room b work lists (checks .0) (inputs .0) (turnsOf ts)) r (sym (g .answer)))
 
 -- a declined turn run changed neither buffer
 pub turn-run-declined : (b ts work lists work′ lists′ : List ℕ) (d : Decline)
@@ -167,26 +186,27 @@ turn-run-declined b ts work lists work′ lists′ d g =
 
 -- ---- the round run
 
--- the plan of a reported round run was accepted
-round-sound : (b work lists : List ℕ) (r : Report) → roundRun b work lists .answer ≡ Reported r → planFault b ≡ none
+-- the buffers of a reported round run passed, and its plan was accepted
+round-passes : (b work lists : List ℕ) (r : Report) → roundRun b work lists .answer ≡ Reported r
+    → (bufferFault work lists ≡ none) × (planFault b ≡ none)
 unfolding roundRun
-round-sound b work lists r e =
-    neither (bufferFault work lists) (planFault b) (not-declined _ work lists _ r e) .1
+round-passes b work lists r e = neither (bufferFault work lists) (planFault b) (not-declined _ work lists _ r e)
 
 -- a reported round run: its turns are a list of allowed turns, and the plan is closed after them
 pub round-run-closes : (b work lists work′ lists′ : List ℕ) (r : Report)
     → Gives (roundRun b work lists) (Reported r) work′ lists′ → RoundCloses (systemAt b)
 unfolding systemAt
 round-run-closes b work lists work′ lists′ r g =
-    round-closes-plan b (planOf b) (decoded b (round-sound b work lists r (sym (g .answer))))
+    round-closes-plan b (planOf b) (decoded b (round-passes b work lists r (sym (g .answer)) .1))
 
 -- and all that holds of such a list
 pub round-run : (b work lists work′ lists′ : List ℕ) (r : Report) → Gives (roundRun b work lists) (Reported r) work′ lists′
     → Concluded b (roundRunTurns (systemAt b)) work lists work′ lists′ r
 round-run b work lists work′ lists′ r g =
-    concluded b (round-sound b work lists r (sym (g .answer))) (roundRunTurns (systemAt b))
-    (round-run-closes b work lists work′ lists′ r g .all-allowed) work lists work′ lists′ _ r g
-    (roundRun-reported b work lists r (sym (g .answer)))
+    let checks = round-passes b work lists r (sym (g .answer)) in
+    let turns = roundRunTurns (systemAt b) in
+    concluded b (checks .1) turns (round-run-closes b work lists work′ lists′ r g .all-allowed) work lists work′ lists′ _ r g
+    (roundRun-reported b work lists (has-room b work lists (checks .0) (checks .1) turns) r (sym (g .answer)))
 
 -- its status is never open
 pub round-run-not-open : (b work lists work′ lists′ : List ℕ) (r : Report)

@@ -1,7 +1,7 @@
 -- From an answer to its numbers, and back.
 use Prim.Native.Nat.{ℕ}
 use mathlib.Core.List.{List}
-use mathlib.Core.Path.{_≡_, refl, sym, _∙_, ap}
+use mathlib.Core.Path.{_≡_, refl, _∙_, ap, subst}
 use native.Mathlib.Omega.{arith}
 use lib.ListN.{getD}
 use Rattle.disac4.specs.Outcome.{Outcome, Gives}
@@ -18,15 +18,14 @@ pub as-numbers : (o : Outcome) (r : Answer) (out work lists : List ℕ) → out 
     → GivesNumbers o out work lists
 as-numbers o r out work lists e g = record {
   numbers = e ∙ ap answerNumbers (g .answer);
-  work-cells = g .work-cells;
-  list-cells = g .list-cells;
+  gives = subst (λ (a : Answer). Gives o a work lists) (g .answer) g;
 }
 
 module _ (o : Outcome) (out work lists : List ℕ) (g : GivesNumbers o out work lists) where
   -- what the call gave, once its answer is known
   given-as : (a : Answer) → o .answer ≡ a → Gives o a work lists × (out ≡ answerNumbers a)
   given-as a e =
-      (record { answer = sym e; work-cells = g .work-cells; list-cells = g .list-cells }, g .numbers ∙ ap answerNumbers e)
+      (subst (λ (a : Answer). Gives o a work lists) e (g .gives), g .numbers ∙ ap answerNumbers e)
 
   abbrev first-number : (a : Answer) → o .answer ≡ a → getD out 0 0 ≡ getD (answerNumbers a) 0 0
   first-number a e = ap (λ (l : List ℕ). getD l 0 0) (given-as a e .1)

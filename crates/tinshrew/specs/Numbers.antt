@@ -2,11 +2,10 @@
 use Prim.Native.Nat.{ℕ}
 use mathlib.Core.List.{List}
 use mathlib.Core.Path.{_≡_}
-use Rattle.disac4.specs.Outcome.{Outcome}
+use Rattle.disac4.specs.Outcome.{Outcome, Gives}
 use Rattle.numbers.specs.Numbers.{answerNumbers}
 
 -- `Gives`, with the answer as its numbers
 pub record GivesNumbers (o : Outcome) (out work lists : List ℕ) : Type 0 where
   pub numbers : out ≡ answerNumbers (o .answer)
-  pub work-cells : work ≡ o .work
-  pub list-cells : lists ≡ o .lists
+  pub gives : Gives o (o .answer) work lists

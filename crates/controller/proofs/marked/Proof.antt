@@ -16,14 +16,12 @@ cast-t8 c = search needs
 add-t7 : tie.Need-add-t7
 add-t7 c = search needs
 
-shl-t9 : tie.Need-shl-t9
-shl-t9 c = search needs
+power-requires : tie.Need-power-requires
+power-requires c κs = search needs
 
 returns : tie.Need-returns
 returns c =
-    let start = c .before .before .before .before in
-    marked-as (start .args .p) (start .args .i) (c .with-mark .result) (start .args .t) (c .with-mark .ensures .0)
-    (start .pre .2)
+    marked-as _ _ _ _ _ (c .before .with-mark .ensures .0) (c .power .ensures)
 
 pub marked-spec : {M : Type 1} → statement M
-marked-spec = tie.close (tie.spec cast-with-mark with-mark-requires cast-t8 add-t7 shl-t9 returns)
+marked-spec = tie.close (tie.spec cast-with-mark with-mark-requires cast-t8 add-t7 power-requires returns)

@@ -9,38 +9,27 @@ use lib.ListN.{length}
 use Rattle.cells.specs.Layout.{PLACES}
 use Rattle.cells.specs.Memory.{Mem, memOf}
 use Rattle.format.specs.Format.{variableCount}
-use Rattle.index.proofs.Own.{none-keeps, leads-same, located-kept, own-start, own-more}
+use Rattle.index.proofs.Own.{leads-same, located-kept, own-start, own-more}
 use Rattle.index.proofs.Places.{few-sections}
 use Rattle.indexing.proofs.index_own.Statement.{statement}
 use Rattle.indexing.proofs.index_own.Tie as tie
-use Rattle.index.specs.Index.{Located, noneM, ownM}
+use Rattle.index.specs.Index.{Located, ownM}
 
 abbrev Inv-loop : tie.InvT-loop
 Inv-loop b cells₀ n x₀ cells x =
     (x ≤ variableCount b) × (n ≡ variableCount b) × Located b cells × (length cells ≡ length cells₀)
-    × ((m : Mem) → memOf cells₀ ≡ noneM 256 m → memOf cells ≡ ownM b (variableCount b - x) m)
+    × (memOf cells ≡ ownM b (variableCount b - x) (memOf cells₀))
 
 abbrev μ-loop : tie.MeasureT-loop
 μ-loop b cells₀ n x₀ cells x = x
-
-index-none-requires : tie.Need-index-none-requires Inv-loop μ-loop
-index-none-requires c κs = c .before .before .before .pre .long
 
 variable-count-requires : tie.Need-variable-count-requires Inv-loop μ-loop
 variable-count-requires c κs = tt
 
 loop-holds : tie.Need-loop-holds Inv-loop μ-loop
 loop-holds c =
-    let z = c .before .before .before in
-    let s = z .before .before .before .before in
-    let b = now (s .args .b) in (
-      omega (arith, c .variable-count .ensures .0),
-      c .variable-count .ensures .0,
-      located-kept b (now (s .args .cells)) (z .index-none .last .0) _ (s .pre) (z .index-none .kept .0)
-          (z .index-none .ensures) (λ k. none-keeps _ 256 PLACES 0 k (λ e. omega arith)),
-      refl,
-      λ m e. own-start b (c .variable-count .result) m _ (c .variable-count .ensures .0) e,
-    )
+    let count = c .variable-count .ensures .0 in
+    (omega (arith, count), count, c .before .before .before .pre, refl, own-start _ _ _ count)
 
 sub-x : tie.Need-sub-x Inv-loop μ-loop
 sub-x c = omega (arith, c .loop-test .taken)
@@ -58,8 +47,14 @@ module _ (c : tie.After-owner Inv-loop μ-loop) where
   abbrev l : tie.At-loop Inv-loop μ-loop
   l = c .before .before .before .before
 
+  abbrev s : tie.Start Inv-loop μ-loop
+  s = l .before .before .before .before
+
   abbrev b : List ℕ
-  b = now (l .before .before .before .before .before .before .before .before .args .b)
+  b = now (s .args .b)
+
+  abbrev m : Mem
+  m = memOf (now (s .args .cells))
 
   listed : l .loop .x - 1 < variableCount b
   listed = omega (arith, l .loop .inv .0, c .before .before .before .loop-test .taken)
@@ -86,25 +81,20 @@ loop-again c =
       located-kept (b o) (l o .loop .cells) (p .leads .last .0) _ (inv .2) (p .leads .kept .0) (p .leads .ensures)
           (λ k. leads-same _ _ _ _ PLACES 0 k (λ r e h. omega arith) (λ r e h. omega arith)),
       p .leads .kept .0 ∙ inv .3,
-      λ m e.
-          own-more (b o) (x - 1) (o .owner .result) _ m _ _ (listed o) (inv .1) (o .owner .ensures .0)
-          (inv .4 m e ∙ ap (λ (k : ℕ). ownM (b o) k m) back) (p .leads .ensures),
+      own-more (b o) (x - 1) (o .owner .result) _ _ _ _ (listed o) (inv .1) (o .owner .ensures .0)
+          (inv .4 ∙ ap (λ (k : ℕ). ownM (b o) k (m o)) back) (p .leads .ensures),
     )
 
 same-length : tie.Need-same-length Inv-loop μ-loop
-same-length c =
-    let l = c .before in
-    l .loop .inv .3 ∙ l .before .before .before .before .index-none .kept .0
+same-length c = c .before .loop .inv .3
 
 returns : tie.Need-returns Inv-loop μ-loop
 returns c =
     let l = c .before in
-    let z = l .before .before .before .before in
-    let a = z .before .before .before .before .args in
+    let a = l .before .before .before .before .args in
     let b = now (a .b) in
     let all : variableCount b - l .loop .x ≡ variableCount b = omega (arith, c .loop-test .left) in
-    l .loop .inv .4 (memOf (now (a .cells))) (z .index-none .ensures)
-    ∙ ap (λ (k : ℕ). ownM b k (memOf (now (a .cells)))) all
+    l .loop .inv .4 ∙ ap (λ (k : ℕ). ownM b k (memOf (now (a .cells)))) all
 
 pub index-own-spec : {M : Type 1} → statement M
 index-own-spec =
@@ -112,7 +102,6 @@ index-own-spec =
     (tie.spec
     Inv-loop
     μ-loop
-    index-none-requires
     variable-count-requires
     loop-holds
     sub-x

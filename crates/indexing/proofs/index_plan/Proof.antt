@@ -43,7 +43,7 @@ index-own-requires c κs =
     let l = c .before .before .before in
     let p = l .before .before .before .before in
     located-kept (b p) (p .index-places .last .1 .0) (l .index-chains .last .1 .0) _ (written p) (l .index-chains .kept .1 .0)
-    (l .index-chains .ensures) (λ k. chains-keep (b p) (constraintCount (b p)) _ 0 k)
+    (l .index-chains .ensures) (λ k. chains-keep (b p) (constraintCount (b p)) _ PLACES 0 k (λ e. omega arith) (λ e. omega arith))
 
 same-length : tie.Need-same-length
 same-length c = search needs
