@@ -22,7 +22,6 @@ use Rattle.plan.proofs.Parts.{size-read}
 use Rattle.plan.specs.Decode.{planFault, planOf}
 use Rattle.plan.specs.Network.{shareConstraint, networkOf}
 use Rattle.plan.specs.Plan.{Plan}
-use Rattle.plan.specs.WellFormed.{sizeOf}
 use Rattle.cells.proofs.Stores.{one-more}
 use Rattle.cells.specs.Layout.{COUNTERS}
 use Rattle.cells.specs.Memory.{Mem, store}
@@ -34,7 +33,7 @@ use Rattle.counting.specs.Count.{countPairM, countAgainstM, countBothM, 
 -- a count is that of at most 16 values
 pub count-low : (b : List ℕ) → planFault b ≡ none → (x v y : ℕ) → shareConstraint (planOf b) x y ≡ true
     → supportCount (networkOf (planOf b)) x v y ≤ 16
-unfolding networkOf sizeOf
+unfolding networkOf
 count-low b sound x v y e =
     let h = linked-inside b sound x y e .1 in
     omega (

@@ -1,3 +1,4 @@
+pub mod Allowed
 pub mod Answerable
 pub mod Bound
 pub mod ByTreat

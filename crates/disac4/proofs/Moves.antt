@@ -1,23 +1,22 @@
 -- What a turn that is not idle does: one case for each action, with what held before it, the state after it and its events.
 -- Every invariant of the protocol is proved by going through these cases.
 use Prim.Native.Nat.{ℕ, _≤_}
-use mathlib.Core.Bool.{Bool, true, false, cond, _&&_, _||_, not}
+use mathlib.Core.Bool.{Bool, true, false, cond, _||_, not}
 use mathlib.Core.List.{List, [], _∷_, _++_, append-assoc, append-nil}
-use mathlib.Core.Logic.{⊎-elim}
 use mathlib.Core.Option.{Option, none, some}
 use mathlib.Core.Path.{_≡_, refl, sym, ap, subst}
 use native.Mathlib.Omega.{arith}
-use borrow.Author.Tests.{leb-true, eqb-true, eqb-false, ne-eqb, lt-leb, not-true, not-false}
+use borrow.Author.Tests.{eqb-true, eqb-false, ne-eqb, le-leb, lt-leb, not-false}
 use lib.Dec.{leb, eqb}
-use Rattle.base.proofs.Bools.{clash, and-left, and-right, or-cases, or-false-left, or-false-right}
-use Rattle.base.proofs.Choice.{none≢some, between-low, between-high}
-use Rattle.base.specs.Choice.{between}
+use Rattle.base.proofs.Bools.{or-false-left, or-false-right}
+use Rattle.base.proofs.Choice.{none≢some, by-test}
 use Rattle.network.specs.Network.{Label}
+use Rattle.disac4.proofs.Allowed.{reads-other, reads-worker, worker-does, controller-does}
 use Rattle.disac4.specs.Action.{isEmpty, afterTreat, treat, treatFrom, afterSend, send, afterList, afterPoll, afterDrop, readFrom, readWorker, afterAnswer, ready, answerTo, answer, afterAsk, ask, afterCount, afterMark, current, controllerFrom, readController}
 use Rattle.disac4.specs.Event.{Event, sent, taken, treated, eventsAt, events, treatEvent, readEvent}
 use Rattle.disac4.specs.State.{State, Message, list, poll, reply, Poll}
 use Rattle.disac4.specs.System.{System, Worker}
-use Rattle.disac4.specs.Turn.{Turn, turn, treatNumber, sendNumber, answerNumber, pollNumber, allowed, workerStep, controllerStep, step, after, play, isSome, changes}
+use Rattle.disac4.specs.Turn.{Turn, turn, treatNumber, sendNumber, answerNumber, pollNumber, workerMay, controllerMay, allowed, workerStep, controllerStep, step, after, play, isSome, changes}
 use Rattle.disac4.specs.declared.Timestamp.{Timestamp}
 
 -- the cases, by the state and the events that they lead to
@@ -109,75 +108,44 @@ module _ (sys : System) (st : State) where
       (cond (leb d (sys .workers)) (readEvent k d (st .channel d k)) []))
 
   module _ (few : sys .workers ≤ 8) where
-    worker-moves : (k d : ℕ) → Worker sys k
-        → ((leb d (sys .workers) && not (eqb d k)) || between treatNumber answerNumber d) ≡ true
-        → (s : State) → workerStep sys k d st ≡ some s → To (workerEvents k d) s
-    unfolding workerStep treat answer readWorker
-    worker-moves k d w ok s e = at-treat (eqb d treatNumber) refl e
-      where
-        Goal : Type 0
-        Goal = To (workerEvents k d) s
+    -- a worker that does none of the three other actions reads
+    other-moves : (k d : ℕ) → Worker sys k → workerMay (sys .workers) k d ≡ true → eqb d treatNumber ≡ false
+        → eqb d sendNumber ≡ false → eqb d answerNumber ≡ false → (s : State) → readWorker d k st ≡ some s
+        → To (workerEvents k d) s
+    unfolding readWorker
+    other-moves k d w ok p q r s e =
+        let other = reads-other (sys .workers) k d ok p q r in
+        rw (p, q, le-leb d (sys .workers) (other .0)) (read-moves d k w (other .0) (other .1) (st .channel d k) refl s e)
 
-        reading : eqb d treatNumber ≡ false → eqb d sendNumber ≡ false → eqb d answerNumber ≡ false
-            → readWorker d k st ≡ some s → Goal
-        reading p q r f =
-            ⊎-elim
-            (λ x.
-            let below : d ≤ sys .workers = leb-true d (sys .workers) (and-left (leb d (sys .workers)) _ x) in
-            let other : d ≡ k → ⊥ = eqb-false d k (not-true (eqb d k) (and-right (leb d (sys .workers)) _ x)) in
-            rw (p, q, and-left (leb d (sys .workers)) _ x) (read-moves d k w below other (st .channel d k) refl s f))
-            (λ x.
-            absurd
-            (omega (
-              arith,
-              between-low treatNumber answerNumber d x,
-              between-high treatNumber answerNumber d x,
-              eqb-false d treatNumber p,
-              eqb-false d sendNumber q,
-              eqb-false d answerNumber r,
-            )))
-            (or-cases _ _ ok)
+    -- what a worker does, by the number of its action
+    worker-moves : (k d : ℕ) → Worker sys k → workerMay (sys .workers) k d ≡ true → (s : State)
+        → workerStep sys k d st ≡ some s → To (workerEvents k d) s
+    unfolding workerStep treat answer
+    worker-moves k d w ok s e =
+        by-test (eqb d treatNumber) e
+        (λ p f.
+        rw (ne-eqb d sendNumber (λ x. omega (arith, eqb-true d treatNumber p)), p)
+        (treat-moves k w (st .workList k) refl s f))
+        (λ p e₁.
+        by-test (eqb d sendNumber) e₁ (λ q f. rw q (send-moves k w s f))
+        (λ q e₂.
+        by-test (eqb d answerNumber) e₂
+        (λ r f.
+        rw (p, q, lt-leb d (sys .workers) (omega (arith, eqb-true d answerNumber r)))
+        (answer-moves k w (st .held k) refl s f))
+        (λ r f. other-moves k d w ok p q r s f)))
 
-        at-answer : (b : Bool) → eqb d answerNumber ≡ b → eqb d treatNumber ≡ false → eqb d sendNumber ≡ false
-            → cond b (answer k st) (readWorker d k st) ≡ some s → Goal
-        at-answer true r p q f =
-            rw (p, q, lt-leb d (sys .workers) (omega (arith, eqb-true d answerNumber r)))
-            (answer-moves k w (st .held k) refl s f)
-        at-answer false r p q f = reading p q r f
-
-        at-send : (b : Bool) → eqb d sendNumber ≡ b → eqb d treatNumber ≡ false
-            → cond b (send sys k st) (cond (eqb d answerNumber) (answer k st) (readWorker d k st)) ≡ some s → Goal
-        at-send true q p f = rw q (send-moves k w s f)
-        at-send false q p f = at-answer (eqb d answerNumber) refl p q f
-
-        at-treat : (b : Bool) → eqb d treatNumber ≡ b
-            → cond b (treat sys k st)
-            (cond (eqb d sendNumber) (send sys k st) (cond (eqb d answerNumber) (answer k st) (readWorker d k st)))
-            ≡ some s
-            → Goal
-        at-treat true p f =
-            rw (ne-eqb d sendNumber (λ x. omega (arith, eqb-true d treatNumber p)), p)
-            (treat-moves k w (st .workList k) refl s f)
-        at-treat false p f = at-send (eqb d sendNumber) refl p f
-
-    controller-moves : (d : ℕ) → (between 1 (sys .workers) d || eqb d pollNumber) ≡ true → (s : State)
+    -- what the controller does
+    controller-moves : (d : ℕ) → controllerMay (sys .workers) d ≡ true → (s : State)
         → controllerStep sys d st ≡ some s → To (cond (leb d (sys .workers)) (readEvent 0 d (st .channel d 0)) []) s
     unfolding controllerStep readController
-    controller-moves d ok s e = at-poll (eqb d pollNumber) refl e
-      where
-        at-poll : (b : Bool) → eqb d pollNumber ≡ b → cond b (ask sys st) (readController sys d st) ≡ some s
-            → To (cond (leb d (sys .workers)) (readEvent 0 d (st .channel d 0)) []) s
-        at-poll true p f =
-            rw (lt-leb d (sys .workers) (omega (arith, eqb-true d pollNumber p))) (ask-moves s f)
-        at-poll false p f =
-            ⊎-elim
-            (λ x.
-            rw (and-right (leb 1 d) (leb d (sys .workers)) x)
-            (tally-moves d
-            (record { above = between-low 1 (sys .workers) d x; within = between-high 1 (sys .workers) d x })
-            (st .channel d 0) refl s f))
-            (λ x. clash x p)
-            (or-cases _ _ ok)
+    controller-moves d ok s e =
+        by-test (eqb d pollNumber) e
+        (λ p f. rw (lt-leb d (sys .workers) (omega (arith, eqb-true d pollNumber p))) (ask-moves s f))
+        (λ p f.
+        let from = reads-worker (sys .workers) d ok p in
+        rw (le-leb d (sys .workers) (from .1))
+        (tally-moves d (record { above = from .0; within = from .1 }) (st .channel d 0) refl s f))
 
     -- the events of a turn that is not idle, by its actor
     events-of-worker : (t : Turn) → changes sys st t ≡ true → eqb (t .actor) 0 ≡ false
@@ -190,26 +158,15 @@ module _ (sys : System) (st : State) where
     unfolding eventsAt
     events-of-controller d c = rw c
 
-    allowed-worker : (t : Turn) → eqb (t .actor) 0 ≡ false → allowed (sys .workers) t ≡ true
-        → (t .actor ≤ sys .workers)
-        × (((leb (t .action) (sys .workers) && not (eqb (t .action) (t .actor)))
-        || between treatNumber answerNumber (t .action)) ≡ true)
-    unfolding allowed
-    allowed-worker t p ok =
-        let r = rw p at ok in (
-          leb-true (t .actor) (sys .workers) (and-left (leb (t .actor) (sys .workers)) _ r),
-          and-right (leb (t .actor) (sys .workers)) _ r,
-        )
-
     controller-turn : (d : ℕ) (s : State) → allowed (sys .workers) (turn 0 d) ≡ true → changes sys st (turn 0 d) ≡ true
         → controllerStep sys d st ≡ some s → Moves sys st s (eventsAt sys st (turn 0 d))
-    unfolding allowed
-    controller-turn d s ok c f = rw (events-of-controller d c) (controller-moves d ok s f)
+    controller-turn d s ok c f =
+        rw (events-of-controller d c) (controller-moves d (controller-does (sys .workers) (turn 0 d) ok refl) s f)
 
     worker-turn : (t : Turn) (s : State) → eqb (t .actor) 0 ≡ false → allowed (sys .workers) t ≡ true
         → changes sys st t ≡ true → workerStep sys (t .actor) (t .action) st ≡ some s → Moves sys st s (eventsAt sys st t)
     worker-turn t s p ok c f =
-        let a = allowed-worker t p ok in
+        let a = worker-does (sys .workers) t ok p in
         rw (events-of-worker t c p)
         (worker-moves (t .actor) (t .action)
         (record { above = omega (arith, eqb-false (t .actor) 0 p); within = a .0 })

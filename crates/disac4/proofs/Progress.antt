@@ -1,21 +1,22 @@
 -- Progress: while the plan is open, some allowed turn changes something.
 use Prim.Native.Nat.{ℕ, zero, suc, _<_, _≤_}
-use mathlib.Core.Bool.{Bool, true, false, cond, _&&_, _||_, not, false≢true}
+use mathlib.Core.Bool.{Bool, true, false, cond, _&&_, false≢true}
 use mathlib.Core.List.{List, [], _∷_}
 use mathlib.Core.Logic.{⊎-elim}
 use mathlib.Core.Option.{Option, none, some}
 use mathlib.Core.Path.{_≡_, refl, sym, _∙_, ap, subst}
 use native.Mathlib.Decide.{ℕ-discrete}
 use native.Mathlib.Omega.{arith}
-use borrow.Author.Tests.{leb-true, eqb-true, le-leb, eq-eqb, ne-eqb}
-use lib.Dec.{leb, eqb}
+use borrow.Author.Tests.{eqb-true, eq-eqb, ne-eqb}
+use lib.Dec.{eqb}
 use Rattle.base.proofs.Below.{some-below, none-below, every-below}
-use Rattle.base.proofs.Bools.{decided, clash, and-left, and-right, and-intro, and-false, or-cases, or-left, or-right, or-false, not-of, not-of-true}
+use Rattle.base.proofs.Bools.{decided, clash, and-left, and-right, and-intro, and-false, or-false, not-of-true}
 use Rattle.base.proofs.Choice.{cond-false, between-high}
 use Rattle.base.proofs.Sums.{sum-zero}
 use Rattle.base.proofs.Weight.{weigh}
 use Rattle.base.specs.Below.{anyBelow}
 use Rattle.base.specs.Choice.{between}
+use Rattle.disac4.proofs.Allowed.{worker-cases, controller-cases, worker-does, controller-does, may-read, may-work, may-hear, may-poll}
 use Rattle.disac4.proofs.Channels.{into}
 use Rattle.disac4.proofs.Empty.{empty}
 use Rattle.disac4.proofs.Expected.{Answered, has-mark, has-replied, will-hold}
@@ -56,21 +57,14 @@ module _ (sys : System) (st : State) (few : sys .workers ≤ 8) (running : st .c
   unfolding changes step
   step-idle t ok = sym (ap isSome (cond-false none _ (or-false running (not-of-true ok)))) ∙ stuck t ok
 
-  worker-idle : (k d : ℕ) → Worker sys k
-      → ((leb d (sys .workers) && not (eqb d k)) || between treatNumber answerNumber d) ≡ true
-      → isSome (workerStep sys k d st) ≡ false
-  unfolding allowed
-  worker-idle k d w ok =
-      let other : eqb k 0 ≡ false = ne-eqb k 0 (λ e. not-controller w (sym e)) in
-      rw other at (step-idle (turn k d) (rw other (and-intro (le-leb k (sys .workers) (w .within)) ok)))
+  worker-idle : (k d : ℕ) → Worker sys k → allowed (sys .workers) (turn k d) ≡ true → isSome (workerStep sys k d st) ≡ false
+  worker-idle k d w ok = rw (ne-eqb k 0 (λ e. not-controller w (sym e))) at (step-idle (turn k d) ok)
 
-  controller-idle : (d : ℕ) → (between 1 (sys .workers) d || eqb d pollNumber) ≡ true
-      → isSome (controllerStep sys d st) ≡ false
-  unfolding allowed
+  controller-idle : (d : ℕ) → allowed (sys .workers) (turn 0 d) ≡ true → isSome (controllerStep sys d st) ≡ false
   controller-idle d ok = step-idle (turn 0 d) ok
 
   own-idle : (k d : ℕ) → Worker sys k → between treatNumber answerNumber d ≡ true → isSome (workerStep sys k d st) ≡ false
-  own-idle k d w b = worker-idle k d w (or-right (leb d (sys .workers) && not (eqb d k)) b)
+  own-idle k d w b = worker-idle k d w (may-work (sys .workers) k d (w .above) (w .within) b)
 
   -- so nothing is left to treat, to send or to read
   nothing-to-treat : (k : ℕ) → Worker sys k → st .workList k ≡ []
@@ -91,7 +85,7 @@ module _ (sys : System) (st : State) (few : sys .workers ≤ 8) (running : st .c
         ne-eqb j sendNumber (λ e. omega arith),
         ne-eqb j answerNumber (λ e. omega arith),
       )
-      at (worker-idle k j w (or-left _ (and-intro (le-leb j (sys .workers) h) (not-of (ne-eqb j k d))))))
+      at (worker-idle k j w (may-read (sys .workers) k j (w .above) (w .within) h d)))
     where
       takes : (m : Message) (l : List Message) → isSome (readFrom j k st (m ∷ l)) ≡ true
       takes (list labels) l = refl
@@ -103,7 +97,7 @@ module _ (sys : System) (st : State) (few : sys .workers ≤ 8) (running : st .c
   nothing-to-count k w =
       none-taken (controllerFrom sys k st) takes (st .channel k 0)
       (rw (ne-eqb k pollNumber (λ e. omega (arith, w .within)))
-      at (controller-idle k (or-left _ (and-intro (le-leb 1 k (w .above)) (le-leb k (sys .workers) (w .within))))))
+      at (controller-idle k (may-hear (sys .workers) k (w .above) (w .within))))
     where
       takes : (m : Message) (l : List Message) → isSome (controllerFrom sys k st (m ∷ l)) ≡ true
       takes (list labels) l = refl
@@ -114,7 +108,7 @@ module _ (sys : System) (st : State) (few : sys .workers ≤ 8) (running : st .c
   poll-open : st .controller .pollOpen ≡ true
   unfolding controllerStep ask
   poll-open =
-      none-chosen (st .controller .pollOpen) _ (controller-idle pollNumber (or-right (between 1 (sys .workers) pollNumber) refl))
+      none-chosen (st .controller .pollOpen) _ (controller-idle pollNumber (may-poll (sys .workers)))
 
   -- no worker can answer
   no-answer : (k : ℕ) (q : Poll) → Worker sys k → st .held k ≡ some q → ready k q st ≡ false
@@ -188,27 +182,22 @@ stuck-closed {sys} sound ts stuck =
 
 -- an allowed turn's actor and action are among finitely many
 allowed-bounds : (p : ℕ) (t : Turn) → p ≤ 8 → allowed p t ≡ true → (t .actor < suc p) × (t .action < 13)
-unfolding allowed
-allowed-bounds p t few ok = go (eqb (t .actor) 0) refl ok
+allowed-bounds p t few ok = ⊎-elim controller worker (decided (eqb (t .actor) 0))
   where
-    go : (b : Bool) → eqb (t .actor) 0 ≡ b
-        → cond b (between 1 p (t .action) || eqb (t .action) pollNumber)
-        (leb (t .actor) p
-        && ((leb (t .action) p && not (eqb (t .action) (t .actor))) || between treatNumber answerNumber (t .action))) ≡ true
-        → (t .actor < suc p) × (t .action < 13)
-    go true e ok = (
+    controller : eqb (t .actor) 0 ≡ true → (t .actor < suc p) × (t .action < 13)
+    controller e = (
       omega (arith, eqb-true (t .actor) 0 e),
-      ⊎-elim (λ x. omega (arith, between-high 1 p (t .action) x)) (λ x. omega (arith, eqb-true (t .action) pollNumber x))
-          (or-cases (between 1 p (t .action)) _ ok),
+      ⊎-elim (λ r. omega (arith, r)) (λ q. omega (arith, eqb-true (t .action) pollNumber q))
+          (controller-cases p (t .action) (controller-does p t ok e)),
     )
-    go false e ok = (
-      omega (arith, leb-true (t .actor) p (and-left (leb (t .actor) p) _ ok)),
-      ⊎-elim
-          (λ x. omega (arith, leb-true (t .action) p (and-left (leb (t .action) p) _ x)))
-          (λ x. omega (arith, between-high treatNumber answerNumber (t .action) x))
-          (or-cases (leb (t .action) p && not (eqb (t .action) (t .actor))) (between treatNumber answerNumber (t .action))
-          (and-right (leb (t .actor) p) _ ok)),
-    )
+
+    worker : eqb (t .actor) 0 ≡ false → (t .actor < suc p) × (t .action < 13)
+    worker n =
+        let w = worker-does p t ok n in (
+          omega (arith, w .0),
+          ⊎-elim (λ r. omega (arith, r .0)) (λ b. omega (arith, between-high treatNumber answerNumber (t .action) b))
+              (worker-cases p (t .actor) (t .action) (w .1)),
+        )
 
 -- while the plan is open, some allowed turn changes something
 pub progress : {sys : System} → Sound sys → (ts : List Turn) → play sys (load sys) ts .controller .closed ≡ false

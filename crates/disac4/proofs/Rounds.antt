@@ -1,21 +1,21 @@
 -- The round has exactly the allowed turns, so a round that changes nothing shows that no allowed turn would.
 use Prim.Native.Nat.{ℕ, zero, suc, _<_, _≤_}
-use mathlib.Core.Bool.{Bool, true, false, cond, _&&_, _||_, not}
+use mathlib.Core.Bool.{Bool, true, false, cond}
 use mathlib.Core.List.{List, [], _∷_, _++_, map, List·Memᴰ, List·Memᴰ·head, List·Memᴰ·tail, Memᴰ·append-left, Memᴰ·append-right, Memᴰ·map}
 use mathlib.Core.Logic.{⊎-elim}
-use mathlib.Core.Path.{_≡_, refl, sym, _∙_, ap}
+use mathlib.Core.Path.{_≡_, refl, ap}
 use native.Mathlib.Decide.{ℕ-discrete}
 use native.Mathlib.Nat.{not-suc-le-zero}
 use native.Mathlib.Omega.{arith}
-use borrow.Author.Tests.{leb-true, eqb-true, eqb-false, le-leb, ne-eqb, not-true}
-use lib.Dec.{leb, eqb}
-use Rattle.base.proofs.Bools.{and-left, and-right, and-intro, or-cases, or-left, or-right, not-of}
+use borrow.Author.Tests.{eqb-true, eqb-false, ne-eqb}
+use lib.Dec.{eqb}
 use Rattle.base.proofs.Choice.{between-low, between-high}
 use Rattle.base.proofs.Each.{Each, member-gather, each-append, each-gather, each-mono, each-map}
 use Rattle.base.specs.Below.{gatherBelow, listBelow}
 use Rattle.base.specs.Choice.{between}
+use Rattle.disac4.proofs.Allowed.{worker-cases, controller-cases, worker-does, controller-does, may-read, may-work, may-hear, may-poll}
 use Rattle.disac4.specs.Round.{others, workerRound, round}
-use Rattle.disac4.specs.Turn.{Turn, turn, treatNumber, sendNumber, answerNumber, pollNumber, allowed}
+use Rattle.disac4.specs.Turn.{Turn, turn, treatNumber, sendNumber, answerNumber, pollNumber, workerMay, controllerMay, allowed}
 
 -- the round's parts: what the workers do, and what the controller reads before it polls
 abbrev workerTurns : ℕ → List Turn
@@ -47,47 +47,32 @@ own-member k d e =
           ]
     ]
 
-abbrev workerMay : ℕ → ℕ → ℕ → Bool
-workerMay p k d = (leb d p && not (eqb d k)) || between treatNumber answerNumber d
-
 worker-member : (p k d : ℕ) → workerMay p k d ≡ true → List·Memᴰ (turn k d) (workerRound p k)
 unfolding workerRound
 worker-member p k d e =
-    ⊎-elim
-    (λ r. Memᴰ·append-left _ (Memᴰ·map (turn k) (others-member p k d
-    (leb-true d p (and-left (leb d p) (not (eqb d k)) r))
-    (eqb-false d k (not-true (eqb d k) (and-right (leb d p) (not (eqb d k)) r))))))
-    (λ b. Memᴰ·append-right (map (turn k) (others p k)) (own-member k d b))
-    (or-cases (leb d p && not (eqb d k)) (between treatNumber answerNumber d) e)
+    ⊎-elim (λ r. Memᴰ·append-left _ (Memᴰ·map (turn k) (others-member p k d (r .0) (r .1))))
+    (λ b. Memᴰ·append-right (map (turn k) (others p k)) (own-member k d b)) (worker-cases p k d e)
 
 tally-member : (p k : ℕ) → 0 < k → k ≤ p → List·Memᴰ (turn 0 k) (controllerReads p)
 tally-member p zero a h = absurd (not-suc-le-zero a)
 tally-member p (suc i) a h = member-gather p (λ i. turn 0 (suc i) ∷ []) i h (List·Memᴰ·head refl)
 
-controller-member : (p d : ℕ) → (between 1 p d || eqb d pollNumber) ≡ true → List·Memᴰ (turn 0 d) (round p)
+controller-member : (p d : ℕ) → controllerMay p d ≡ true → List·Memᴰ (turn 0 d) (round p)
 unfolding round
 controller-member p d e =
-    ⊎-elim
-    (λ b.
-    Memᴰ·append-left _
-    (Memᴰ·append-right (workerTurns p) (tally-member p d (between-low 1 p d b) (between-high 1 p d b))))
+    ⊎-elim (λ b. Memᴰ·append-left _ (Memᴰ·append-right (workerTurns p) (tally-member p d (b .0) (b .1))))
     (λ q.
     Memᴰ·append-right (workerTurns p ++ controllerReads p) (List·Memᴰ·head (ap (turn 0) (eqb-true d pollNumber q))))
-    (or-cases (between 1 p d) (eqb d pollNumber) e)
-
-worker-allowed : (p k d : ℕ) → 0 < k → allowed p (turn k d) ≡ (leb k p && workerMay p k d)
-unfolding allowed
-worker-allowed p k d h = rw (ne-eqb k 0 (λ q. omega arith))
+    (controller-cases p d e)
 
 by-actor : (p k d : ℕ) → allowed p (turn k d) ≡ true → List·Memᴰ (turn k d) (round p)
-unfolding allowed round
-by-actor p zero d e = controller-member p d e
+unfolding round
+by-actor p zero d e = controller-member p d (controller-does p (turn 0 d) e refl)
 by-actor p (suc k) d e =
-    let may : (leb (suc k) p && workerMay p (suc k) d) ≡ true = sym (worker-allowed p (suc k) d (omega arith)) ∙ e in
+    let w = worker-does p (turn (suc k) d) e (ne-eqb (suc k) 0 (λ q. omega arith)) in
     Memᴰ·append-left _
     (Memᴰ·append-left _
-    (member-gather p (λ i. workerRound p (suc i)) k (leb-true (suc k) p (and-left (leb (suc k) p) _ may))
-    (worker-member p (suc k) d (and-right (leb (suc k) p) _ may))))
+    (member-gather p (λ i. workerRound p (suc i)) k (w .0) (worker-member p (suc k) d (w .1))))
 
 -- the round has every allowed turn
 pub allowed-round : (p : ℕ) (t : Turn) → allowed p t ≡ true → List·Memᴰ t (round p)
@@ -97,27 +82,6 @@ allowed-round p t e = by-actor p (t .actor) (t .action) e
 
 abbrev Allowed : ℕ → Turn → Type 0
 Allowed p t = allowed p t ≡ true
-
-worker-may : (p k d : ℕ) → 0 < k → k ≤ p → workerMay p k d ≡ true → Allowed p (turn k d)
-worker-may p k d h b e = worker-allowed p k d h ∙ and-intro (le-leb k p b) e
-
--- a worker may read from every other actor
-pub may-read : (p k j : ℕ) → 0 < k → k ≤ p → j ≤ p → (j ≡ k → ⊥) → allowed p (turn k j) ≡ true
-may-read p k j h b a n = worker-may p k j h b (or-left _ (and-intro (le-leb j p a) (not-of (ne-eqb j k n))))
-
--- and treat, send and answer
-pub may-work : (p k d : ℕ) → 0 < k → k ≤ p → between treatNumber answerNumber d ≡ true → allowed p (turn k d) ≡ true
-may-work p k d h b e = worker-may p k d h b (or-right (leb d p && not (eqb d k)) e)
-
--- the controller may read from every worker
-pub may-hear : (p k : ℕ) → 0 < k → k ≤ p → allowed p (turn 0 k) ≡ true
-unfolding allowed
-may-hear p k h b = or-left _ (and-intro (le-leb 1 k h) (le-leb k p b))
-
--- and poll
-pub may-poll : (p : ℕ) → allowed p (turn 0 pollNumber) ≡ true
-unfolding allowed
-may-poll p = or-right (between 1 p pollNumber) refl
 
 -- an actor other than worker `k`
 abbrev Other : ℕ → ℕ → ℕ → Type 0

@@ -1,7 +1,7 @@
 -- How long a worker's lists get: never longer than the loaded labels, as no label comes to a worker twice.
 use Prim.Native.Nat.{ℕ, suc, _+_, _≤_}
 use mathlib.Core.List.{List, [], _∷_, _++_}
-use mathlib.Core.Path.{refl, sym, ap}
+use mathlib.Core.Path.{_≡_, refl, sym, ap}
 use native.Mathlib.Decide.{ℕ-discrete}
 use native.Mathlib.Omega.{arith}
 use lib.ListN.{length, length-append}
@@ -33,11 +33,12 @@ module _ (sys : System) where
   abbrev coming : State → ℕ → ℕ
   coming st i = length (st .workList i) + into labelsIn p (st .channel) i + unsentLabels sys st
 
-  -- one more worker's move leaves no more labels to come, but for what it adds to its own to-send list
-  coming-move : {st s : State} {new : List Event} (i : ℕ) → Worker sys i → Moves sys st s new
-      → coming s i + length (st .toSend i) ≤ coming st i + length (s .toSend i)
-  unfolding unsentLabels afterTreat afterSend afterList afterPoll afterDrop afterAnswer afterAsk afterCount afterMark
-  coming-move {st} i v (treats k a rest w e) =
+  -- what a worker that treats deletes comes to its own lists alone
+  coming-treat : (st : State) (i k : ℕ) → Worker sys k → (a : Label) (rest : List Label) → st .workList k ≡ a ∷ rest
+      → coming (afterTreat sys k a rest st) i + length (st .toSend i)
+      ≤ coming st i + length (afterTreat sys k a rest st .toSend i)
+  unfolding unsentLabels afterTreat
+  coming-treat st i k w a rest e =
       let new : List Label = deletions sys k a st in
       elim (ℕ-discrete i k) [
         | yes same ↦
@@ -59,7 +60,12 @@ module _ (sys : System) where
               ap length (update-other (st .toSend) k (st .toSend k ++ new) i other),
             )
       ]
-  coming-move {st} i v (sends k w e) =
+
+  -- what a worker sends was unsent, and is on its way to the others
+  coming-send : (st : State) (i k : ℕ) → Worker sys i → Worker sys k
+      → coming (afterSend sys k st) i + length (st .toSend i) ≤ coming st i + length (afterSend sys k st .toSend i)
+  unfolding unsentLabels afterSend
+  coming-send st i k v w =
       elim (ℕ-discrete i k) [
         | yes same ↦
             rw same
@@ -76,7 +82,14 @@ module _ (sys : System) where
               ap length (update-other (st .toSend) k [] i other),
             )
       ]
-  coming-move {st} i v (reads j k labels rest w h n e) =
+
+  -- what a worker reads goes from its channel to its work list
+  coming-read : (st : State) (i j k : ℕ) (labels : List Label) (rest : List Message) → j ≤ p
+      → st .channel j k ≡ list labels ∷ rest
+      → coming (afterList j k labels rest st) i + length (st .toSend i)
+      ≤ coming st i + length (afterList j k labels rest st .toSend i)
+  unfolding unsentLabels afterList
+  coming-read st i j k labels rest h e =
       elim (ℕ-discrete i k) [
         | yes same ↦
             rw same
@@ -93,6 +106,14 @@ module _ (sys : System) where
               ap length (update-other (st .workList) k (st .workList k ++ labels) i other),
             )
       ]
+
+  -- one more worker's move leaves no more labels to come, but for what it adds to its own to-send list
+  coming-move : {st s : State} {new : List Event} (i : ℕ) → Worker sys i → Moves sys st s new
+      → coming s i + length (st .toSend i) ≤ coming st i + length (s .toSend i)
+  unfolding unsentLabels afterPoll afterDrop afterAnswer afterAsk afterCount afterMark
+  coming-move {st} i v (treats k a rest w e) = coming-treat st i k w a rest e
+  coming-move {st} i v (sends k w e) = coming-send st i k v w
+  coming-move {st} i v (reads j k labels rest w h n e) = coming-read st i j k labels rest h e
   coming-move {st} i v (hears j k q rest w h n e) = omega (arith, into-falls labelsIn p (st .channel) j k (poll q) rest h e i)
   coming-move {st} i v (ignores j k n rest w h d e) = omega (arith, into-falls labelsIn p (st .channel) j k (reply n) rest h e i)
   coming-move {st} i v (answers k q w e r) =

@@ -35,14 +35,19 @@ answerNumber = 11
 abbrev pub pollNumber : ℕ
 pollNumber = 12
 
--- for a worker: read from any other actor, treat, send or answer; for the controller: read from a worker, or poll. With at
--- most eight workers, no number means two things
+-- for worker (kitchen) `k`: 0 to p except k, read from that sender; 9 to 11, treat, send or answer. With at most eight
+-- workers, no number means two things
+unfoldable pub workerMay : ℕ → ℕ → ℕ → Bool
+workerMay p k d = (leb d p && not (eqb d k)) || between treatNumber answerNumber d
+
+-- for the controller (desk): 1 to p, read from that worker; 12, poll
+unfoldable pub controllerMay : ℕ → ℕ → Bool
+controllerMay p d = between 1 p d || eqb d pollNumber
+
+-- no other turn is allowed
 unfoldable pub allowed : ℕ → Turn → Bool
 allowed p t =
-    cond (eqb (t .actor) 0)
-    (between 1 p (t .action) || eqb (t .action) pollNumber)
-    (leb (t .actor) p
-    && ((leb (t .action) p && not (eqb (t .action) (t .actor))) || between treatNumber answerNumber (t .action)))
+    cond (eqb (t .actor) 0) (controllerMay p (t .action)) (leb (t .actor) p && workerMay p (t .actor) (t .action))
 
 -- what worker `k` does
 unfoldable pub workerStep : System → ℕ → ℕ → State → Option State

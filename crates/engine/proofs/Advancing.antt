@@ -29,7 +29,6 @@ use Rattle.plan.proofs.Parts.{variables-read}
 use Rattle.plan.specs.Decode.{planFault}
 use Rattle.format.specs.Format.{workerCount}
 use Rattle.plan.specs.Network.{networkOf}
-use Rattle.plan.specs.WellFormed.{sizeOf}
 
 module _ (b cells : List ℕ) (g : Progress) (go : Going b cells g) where
   inv : Inv (systemAt b) (machine cells (g .tally))
@@ -40,7 +39,7 @@ module _ (b cells : List ℕ) (g : Progress) (go : Going b cells g) where
 
   -- the number stands for a label of the plan
   number-listed : (c : ℕ) → LabelNumber (systemAt b) c → Listed b (c / 16) (c % 16)
-  unfolding systemAt systemOf networkOf sizeOf
+  unfolding systemAt systemOf networkOf
   number-listed c k = record { variable = omega (arith, k .variable, variables-read b); value = k .value }
 
   pub playable : Playable b cells (g .tally)

@@ -1,21 +1,21 @@
 -- From what the actions' code ensures to what the code of a turn ensures.
 use Prim.Native.Nat.{ℕ, _-_, _<_, _≤_}
-use mathlib.Core.Bool.{Bool, true, false, cond, _&&_, _||_, not}
+use mathlib.Core.Bool.{Bool, true, false, cond, _&&_}
 use mathlib.Core.List.{List}
 use mathlib.Core.Option.{Option, none, some, Option·getD}
 use mathlib.Core.Path.{_≡_, refl, sym, _∙_, ap, subst}
 use native.Mathlib.Omega.{arith}
 use mathlib.Core.Logic.{⊎-elim}
-use borrow.Author.Tests.{leb-true, eqb-true, eq-eqb, ne-eqb}
-use lib.Dec.{leb, eqb}
+use borrow.Author.Tests.{eq-eqb, ne-eqb}
+use lib.Dec.{eqb}
 use lib.ListN.{length, replicate}
-use Rattle.base.proofs.Bools.{and-left, and-right, or-cases, or-false, not-of-true}
-use Rattle.base.proofs.Choice.{cond-true, cond-false, between-low, between-high}
+use Rattle.base.proofs.Bools.{or-false, not-of-true}
+use Rattle.base.proofs.Choice.{cond-true, cond-false, between-high}
 use Rattle.base.specs.Below.{one}
-use Rattle.base.specs.Choice.{between}
+use Rattle.disac4.proofs.Allowed.{worker-cases, worker-does, controller-does, reads-worker}
 use Rattle.disac4.specs.Outcome.{overwrite, workNeed, systemAt}
 use Rattle.disac4.specs.System.{System, systemOf}
-use Rattle.disac4.specs.Turn.{turn, allowed, pollNumber}
+use Rattle.disac4.specs.Turn.{turn, treatNumber, answerNumber, pollNumber, allowed}
 use Rattle.disac4.specs.declared.Tally.{Tally}
 use Rattle.refinement.proofs.Behind.{cleared-memory}
 use Rattle.index.proofs.Chains.{indexed}
@@ -168,23 +168,17 @@ one-and false false = refl
 module _ (p actor action : ℕ) (few : p ≤ 8) (ok : allowed p (turn actor action) ≡ true) where
   -- a worker's turn
   pub may-work : (actor ≡ 0 → ⊥) → (actor - 1 < p) × (action < 12)
-  unfolding allowed
   may-work n =
-      let r : (leb actor p && ((leb action p && not (eqb action actor)) || between 9 11 action)) ≡ true =
-      sym (cond-false _ _ (ne-eqb actor 0 n)) ∙ ok in (
-        omega (arith, leb-true actor p (and-left (leb actor p) _ r)),
-        ⊎-elim (λ x. omega (arith, leb-true action p (and-left (leb action p) (not (eqb action actor)) x)))
-            (λ x. omega (arith, between-high 9 11 action x))
-            (or-cases (leb action p && not (eqb action actor)) (between 9 11 action) (and-right (leb actor p) _ r)),
+      let w = worker-does p (turn actor action) ok (ne-eqb actor 0 n) in (
+        omega (arith, w .0),
+        ⊎-elim (λ x. omega (arith, x .0)) (λ x. omega (arith, between-high treatNumber answerNumber action x))
+            (worker-cases p actor action (w .1)),
       )
 
   -- the controller's read
   pub may-hear : actor ≡ 0 → (action ≡ 12 → ⊥) → (0 < action) × (action ≤ p)
-  unfolding allowed
   may-hear e n =
-      let r : (between 1 p action || eqb action 12) ≡ true = sym (cond-true _ _ (eq-eqb actor 0 e)) ∙ ok in
-      ⊎-elim (λ x. (between-low 1 p action x, between-high 1 p action x)) (λ x. absurd (n (eqb-true action 12 x)))
-      (or-cases (between 1 p action) (eqb action 12) r)
+      reads-worker p action (controller-does p (turn actor action) ok (eq-eqb actor 0 e)) (ne-eqb action pollNumber n)
 
 -- the system of a plan has as many workers as its head says
 pub workers-are : (b : List ℕ) → systemAt b .workers ≡ workerCount b

@@ -20,11 +20,12 @@ use Rattle.cells.proofs.Stores.{store-apart}
 use Rattle.cells.specs.Layout.{HEADS, PLACES, NEXT, FIRST, FOLLOW}
 use Rattle.cells.specs.Memory.{Mem, store}
 use Rattle.plan.proofs.InOrder.{InOrder}
+use Rattle.plan.proofs.Links.{ties-turned}
 use Rattle.plan.proofs.Parts.{variables-read, constraints-read, constraint-read}
 use Rattle.plan.proofs.WellFormed.{read-well-formed}
 use Rattle.plan.specs.Decode.{sectionCount, planFault, planOf, constraintAt}
 use Rattle.format.specs.Format.{sectionStart, variableCount, constraintCount, firstAt, secondAt}
-use Rattle.plan.specs.Network.{joins}
+use Rattle.plan.specs.Network.{joins, ties}
 use Rattle.plan.specs.Plan.{Constraint}
 use Rattle.plan.specs.WellFormed.{constraintOf, ConstraintFits}
 
@@ -32,7 +33,7 @@ use Rattle.plan.specs.WellFormed.{constraintOf, ConstraintFits}
 
 pub over-turned : (b : List ℕ) (x y c : ℕ) → over b x y c ≡ over b y x c
 unfolding over
-over-turned b x y c = or-comm (joins (constraintOf (planOf b) c) x y) (joins (constraintOf (planOf b) c) y x)
+over-turned b x y c = ties-turned (constraintOf (planOf b) c) x y
 
 pub chain-turned : (b : List ℕ) (x y k : ℕ) → chainBelow b x y k ≡ chainBelow b y x k
 unfolding chainBelow
@@ -148,7 +149,7 @@ two-conds false false v h = refl
 
 module _ (b : List ℕ) (c f s : ℕ) (e : Ends b c f s) where
   over-at : (x y : ℕ) → over b x y c ≡ (eqb y s && eqb x f) || (eqb x s && eqb y f)
-  unfolding over
+  unfolding over ties
   over-at x y =
       ap₂ _||_ (joins-at (constraintOf (planOf b) c) f s x y (e .first) (e .second))
       (joins-at (constraintOf (planOf b) c) f s y x (e .first) (e .second))

@@ -34,7 +34,7 @@ unfolding systemOf networkOf
 variables-are b = variables-read b
 
 pub size-is : (b : List ℕ) (x : ℕ) → sizeOf (planOf b) x ≡ systemOf (planOf b) .net .size x
-unfolding systemOf networkOf sizeOf
+unfolding systemOf networkOf
 size-is b x = refl
 
 -- a variable is in a chain of row `i` for `y` where the row owns it and it shares a constraint with `y`

@@ -1,6 +1,6 @@
 -- What the chains of an indexed plan say of linked variables and allowed pairs.
 use Prim.Native.Nat.{ℕ, suc, _+_, _-_, _^_, _<_, _≤_}
-use mathlib.Core.Bool.{Bool, true, false, cond, _&&_, _||_, not}
+use mathlib.Core.Bool.{Bool, true, false, cond, _&&_, not}
 use mathlib.Core.List.{List}
 use mathlib.Core.Logic.{_⊎_, inl, inr}
 use mathlib.Core.Option.{none}
@@ -29,7 +29,7 @@ use Rattle.plan.proofs.Parts.{variables-read, constraints-read, constraint-read
 use Rattle.plan.proofs.WellFormed.{read-well-formed}
 use Rattle.plan.specs.Decode.{sectionCount, planFault, relationAt, constraintAt, planOf}
 use Rattle.format.specs.Format.{sectionStart, variableCount, constraintCount, firstAt, secondAt, kindAt, tableRowAt, limitAt, figureAt, sizeAt}
-use Rattle.plan.specs.Network.{withinLimit, permits, joins, accepts, pairAllowed, shareConstraint, networkOf}
+use Rattle.plan.specs.Network.{withinLimit, permits, joins, ties, spares, accepts, pairAllowed, shareConstraint, networkOf}
 use Rattle.plan.specs.Plan.{Value, table, sumLimit, Constraint, valueOf}
 use Rattle.plan.specs.WellFormed.{sizeOf, noConstraint, constraintOf}
 
@@ -59,7 +59,7 @@ pub linked-chain : (b : List ℕ) (x y : ℕ)
     → shareConstraint (planOf b) x y ≡ not (eqb (chainBelow b x y (constraintCount b)) 0)
 unfolding shareConstraint over constraintOf
 linked-chain b x y =
-    any-places (λ c. joins c x y || joins c y x) (planOf b .constraints) noConstraint
+    any-places (λ c. ties c x y) (planOf b .constraints) noConstraint
     ∙ ap (λ (n : ℕ). anyBelow n (over b x y)) (constraints-read b)
     ∙ chain-any b x y (constraintCount b)
 
@@ -71,7 +71,7 @@ acceptsAt b x v y w c = accepts (planOf b) (constraintOf (planOf b) c) x v y w
 
 module _ (b : List ℕ) (x v y w : ℕ) where
   pub accepts-apart : (c : ℕ) → over b x y c ≡ false → acceptsAt b x v y w c ≡ true
-  unfolding accepts over
+  unfolding accepts spares over ties
   accepts-apart c p =
       let k = constraintOf (planOf b) c in
       rw (or-false-left (joins k x y) (joins k y x) p, or-false-right (joins k x y) (joins k y x) p)
@@ -120,7 +120,7 @@ module _ (b : List ℕ) (c x v y w : ℕ) (h : c < constraintCount b)
   -- a constraint over the two variables, in their order, accepts the pair where its bytes permit it
   accepts-ordered : joins (constraintOf (planOf b) c) y x ≡ false
       → acceptsAt b x v y w c ≡ permitsAt b (constraintStart b c) (sectionStart b (suc x)) v (sectionStart b (suc y)) w
-  unfolding accepts
+  unfolding accepts spares
   accepts-ordered p =
       rw (p, of-joins (constraintOf (planOf b) c) x y first second)
       (and-true (permits (planOf b) (constraintOf (planOf b) c .relation) x v y w) refl ∙ permits-read)
@@ -275,7 +275,7 @@ pub supports-counted : (b : List ℕ) → planFault b ≡ none → (x v y row r 
     → row ≡ rowOf (sizeOf (planOf b) y) (supports (networkOf (planOf b)) x v y)
     → ((width : ℕ) → row < 2 ^ width → r ≡ rowCount width row)
     → (r ≡ supportCount (networkOf (planOf b)) x v y) × (r ≤ 16)
-unfolding supportCount networkOf sizeOf
+unfolding supportCount networkOf
 supports-counted b none-found x v y row r h e count =
     let n = sizeOf (planOf b) y in
     let t = supports (networkOf (planOf b)) x v y in

@@ -1,7 +1,7 @@
 -- The index of a plan in memory: where its sections start, the constraints over each two variables as chains, and each
 -- worker's own variables that are linked with another one as chains too.
 use Prim.Native.Nat.{ℕ, zero, suc, _+_, _-_, _<_, _≤_}
-use mathlib.Core.Bool.{Bool, true, cond, _&&_, _||_}
+use mathlib.Core.Bool.{Bool, true, cond, _&&_}
 use mathlib.Core.List.{List}
 use mathlib.Core.Logic.{_⊎_}
 use mathlib.Core.Option.{none}
@@ -14,12 +14,12 @@ use Rattle.cells.specs.Layout.{HEADS, PLACES, NEXT, FIRST, FOLLOW}
 use Rattle.cells.specs.Memory.{Mem, memOf, store}
 use Rattle.plan.specs.Decode.{sectionCount, planFault, planOf}
 use Rattle.format.specs.Format.{sectionStart, variableCount, constraintCount, firstAt, secondAt}
-use Rattle.plan.specs.Network.{joins}
+use Rattle.plan.specs.Network.{ties}
 use Rattle.plan.specs.WellFormed.{constraintOf}
 
 -- constraint `c` of the plan is over `x` and `y`, either way round
 unfoldable pub over : List ℕ → ℕ → ℕ → ℕ → Bool
-over b x y c = joins (constraintOf (planOf b) c) x y || joins (constraintOf (planOf b) c) y x
+over b x y c = ties (constraintOf (planOf b) c) x y
 
 -- one more than the last constraint below `c` that is over `x` and `y`, 0 for none
 unfoldable pub chainBelow : List ℕ → ℕ → ℕ → ℕ → ℕ

@@ -76,17 +76,6 @@ module _ (net : Network) (d : Domains) where
       some-below (net .size y) (λ w. d y w && net .allows x v y w) here in
       (s .0, and-left (d y (s .0)) (net .allows x v y (s .0)) (s .2), and-right (d y (s .0)) (net .allows x v y (s .0)) (s .2))
 
-  -- and a sweep leaves arc-consistent domains alone
-  pub consistent-rests : ConsistentWithin net d → rests net d ≡ true
-  unfolding Within
-  consistent-rests c =
-      every-below (net .variables) (λ x. allBelow (net .size x) (λ v. not (d x v) || supportedAll net d x v))
-      (λ x l.
-      every-below (net .size x) (λ v. not (d x v) || supportedAll net d x v)
-      (λ v m.
-      implies (d x v) (supportedAll net d x v)
-      (λ p. and-right (d x v) (supportedAll net d x v) (sweep-keeps d c (λ y w q. q) x v p))))
-
   -- any other sweep takes a label away
   pub sweep-fewer : rests net d ≡ false → domainSize net (sweep net d) < domainSize net d
   unfolding domainSize

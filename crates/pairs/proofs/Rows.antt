@@ -25,7 +25,7 @@ use Rattle.index.specs.Allowed.{permitsAt, permitsFrom, limited, inColumn, List
 use Rattle.index.specs.Index.{over, chainBelow}
 use Rattle.plan.proofs.Limits.{unrecorded-allows, recorded-judges}
 use Rattle.plan.specs.Decode.{planFault, planOf}
-use Rattle.plan.specs.Network.{unrecorded, withinLimit, permits, joins, accepts, pairAllowed}
+use Rattle.plan.specs.Network.{unrecorded, withinLimit, spares, accepts, pairAllowed}
 use Rattle.plan.specs.WellFormed.{constraintOf}
 
 -- ---- a row that is put together from its highest value down
@@ -143,11 +143,8 @@ column-byte b bytes at v h w =
 
 accepts-turned : (b : List ℕ) (x v y w c : ℕ) → acceptsAt b x v y w c ≡ acceptsAt b y w x v c
 unfolding accepts
-accepts-turned b x v y w c = and-comm (spares x v y w) (spares y w x v)
-  where
-    spares : ℕ → ℕ → ℕ → ℕ → Bool
-    spares x v y w =
-        not (joins (constraintOf (planOf b) c) x y) || permits (planOf b) (constraintOf (planOf b) c .relation) x v y w
+accepts-turned b x v y w c =
+    and-comm (spares (planOf b) (constraintOf (planOf b) c) x v y w) (spares (planOf b) (constraintOf (planOf b) c) y w x v)
 
 -- read at its place, it accepts the pair where it permits it
 pub permitted-from : (b : List ℕ) → planFault b ≡ none → (c x v y w at here there : ℕ)

@@ -17,11 +17,11 @@ use Rattle.plan.proofs.Checks.{each-holds}
 use Rattle.plan.proofs.Head.{variables-range}
 use Rattle.plan.proofs.Sections.{passed-before, start-within}
 use Rattle.plan.specs.Check.{firstFault, variableChecks, sectionChecks, faultAt, sectionFault, verdictOf}
-use Rattle.plan.specs.Decode.{sectionCount}
+use Rattle.plan.specs.Decode.{sectionCount, trailingFault, sectionsFault}
 use Rattle.plan.specs.Fault.{decline}
 use Rattle.sections.specs.Known.{VariablesKnown}
 use Rattle.parser.specs.Known.{PassedBefore}
-use Rattle.parser.specs.Scan.{answerOf, trailingFault, sectionsFault}
+use Rattle.parser.specs.Scan.{answerOf}
 use Rattle.plan.specs.declared.Checked.the-variants.{Declined}
 use Rattle.plan.specs.declared.Fault.{Fault}
 use Rattle.plan.specs.declared.Verdict.{Verdict}

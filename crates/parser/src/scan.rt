@@ -13,12 +13,12 @@ ghost use lib.ListN.{length, set};
 ghost use Rattle.format.specs.Format.{sectionStart};
 ghost use Rattle.network.specs.Network.{labelCount};
 ghost use Rattle.plan.specs.Check.{sectionChecks, firstFault, verdictOf};
-ghost use Rattle.plan.specs.Decode.{planOf, planEnd};
+ghost use Rattle.plan.specs.Decode.{planOf, planEnd, trailingFault, sectionsFault};
 ghost use Rattle.plan.specs.Fault.{decline};
 ghost use Rattle.sections.specs.Known.{VariablesKnown};
 ghost use Rattle.parser.specs.Known.{PassedBefore};
 ghost use Rattle.plan.specs.Network.{networkOf};
-ghost use Rattle.parser.specs.Scan.{answerOf, trailingFault, sectionsFault};
+ghost use Rattle.parser.specs.Scan.{answerOf};
 
 // The answer of a plan with a fault.
 pub fn declined(fault: Fault, place: usize) -> Checked

@@ -12,13 +12,12 @@ use Rattle.plan.specs.Answer.{figuresOf, checkedAs, planCheck}
 use Rattle.plan.specs.Decode.{planOf, accepted, decode}
 use Rattle.plan.specs.Network.{networkOf}
 use Rattle.plan.specs.Plan.{Plan}
-use Rattle.plan.specs.WellFormed.{sizeOf}
 use Rattle.plan.specs.declared.Checked.the-variants.{Accepted}
 use Rattle.plan.specs.declared.Figures.{Figures}
 
 -- L of the decoded plan is the sum of the counts that its sections give
 pub labels-read : (b : List ℕ) → labelCount (networkOf (planOf b)) ≡ sumBelow (variableCount b) (λ x. sizeAt b (suc x))
-unfolding labelCount networkOf sizeOf
+unfolding labelCount networkOf
 labels-read b =
     ap (λ (n : ℕ). sumBelow n (networkOf (planOf b) .size)) (variables-read b)
     ∙ sum-ext (variableCount b) (networkOf (planOf b) .size) (λ x. sizeAt b (suc x)) (size-read b)

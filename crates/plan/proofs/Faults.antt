@@ -16,7 +16,7 @@ use Rattle.base.specs.Choice.{between, firstOf}
 use Rattle.format.specs.Format.{sectionStart, variableCount, constraintCount}
 use Rattle.plan.proofs.Sections.{section-complete, section-number, section-declines, passed-before, start-within}
 use Rattle.plan.specs.Check.{firstFault, sectionChecks, sectionFault}
-use Rattle.plan.specs.Decode.{sectionCount, planEnd, planOf, planFault, accepted, declined, decodedAs, decode}
+use Rattle.plan.specs.Decode.{sectionCount, planEnd, trailingFault, sectionsFault, planFault, planOf, accepted, declined, decodedAs, decode}
 use Rattle.plan.specs.Fault.{numberOf, decline}
 use Rattle.plan.specs.Plan.{Plan}
 use Rattle.plan.specs.declared.Decline.{Decline}
@@ -33,7 +33,7 @@ pub data Ending (b : List ℕ) (o : Option Decline) : Type 0 where
 
 -- every check of a plan ends in one of them
 pub ending : (b : List ℕ) → Ending b (planFault b)
-unfolding planFault
+unfolding planFault sectionsFault trailingFault
 ending b =
     go (eqb (length b) 0) refl (eqb (byteAt b 0) 1) refl (firstBelow (sectionCount b) (sectionFault b)) refl
     (ltb (planEnd b) (length b)) refl

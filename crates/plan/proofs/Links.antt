@@ -1,6 +1,6 @@
 -- Which variables the plan's constraints link.
 use Prim.Native.Nat.{ℕ, suc, _<_}
-use mathlib.Core.Bool.{true, _||_}
+use mathlib.Core.Bool.{true}
 use mathlib.Core.Logic.{_⊎_, inl, inr, ⊎-elim}
 use mathlib.Core.Path.{_≡_}
 use native.Mathlib.Omega.{arith}
@@ -9,16 +9,20 @@ use lib.Dec.{eqb}
 use lib.ListN.{length}
 use Rattle.base.proofs.Bools.{and-left, and-right, and-intro, or-cases, or-comm}
 use Rattle.base.proofs.Members.{any-at, any-ext}
-use Rattle.plan.specs.Network.{joins, shareConstraint}
+use Rattle.plan.specs.Network.{joins, ties, shareConstraint}
 use Rattle.plan.specs.Plan.{Plan, Constraint}
 use Rattle.plan.specs.WellFormed.{noConstraint, constraintOf, ConstraintFits, WellFormed}
+
+-- a constraint over two variables is over them either way round
+pub ties-turned : (c : Constraint) (x y : ℕ) → ties c x y ≡ ties c y x
+unfolding ties
+ties-turned c x y = or-comm (joins c x y) (joins c y x)
 
 -- sharing a constraint goes both ways
 pub linked-symmetric : (plan : Plan) (x y : ℕ) → shareConstraint plan x y ≡ shareConstraint plan y x
 unfolding shareConstraint
 linked-symmetric plan x y =
-    any-ext (λ c. joins c x y || joins c y x) (λ c. joins c y x || joins c x y) (λ c. or-comm (joins c x y) (joins c y x))
-    (plan .constraints)
+    any-ext (λ c. ties c x y) (λ c. ties c y x) (λ c. ties-turned c x y) (plan .constraints)
 
 -- the two variables that a constraint joins are those with its two numbers, which count from 1
 pub joins-of : (c : Constraint) (x y : ℕ) → joins c x y ≡ true → (c .first ≡ suc x) × (c .second ≡ suc y)
@@ -49,10 +53,10 @@ over plan c x y h p = record {
 
 -- two variables are linked only by a constraint over both
 pub linked-by : (plan : Plan) (x y : ℕ) → shareConstraint plan x y ≡ true → (c : ℕ) × (Over plan c x y ⊎ Over plan c y x)
-unfolding shareConstraint constraintOf
+unfolding shareConstraint ties constraintOf
 linked-by plan x y e =
-    let r : (c : ℕ) × (c < length (plan .constraints)) × (joins (constraintOf plan c) x y || joins (constraintOf plan c) y x ≡ true) =
-    any-at (λ c. joins c x y || joins c y x) (plan .constraints) noConstraint e in (
+    let r : (c : ℕ) × (c < length (plan .constraints)) × (ties (constraintOf plan c) x y ≡ true) =
+    any-at (λ c. ties c x y) (plan .constraints) noConstraint e in (
       r .0,
       ⊎-elim (λ p. inl (over plan (r .0) x y (r .1) p)) (λ p. inr (over plan (r .0) y x (r .1) p))
           (or-cases (joins (constraintOf plan (r .0)) x y) (joins (constraintOf plan (r .0)) y x) (r .2)),

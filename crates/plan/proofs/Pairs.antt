@@ -1,13 +1,13 @@
 -- Which pairs the plan's constraints allow: all constraints over the same two variables act together.
 use Prim.Native.Nat.{ℕ, _<_}
-use mathlib.Core.Bool.{Bool, true, _&&_, _||_, not}
+use mathlib.Core.Bool.{true, not}
 use mathlib.Core.Logic.{⊎-elim}
 use mathlib.Core.Path.{_≡_}
 use lib.ListN.{length}
 use Rattle.base.proofs.Bools.{decided, and-left, and-right, and-intro, or-left, or-right, or-second, not-of, not-of-true, bool-ext}
 use Rattle.base.proofs.Members.{all-at, at-all}
 use Rattle.plan.proofs.Links.{Over, over, of-joins}
-use Rattle.plan.specs.Network.{permits, joins, accepts, pairAllowed}
+use Rattle.plan.specs.Network.{permits, joins, spares, accepts, pairAllowed}
 use Rattle.plan.specs.Plan.{Plan}
 use Rattle.plan.specs.WellFormed.{noConstraint, constraintOf}
 
@@ -15,17 +15,17 @@ use Rattle.plan.specs.WellFormed.{noConstraint, constraintOf}
 abbrev pub EachPermits : Plan → ℕ → ℕ → ℕ → ℕ → Type 0
 EachPermits plan x v y w = (c : ℕ) → Over plan c x y → permits plan (constraintOf plan c .relation) x v y w ≡ true
 
--- the constraint at an index is not over `x` and then `y`, or permits the pair
-abbrev spares : Plan → ℕ → ℕ → ℕ → ℕ → ℕ → Bool
-spares plan x v y w c = not (joins (constraintOf plan c) x y) || permits plan (constraintOf plan c .relation) x v y w
-
 module _ (plan : Plan) (x v y w : ℕ) where
-  spares-each : ((c : ℕ) → c < length (plan .constraints) → spares plan x v y w c ≡ true) → EachPermits plan x v y w
+  spares-each : ((c : ℕ) → c < length (plan .constraints) → spares plan (constraintOf plan c) x v y w ≡ true)
+      → EachPermits plan x v y w
+  unfolding spares
   spares-each f c o =
       or-second (permits plan (constraintOf plan c .relation) x v y w)
       (not-of-true (of-joins (constraintOf plan c) x y (o .first-is) (o .second-is))) (f c (o .listed))
 
-  each-spares : EachPermits plan x v y w → (c : ℕ) → c < length (plan .constraints) → spares plan x v y w c ≡ true
+  each-spares : EachPermits plan x v y w → (c : ℕ) → c < length (plan .constraints)
+      → spares plan (constraintOf plan c) x v y w ≡ true
+  unfolding spares
   each-spares f c h =
       ⊎-elim (λ e. or-right (not (joins (constraintOf plan c) x y)) (f c (over plan c x y h e)))
       (λ e. or-left (permits plan (constraintOf plan c .relation) x v y w) (not-of e))
@@ -36,11 +36,11 @@ module _ (plan : Plan) (x v y w : ℕ) where
   pub allowed-each : pairAllowed plan x v y w ≡ true → EachPermits plan x v y w × EachPermits plan y w x v
   unfolding pairAllowed accepts constraintOf
   allowed-each e = (
-    spares-each plan x v y w (λ c h. and-left (spares plan x v y w c) (spares plan y w x v c) (accepted c h)),
-    spares-each plan y w x v (λ c h. and-right (spares plan x v y w c) (spares plan y w x v c) (accepted c h)),
+    spares-each plan x v y w (λ c h. and-left _ (spares plan (constraintOf plan c) y w x v) (accepted c h)),
+    spares-each plan y w x v (λ c h. and-right (spares plan (constraintOf plan c) x v y w) _ (accepted c h)),
   )
     where
-      accepted : (c : ℕ) → c < length (plan .constraints) → spares plan x v y w c && spares plan y w x v c ≡ true
+      accepted : (c : ℕ) → c < length (plan .constraints) → accepts plan (constraintOf plan c) x v y w ≡ true
       accepted = all-at (λ c. accepts plan c x v y w) (plan .constraints) noConstraint e
 
   -- a pair that each constraint over its two variables permits is allowed

@@ -20,7 +20,7 @@ use Rattle.plan.specs.Check.{firstFault, headChecks}
 use Rattle.plan.specs.Decode.{planFault, planOf, accepted, decode}
 use Rattle.plan.specs.Network.{networkOf}
 use Rattle.plan.specs.Plan.{Plan}
-use Rattle.plan.specs.WellFormed.{sizeOf, WellFormed}
+use Rattle.plan.specs.WellFormed.{WellFormed}
 
 module _ (b : List ℕ) (none-found : planFault b ≡ none) where
   abbrev head-start : ℕ
@@ -48,7 +48,7 @@ well-formed b plan e = rw (decode-plan b plan e .1) (read-well-formed b (decode-
 
 -- a well-formed plan has at most 512 labels
 pub few-labels : (plan : Plan) → WellFormed plan → labelCount (networkOf plan) ≤ 512
-unfolding labelCount networkOf sizeOf
+unfolding labelCount networkOf
 few-labels plan fits =
     omega (
       arith,

@@ -23,14 +23,19 @@ sectionCount b = 1 + variableCount b + constraintCount b
 unfoldable pub planEnd : List ℕ → ℕ
 planEnd b = sectionStart b (sectionCount b)
 
+-- 8: bytes after the last rule
+unfoldable pub trailingFault : List ℕ → Option Decline
+trailingFault b = cond (ltb (planEnd b) (length b)) (some (decline TrailingBytes (planEnd b))) none
+
+-- the sections in turn, 8
+unfoldable pub sectionsFault : List ℕ → Option Decline
+sectionsFault b = firstOf (firstBelow (sectionCount b) (sectionFault b)) (trailingFault b)
+
 -- the first fault of a plan: 1 for an empty plan, 2, the sections in turn, 8
 unfoldable pub planFault : List ℕ → Option Decline
 planFault b =
     cond (eqb (length b) 0) (some (decline Truncated 0))
-    (cond (eqb (byteAt b 0) 1)
-    (firstOf (firstBelow (sectionCount b) (sectionFault b))
-    (cond (ltb (planEnd b) (length b)) (some (decline TrailingBytes (planEnd b))) none))
-    (some (decline BadVersion 0)))
+    (cond (eqb (byteAt b 0) 1) (sectionsFault b) (some (decline BadVersion 0)))
 
 -- the data of the section at `at`
 unfoldable pub variableAt : List ℕ → ℕ → Variable

@@ -6,7 +6,8 @@ use lib.ListN.{length, getD}
 use Rattle.base.specs.Choice.{anyOf, allOf}
 use Rattle.base.specs.Row.{bit}
 use Rattle.network.specs.Network.{Network}
-use Rattle.plan.specs.Plan.{Plan, Relation, table, sumLimit, Constraint, variableOf, valueOf}
+use Rattle.plan.specs.Plan.{Plan, Relation, table, sumLimit, Constraint, valueOf}
+use Rattle.plan.specs.WellFormed.{sizeOf}
 
 -- the sodium figure that means "not recorded"; zero is a recorded figure
 unfoldable pub unrecorded : ℕ → Bool
@@ -25,10 +26,17 @@ permits plan (sumLimit limit) x v y w = withinLimit limit (valueOf plan x v .fig
 unfoldable pub joins : Constraint → ℕ → ℕ → Bool
 joins c x y = eqb (c .first) (suc x) && eqb (c .second) (suc y)
 
+-- the constraint is over the two variables, whichever is its first
+unfoldable pub ties : Constraint → ℕ → ℕ → Bool
+ties c x y = joins c x y || joins c y x
+
+-- as a constraint over `x` and then `y`, if it is one, it allows the pair
+unfoldable pub spares : Plan → Constraint → ℕ → ℕ → ℕ → ℕ → Bool
+spares plan c x v y w = not (joins c x y) || permits plan (c .relation) x v y w
+
 -- a constraint does not forbid the pair; it reads the same from either variable
 unfoldable pub accepts : Plan → Constraint → ℕ → ℕ → ℕ → ℕ → Bool
-accepts plan c x v y w =
-    (not (joins c x y) || permits plan (c .relation) x v y w) && (not (joins c y x) || permits plan (c .relation) y w x v)
+accepts plan c x v y w = spares plan c x v y w && spares plan c y w x v
 
 -- a pair is allowed when each constraint over its two variables allows it: they all act together
 unfoldable pub pairAllowed : Plan → ℕ → ℕ → ℕ → ℕ → Bool
@@ -36,12 +44,12 @@ pairAllowed plan x v y w = allOf (λ c. accepts plan c x v y w) (plan .constrain
 
 -- the two variables share a constraint
 unfoldable pub shareConstraint : Plan → ℕ → ℕ → Bool
-shareConstraint plan x y = anyOf (λ c. joins c x y || joins c y x) (plan .constraints)
+shareConstraint plan x y = anyOf (λ c. ties c x y) (plan .constraints)
 
 unfoldable pub networkOf : Plan → Network
 networkOf plan = record {
   variables = length (plan .variables);
-  size = λ x. length (variableOf plan x .values);
+  size = sizeOf plan;
   linked = shareConstraint plan;
   allows = pairAllowed plan;
 }

@@ -8,13 +8,13 @@ use borrow.Author.Tests.{eqb-false, not-false}
 use lib.Dec.{eqb}
 use Rattle.base.proofs.Bools.{or-false-right}
 use Rattle.base.proofs.Choice.{by-test, none≢some, unless-some, some-same}
+use Rattle.disac4.proofs.Allowed.{reads-other, reads-worker, worker-does, controller-does}
 use Rattle.disac4.specs.System.{System}
-use Rattle.disac4.specs.Turn.{Turn, treatNumber, sendNumber, answerNumber, pollNumber, allowed}
+use Rattle.disac4.specs.Turn.{Turn, treatNumber, sendNumber, answerNumber, pollNumber, workerMay, allowed}
 use Rattle.cells.specs.Memory.{Mem}
 use Rattle.controller.specs.Controller.{Machine}
 use Rattle.refinement.specs.Step.{withMem, readM, workerM, stepM}
 use Rattle.treating.specs.Treat.{treatM}
-use Rattle.refinement.proofs.Allowed.{WorkerMay, worker-may, controller-may, reads-other}
 use Rattle.refinement.proofs.Answering.{answer-keeps}
 use Rattle.refinement.proofs.Hearing.{hear-keeps}
 use Rattle.refinement.specs.Inv.{Small, Inv}
@@ -25,7 +25,8 @@ use Rattle.refinement.proofs.Sending.{send-keeps}
 module _ (sys : System) (small : Small sys) (s : Machine) (inv : Inv sys s)
     (treat-keeps : (i : ℕ) (m′ : Mem) → i < sys .workers → treatM sys i (s .mem) ≡ some m′
     → Inv sys (record { mem = m′; tally = s .tally })) where
-  worker-keeps : (i d : ℕ) (m′ : Mem) → i < sys .workers → WorkerMay (sys .workers) (suc i) d → workerM sys i d s ≡ some m′
+  worker-keeps : (i d : ℕ) (m′ : Mem) → i < sys .workers → workerMay (sys .workers) (suc i) d ≡ true
+      → workerM sys i d s ≡ some m′
       → Inv sys (record { mem = m′; tally = s .tally })
   unfolding workerM readM
   worker-keeps i d m′ h may e =
@@ -54,10 +55,10 @@ module _ (sys : System) (small : Small sys) (s : Machine) (inv : Inv sys s)
       (λ c e₂.
       by-test (eqb (t .action) pollNumber) e₂ (λ p. poll-keeps sys s s′ inv)
       (λ n.
-      let may = controller-may (sys .workers) t c ok n in
+      let may = reads-worker (sys .workers) (t .action) (controller-does (sys .workers) t ok c) n in
       hear-keeps sys s s′ (t .action - 1) inv (omega arith)))
       (λ c e₂.
-      let may = worker-may (sys .workers) t c ok in
+      let may = worker-does (sys .workers) t ok c in
       let some-row : suc (t .actor - 1) ≡ t .actor = omega (arith, eqb-false (t .actor) 0 c) in
       beside (workerM sys (t .actor - 1) (t .action) s) s′ e₂ (λ m′.
       worker-keeps (t .actor - 1) (t .action) m′ (omega (arith, may .0)) (rw some-row (may .1))))

@@ -1,5 +1,4 @@
 pub mod Actors
-pub mod Allowed
 pub mod Answered
 pub mod Answering
 pub mod Asked

@@ -10,10 +10,10 @@ use Rattle.plan.proofs.WellFormed.{well-formed, few-labels}
 use Rattle.plan.specs.Decode.{accepted, decode}
 use Rattle.plan.specs.Network.{networkOf}
 use Rattle.plan.specs.Plan.{Plan}
-use Rattle.plan.specs.WellFormed.{sizeOf, WellFormed}
+use Rattle.plan.specs.WellFormed.{WellFormed}
 
 pub small : (b : List ℕ) (plan : Plan) → decode b ≡ accepted plan → Small (systemOf plan)
-unfolding systemOf networkOf sizeOf
+unfolding systemOf networkOf
 small b plan e =
     let fits : WellFormed plan = well-formed b plan e in
     record {

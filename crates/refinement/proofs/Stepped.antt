@@ -1,6 +1,6 @@
 -- A turn in memory is a turn: the actions' equations put together.
 use Prim.Native.Nat.{ℕ, zero, suc, _-_, _<_, _≤_}
-use mathlib.Core.Bool.{true, false, cond, _||_, not}
+use mathlib.Core.Bool.{true, cond, _||_, not}
 use mathlib.Core.Option.{Option, none, some}
 use mathlib.Core.Path.{_≡_, refl, _∙_, ap}
 use native.Mathlib.Omega.{arith}
@@ -8,17 +8,17 @@ use borrow.Author.Tests.{eqb-false, ne-eqb, not-false}
 use lib.Dec.{eqb}
 use Rattle.base.proofs.Bools.{or-false-right}
 use Rattle.base.proofs.Choice.{cond-false}
+use Rattle.disac4.proofs.Allowed.{reads-other, reads-worker, worker-does, controller-does}
 use Rattle.disac4.specs.Action.{treat, readWorker, readController}
 use Rattle.disac4.specs.State.{State}
 use Rattle.disac4.specs.System.{System}
-use Rattle.disac4.specs.Turn.{Turn, treatNumber, sendNumber, answerNumber, pollNumber, allowed, workerStep, controllerStep, step}
+use Rattle.disac4.specs.Turn.{Turn, treatNumber, sendNumber, answerNumber, pollNumber, workerMay, controllerMay, allowed, workerStep, controllerStep, step}
 use Rattle.cells.specs.Memory.{Mem}
 use Rattle.reads.specs.Reads.{readPollM, readListM}
 use Rattle.controller.specs.Controller.{Machine, hearM, pollM}
 use Rattle.refinement.specs.Step.{withMem, readM, workerM, stepM}
 use Rattle.treating.specs.Treat.{treatM}
 use Rattle.cells.specs.View.{view}
-use Rattle.refinement.proofs.Allowed.{WorkerMay, worker-may, controller-may, reads-other}
 use Rattle.refinement.proofs.Answered.{answer-refines}
 use Rattle.refinement.proofs.Asked.{ask-refines}
 use Rattle.refinement.proofs.ControllerRead.{hear-refines}
@@ -53,11 +53,14 @@ module _ (sys : System) (small : Small sys) (s : Machine) (inv : Inv sys s) wher
       ∙ list-refines sys small s inv j i l h (λ q. n (ap suc q))
 
   -- the controller acts
-  controller-refines : (d : ℕ) → (eqb d pollNumber ≡ false → (0 < d) × (d ≤ sys .workers))
+  controller-refines : (d : ℕ) → controllerMay (sys .workers) d ≡ true
       → mapO (viewOf sys) (cond (eqb d pollNumber) (pollM s) (hearM sys (d - 1) s)) ≡ controllerStep sys d st
   unfolding controllerStep
   controller-refines d may =
-      mapO-cond (viewOf sys) (eqb d pollNumber) _ _ _ _ (λ p. ask-refines sys small s inv) (λ p. heard (may p .0) (may p .1))
+      mapO-cond (viewOf sys) (eqb d pollNumber) _ _ _ _ (λ p. ask-refines sys small s inv)
+      (λ p.
+      let from = reads-worker (sys .workers) d may p in
+      heard (from .0) (from .1))
     where
       heard : 0 < d → d ≤ sys .workers → mapO (viewOf sys) (hearM sys (d - 1) s) ≡ readController sys d st
       heard low high =
@@ -67,7 +70,7 @@ module _ (sys : System) (small : Small sys) (s : Machine) (inv : Inv sys s) wher
   -- treating a label refines the action of that name
   module _ (treats : (i : ℕ) → i < sys .workers → mapO seen (treatM sys i (s .mem)) ≡ treat sys (suc i) st) where
     -- a worker acts
-    worker-refines : (i d : ℕ) → i < sys .workers → WorkerMay (sys .workers) (suc i) d
+    worker-refines : (i d : ℕ) → i < sys .workers → workerMay (sys .workers) (suc i) d ≡ true
         → mapO seen (workerM sys i d s) ≡ workerStep sys (suc i) d st
     unfolding workerM workerStep
     worker-refines i d h may =
@@ -79,7 +82,7 @@ module _ (sys : System) (small : Small sys) (s : Machine) (inv : Inv sys s) wher
         read-refines i d h (other .0) (other .1))))
 
     -- a worker takes its turn
-    turn-refines : (k d : ℕ) → (k ≡ 0 → ⊥) → k ≤ sys .workers → WorkerMay (sys .workers) k d
+    turn-refines : (k d : ℕ) → (k ≡ 0 → ⊥) → k ≤ sys .workers → workerMay (sys .workers) k d ≡ true
         → mapO (viewOf sys) (withMem (s .tally) (workerM sys (k - 1) d s)) ≡ workerStep sys k d st
     turn-refines k d n l may =
         let e : suc (k - 1) ≡ k = omega arith in
@@ -102,7 +105,7 @@ module _ (sys : System) (small : Small sys) (s : Machine) (inv : Inv sys s) wher
             ≡ cond (eqb (u .actor) 0) (controllerStep sys (u .action) st) (workerStep sys (u .actor) (u .action) st)
         acts ok =
             mapO-cond (viewOf sys) (eqb (u .actor) 0) _ _ _ _
-            (λ z. controller-refines (u .action) (controller-may (sys .workers) u z ok))
+            (λ z. controller-refines (u .action) (controller-does (sys .workers) u ok z))
             (λ z.
-            let may = worker-may (sys .workers) u z ok in
+            let may = worker-does (sys .workers) u ok z in
             turn-refines (u .actor) (u .action) (eqb-false (u .actor) 0 z) (may .0) (may .1))

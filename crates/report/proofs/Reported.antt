@@ -71,7 +71,7 @@ module _ (b : List ℕ) (m : Mem) (k : ℕ) (lists : List ℕ) where
 
   pub rows-all : k ≡ variableCount b → (t : Tally)
       → rowsBefore b m k lists ≡ overwrite (listCells (systemOf (planOf b)) (view (systemOf (planOf b)) m t)) lists
-  unfolding listCells systemOf networkOf view sizeOf
+  unfolding listCells systemOf networkOf view
   rows-all e t =
       written-all (listBelow k (domainRow b m)) k (length-list-below k (domainRow b m)) lists
       ∙ ap (λ (n : ℕ). overwrite (listBelow n (domainRow b m)) lists) (e ∙ sym (variables-read b))
@@ -111,7 +111,7 @@ module _ (b : List ℕ) (m : Mem) (x : ℕ) (before : firstBelow x (emptyAt b m)
   empty-view : (t : Tally)
       → lowestEmpty (systemOf (planOf b)) (view (systemOf (planOf b)) m t)
       ≡ Option·getD (firstBelow (variableCount b) (emptyAt b m)) 0
-  unfolding lowestEmpty systemOf networkOf view sizeOf
+  unfolding lowestEmpty systemOf networkOf view
   empty-view t = ap (λ (n : ℕ). Option·getD (firstBelow n (emptyAt b m)) 0) (variables-read b)
 
   pub empty-here : x < variableCount b → domainRow b m x ≡ 0 → (t : Tally)

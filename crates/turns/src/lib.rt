@@ -3,11 +3,8 @@ use base::between;
 use base::byte_at;
 use plan::Fault;
 use plan::Verdict;
-ghost use mathlib.Core.Bool.{_&&_, _||_, not};
 ghost use mathlib.Core.Path.{_≡_};
-ghost use lib.Dec.{leb, eqb};
-ghost use Rattle.base.specs.Choice.{between as betweenOf};
-ghost use Rattle.disac4.specs.Turn.{allowed as allowedOf, turn, turnFault, turnListFits};
+ghost use Rattle.disac4.specs.Turn.{workerMay, controllerMay, allowed as allowedOf, turn, turnFault, turnListFits};
 ghost use Prim.Native.Nat.{_/_, _≤_};
 ghost use lib.ListN.{length};
 ghost use Rattle.turns.specs.Bad.{badTurn};
@@ -35,26 +32,19 @@ pub fn list_fits(turns: &[u8]) -> bool
     n % 2 == 0 && n <= 65536
 }
 
-// A worker reads from another actor.
-fn reads_other(p: usize, actor: usize, action: usize) -> bool
-    ensures { λ r. ⌜ r ≡ (leb action p && not (eqb action actor)) ⌝ }
-{
-    action <= p && action != actor
-}
-
-// A worker reads, treats, sends or answers.
+// A worker treats, sends or answers, or reads from another actor.
 fn worker_may(p: usize, actor: usize, action: usize) -> bool
-    ensures { λ r. ⌜ r ≡ ((leb action p && not (eqb action actor)) || betweenOf 9 11 action) ⌝ }
+    ensures { λ r. ⌜ r ≡ workerMay p actor action ⌝ }
 {
-    if reads_other(p, actor, action) {
+    if between(9, 11, action) {
         return true;
     }
-    between(9, 11, action)
+    action <= p && action != actor
 }
 
 // The controller reads from a worker, or polls.
 fn controller_may(p: usize, action: usize) -> bool
-    ensures { λ r. ⌜ r ≡ (betweenOf 1 p action || eqb action 12) ⌝ }
+    ensures { λ r. ⌜ r ≡ controllerMay p action ⌝ }
 {
     if between(1, p, action) {
         return true;

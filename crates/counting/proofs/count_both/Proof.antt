@@ -15,7 +15,6 @@ use Rattle.index.proofs.Places.{few-sections}
 use Rattle.plan.proofs.Links.{linked-symmetric}
 use Rattle.plan.specs.Decode.{planOf}
 use Rattle.plan.specs.Network.{shareConstraint, networkOf}
-use Rattle.plan.specs.WellFormed.{sizeOf}
 
 linked-requires : tie.Need-linked-requires
 linked-requires c κs =
@@ -54,7 +53,7 @@ same-length : tie.Need-same-length
 same-length c = search needs
 
 returns : tie.Need-returns
-unfolding systemOf networkOf sizeOf
+unfolding systemOf networkOf
 returns c =
     let p = c .before .before in
     let r = p .before .before .before .before .before in

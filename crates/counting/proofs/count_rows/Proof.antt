@@ -122,7 +122,7 @@ loop-less : tie.Need-loop-less Inv-loop μ-loop
 loop-less c = omega arith
 
 loop-again : tie.Need-loop-again Inv-loop μ-loop
-unfolding systemOf networkOf sizeOf
+unfolding systemOf networkOf
 loop-again c =
     let put = c .before .before .before .before in
     let k = put .before in
@@ -140,7 +140,7 @@ same-length : tie.Need-same-length Inv-loop μ-loop
 same-length c = omega arith
 
 returns : tie.Need-returns Inv-loop μ-loop
-unfolding systemOf networkOf sizeOf
+unfolding systemOf networkOf
 returns c =
     let l = c .before in
     let z = l .before .before .before .before in

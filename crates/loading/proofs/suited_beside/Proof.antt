@@ -11,7 +11,6 @@ use Rattle.loading.proofs.suited_beside.Statement.{statement}
 use Rattle.loading.proofs.suited_beside.Tie as tie
 use Rattle.plan.specs.Decode.{planOf}
 use Rattle.plan.specs.Network.{networkOf}
-use Rattle.plan.specs.WellFormed.{sizeOf}
 
 linked-requires : tie.Need-linked-requires
 linked-requires c κs =
@@ -33,7 +32,7 @@ counted-row-requires c κs =
     (s .pre .0, sym (c .before .linked .ensures (now (s .args .b)) (s .pre .0 .index)) ∙ not-false _ (c .if1 .left))
 
 returns-2 : tie.Need-returns-2
-unfolding systemOf networkOf sizeOf
+unfolding systemOf networkOf
 returns-2 c =
     let t = c .before in
     let s = t .before .before .before .before in

@@ -2,7 +2,7 @@
 use borrow.Author.Tests.{eq-eqb, ne-eqb}
 use Rattle.plan.specs.Answer.{planCheck}
 use Rattle.plan.specs.Decode.{planFault, decode}
-use Rattle.parser.specs.Scan.{answerOf, trailingFault, sectionsFault}
+use Rattle.parser.specs.Scan.{answerOf}
 use borrow.Author.Needs.{needs}
 use Rattle.parser.proofs.check_plan.Statement.{statement}
 use Rattle.parser.proofs.check_plan.Tie as tie
@@ -35,7 +35,7 @@ check-sections-requires : tie.Need-check-sections-requires
 check-sections-requires c κs = search needs
 
 returns-3 : tie.Need-returns-3
-unfolding planCheck decode planFault answerOf sectionsFault trailingFault
+unfolding planCheck decode planFault answerOf
 returns-3 c =
     let t = c .before in
     rw (

@@ -4,7 +4,7 @@ use Prim.Native.Nat.{suc, _-_}
 use mathlib.Core.List.{[], _∷_}
 use native.Mathlib.Numerals.{add-one}
 use native.Mathlib.Omega.{arith}
-use Rattle.disac4.proofs.Rounds.{may-hear}
+use Rattle.disac4.proofs.Allowed.{may-hear}
 use Rattle.disac4.specs.Turn.{turn}
 use Rattle.engine.proofs.Playing.{Playing, none-played, goes-on, one-more, all-played}
 use Rattle.rounds.proofs.hear_all.Statement.{statement}

@@ -4,7 +4,7 @@ use borrow.Author.Needs.{needs}
 use mathlib.Core.List.{[], _∷_, _++_}
 use denote.Ref.{now}
 use Rattle.base.specs.Below.{gatherBelow, listBelow}
-use Rattle.disac4.proofs.Rounds.{may-poll}
+use Rattle.disac4.proofs.Allowed.{may-poll}
 use Rattle.disac4.specs.Round.{workerRound, round}
 use Rattle.disac4.specs.Turn.{turn}
 use Rattle.engine.proofs.Playing.{goes-after}

@@ -3,7 +3,7 @@ use native.Mathlib.Omega.{arith}
 use borrow.Author.Needs.{needs}
 use borrow.Author.Tests.{eq-eqb, ne-eqb}
 use denote.Ref.{now}
-use Rattle.disac4.proofs.Rounds.{may-read}
+use Rattle.disac4.proofs.Allowed.{may-read}
 use Rattle.engine.proofs.Working.{running-playable, works-none}
 use Rattle.rounds.proofs.read_other.Statement.{statement}
 use Rattle.rounds.proofs.read_other.Tie as tie

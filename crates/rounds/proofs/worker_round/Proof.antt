@@ -5,7 +5,7 @@ use mathlib.Core.List.{[], _∷_, map}
 use mathlib.Core.Path.{refl}
 use native.Mathlib.Omega.{arith}
 use denote.Ref.{now}
-use Rattle.disac4.proofs.Rounds.{may-work}
+use Rattle.disac4.proofs.Allowed.{may-work}
 use Rattle.disac4.specs.Round.{others, workerRound}
 use Rattle.disac4.specs.Turn.{turn}
 use Rattle.engine.proofs.Advancing.{counts-room}

@@ -3,7 +3,8 @@ use borrow.Author.Tests.{lt-ltb, le-ltb}
 use mathlib.Core.Path.{ap}
 use lib.ListN.{length}
 use Rattle.plan.proofs.Answer.{figures-built}
-use Rattle.parser.specs.Scan.{answerOf, trailingFault}
+use Rattle.plan.specs.Decode.{trailingFault}
+use Rattle.parser.specs.Scan.{answerOf}
 use Rattle.plan.specs.declared.Checked.the-variants.{Accepted}
 use borrow.Author.Needs.{needs}
 use Rattle.parser.proofs.scan.check_end.Statement.{statement}

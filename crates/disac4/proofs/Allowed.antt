@@ -1,0 +1,96 @@
+-- Which turns are allowed: taken apart, and put together.
+use Prim.Native.Nat.{ℕ, _<_, _≤_}
+use mathlib.Core.Bool.{true, false, _&&_, not}
+use mathlib.Core.Logic.{_⊎_, inl, inr, ⊎-elim}
+use mathlib.Core.Path.{_≡_, refl, sym, _∙_}
+use native.Mathlib.Omega.{arith}
+use borrow.Author.Tests.{leb-true, eqb-false, le-leb, ne-eqb, not-true}
+use lib.Dec.{leb, eqb}
+use Rattle.base.proofs.Bools.{clash, and-left, and-right, and-intro, or-cases, or-left, or-right, not-of}
+use Rattle.base.proofs.Choice.{cond-true, cond-false, between-low, between-high}
+use Rattle.base.specs.Choice.{between}
+use Rattle.disac4.specs.Turn.{Turn, turn, treatNumber, sendNumber, answerNumber, pollNumber, workerMay, controllerMay, allowed}
+
+-- ---- taken apart
+
+-- a worker reads from another actor, or treats, sends or answers
+pub worker-cases : (p k d : ℕ) → workerMay p k d ≡ true
+    → ((d ≤ p) × (d ≡ k → ⊥)) ⊎ (between treatNumber answerNumber d ≡ true)
+unfolding workerMay
+worker-cases p k d ok =
+    ⊎-elim
+    (λ e.
+    inl (
+      leb-true d p (and-left (leb d p) (not (eqb d k)) e),
+      eqb-false d k (not-true (eqb d k) (and-right (leb d p) (not (eqb d k)) e)),
+    ))
+    inr (or-cases (leb d p && not (eqb d k)) (between treatNumber answerNumber d) ok)
+
+-- so it reads from another actor where it does none of the three
+pub reads-other : (p k d : ℕ) → workerMay p k d ≡ true → eqb d treatNumber ≡ false → eqb d sendNumber ≡ false
+    → eqb d answerNumber ≡ false → (d ≤ p) × (d ≡ k → ⊥)
+reads-other p k d ok n₁ n₂ n₃ =
+    ⊎-elim (λ a. a)
+    (λ b.
+    absurd
+    (omega (
+      arith,
+      between-low treatNumber answerNumber d b,
+      between-high treatNumber answerNumber d b,
+      eqb-false d treatNumber n₁,
+      eqb-false d sendNumber n₂,
+      eqb-false d answerNumber n₃,
+    )))
+    (worker-cases p k d ok)
+
+-- the controller reads from a worker, or polls
+pub controller-cases : (p d : ℕ) → controllerMay p d ≡ true → ((0 < d) × (d ≤ p)) ⊎ (eqb d pollNumber ≡ true)
+unfolding controllerMay
+controller-cases p d ok =
+    ⊎-elim (λ b. inl (between-low 1 p d b, between-high 1 p d b)) inr (or-cases (between 1 p d) (eqb d pollNumber) ok)
+
+-- so it reads from a worker where it does not poll
+pub reads-worker : (p d : ℕ) → controllerMay p d ≡ true → eqb d pollNumber ≡ false → (0 < d) × (d ≤ p)
+reads-worker p d ok n = ⊎-elim (λ a. a) (λ e. clash e n) (controller-cases p d ok)
+
+module _ (p : ℕ) (t : Turn) (ok : allowed p t ≡ true) where
+  -- an allowed turn of a worker
+  pub worker-does : eqb (t .actor) 0 ≡ false → (t .actor ≤ p) × (workerMay p (t .actor) (t .action) ≡ true)
+  unfolding allowed
+  worker-does n =
+      let may = workerMay p (t .actor) (t .action) in
+      let both = sym (cond-false (controllerMay p (t .action)) (leb (t .actor) p && may) n) ∙ ok in
+      (leb-true (t .actor) p (and-left (leb (t .actor) p) may both), and-right (leb (t .actor) p) may both)
+
+  -- and of the controller
+  pub controller-does : eqb (t .actor) 0 ≡ true → controllerMay p (t .action) ≡ true
+  unfolding allowed
+  controller-does e =
+      sym (cond-true (controllerMay p (t .action)) (leb (t .actor) p && workerMay p (t .actor) (t .action)) e) ∙ ok
+
+-- ---- put together
+
+worker-allowed : (p k d : ℕ) → 0 < k → k ≤ p → workerMay p k d ≡ true → allowed p (turn k d) ≡ true
+unfolding allowed
+worker-allowed p k d h b e =
+    cond-false (controllerMay p d) (leb k p && workerMay p k d) (ne-eqb k 0 (λ q. omega arith)) ∙ and-intro (le-leb k p b) e
+
+-- a worker may read from every other actor
+pub may-read : (p k j : ℕ) → 0 < k → k ≤ p → j ≤ p → (j ≡ k → ⊥) → allowed p (turn k j) ≡ true
+unfolding workerMay
+may-read p k j h b a n = worker-allowed p k j h b (or-left _ (and-intro (le-leb j p a) (not-of (ne-eqb j k n))))
+
+-- and treat, send and answer
+pub may-work : (p k d : ℕ) → 0 < k → k ≤ p → between treatNumber answerNumber d ≡ true → allowed p (turn k d) ≡ true
+unfolding workerMay
+may-work p k d h b e = worker-allowed p k d h b (or-right (leb d p && not (eqb d k)) e)
+
+-- the controller may read from every worker
+pub may-hear : (p k : ℕ) → 0 < k → k ≤ p → allowed p (turn 0 k) ≡ true
+unfolding allowed controllerMay
+may-hear p k h b = or-left _ (and-intro (le-leb 1 k h) (le-leb k p b))
+
+-- and poll
+pub may-poll : (p : ℕ) → allowed p (turn 0 pollNumber) ≡ true
+unfolding allowed controllerMay
+may-poll p = or-right (between 1 p pollNumber) refl
