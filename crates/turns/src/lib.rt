@@ -32,24 +32,19 @@ pub fn list_fits(turns: &[u8]) -> bool
     n % 2 == 0 && n <= 65536
 }
 
-// A worker treats, sends or answers, or reads from another actor.
+// A worker reads from another actor, or treats, sends or answers. Here and below both tests are made: the turns of a list are
+// of all kinds, so a test that hangs on another one would cost more than it spares.
 fn worker_may(p: usize, actor: usize, action: usize) -> bool
     ensures { λ r. ⌜ r ≡ workerMay p actor action ⌝ }
 {
-    if between(9, 11, action) {
-        return true;
-    }
-    action <= p && action != actor
+    ((action <= p) & (action != actor)) | between(9, 11, action)
 }
 
 // The controller reads from a worker, or polls.
 fn controller_may(p: usize, action: usize) -> bool
     ensures { λ r. ⌜ r ≡ controllerMay p action ⌝ }
 {
-    if between(1, p, action) {
-        return true;
-    }
-    action == 12
+    between(1, p, action) | (action == 12)
 }
 
 // Whether the actor may take this action, with p workers.

@@ -1,5 +1,8 @@
 -- `turns::controller_may` is the test of the controller's actions. Assumes nothing.
 use borrow.Author.Needs.{needs}
+use lib.Dec.{eqb}
+use mathlib.Core.Bool.{Bool, _||_}
+use mathlib.Core.Path.{ap}
 use Rattle.disac4.specs.Turn.{controllerMay}
 use Rattle.turns.proofs.controller_may.Statement.{statement}
 use Rattle.turns.proofs.controller_may.Tie as tie
@@ -9,11 +12,7 @@ between-requires c κs = search needs
 
 returns : tie.Need-returns
 unfolding controllerMay
-returns c = rw (← c .before .between .ensures, c .if1 .taken)
-
-returns-2 : tie.Need-returns-2
-unfolding controllerMay
-returns-2 c = rw (← c .before .between .ensures, c .if1 .left)
+returns c = ap (λ (t : Bool). t || eqb (c .before .args .action) 12) (c .between .ensures)
 
 pub controller-may-spec : {M : Type 1} → statement M
-controller-may-spec = tie.close (tie.spec between-requires returns returns-2)
+controller-may-spec = tie.close (tie.spec between-requires returns)
