@@ -6,7 +6,7 @@ use format::read;
 use index::parts;
 ghost use mathlib.Core.Bool.{true};
 ghost use mathlib.Core.Path.{_≡_};
-ghost use Prim.Native.Nat.{ℕ, _+_, _<_, _≤_};
+ghost use Prim.Native.Nat.{ℕ, _+_, _<_};
 ghost use lib.ListN.{length, getD};
 ghost use Rattle.base.specs.Below.{one};
 ghost use Rattle.base.specs.Row.{bit};

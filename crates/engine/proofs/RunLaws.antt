@@ -3,57 +3,30 @@ use Prim.Native.Nat.{ℕ, _-_, _<_, _≤_}
 use mathlib.Core.Bool.{Bool, true, false, cond, _&&_}
 use mathlib.Core.List.{List}
 use mathlib.Core.Option.{Option, none, some, Option·getD}
-use mathlib.Core.Path.{_≡_, refl, sym, _∙_, ap, subst}
+use mathlib.Core.Path.{_≡_, refl, sym, _∙_, ap}
 use native.Mathlib.Omega.{arith}
 use mathlib.Core.Logic.{⊎-elim}
 use borrow.Author.Tests.{eq-eqb, ne-eqb}
 use lib.Dec.{eqb}
-use lib.ListN.{length, replicate}
 use Rattle.base.proofs.Bools.{or-false, not-of-true}
 use Rattle.base.proofs.Choice.{cond-true, cond-false, between-high}
 use Rattle.base.specs.Below.{one}
 use Rattle.disac4.proofs.Allowed.{worker-cases, worker-does, controller-does, reads-worker}
-use Rattle.disac4.specs.Outcome.{overwrite, workNeed, systemAt}
+use Rattle.disac4.specs.Outcome.{systemAt}
 use Rattle.disac4.specs.System.{System, systemOf}
 use Rattle.disac4.specs.Turn.{turn, treatNumber, answerNumber, pollNumber, allowed}
 use Rattle.disac4.specs.declared.Tally.{Tally}
-use Rattle.refinement.proofs.Behind.{cleared-memory}
-use Rattle.index.proofs.Chains.{indexed}
-use Rattle.index.specs.Index.{Ready, Indexed, indexM}
-use Rattle.loading.specs.Load.{loadM}
-use Rattle.cells.specs.Memory.{Mem, memOf, clearedM, left, changed, Acts}
+use Rattle.cells.specs.Memory.{Mem, memOf, left, changed, Acts}
 use Rattle.sends.specs.Sends.{sendM}
 use Rattle.reads.specs.Reads.{readPollM, readListM}
 use Rattle.answers.specs.Answers.{answerM}
-use Rattle.refinement.specs.Run.{freshTally, startM, readOn, workerOn, turnOn}
+use Rattle.refinement.specs.Run.{readOn, workerOn, turnOn}
 use Rattle.controller.specs.Controller.{Machine, machine, Hears, hearM, pollM}
 use Rattle.refinement.specs.Step.{withMem, readM, workerM, stepM}
 use Rattle.treating.specs.Treat.{treatM}
 use Rattle.controller.specs.declared.Heard.{Heard}
-use Rattle.plan.specs.Decode.{planFault, planOf}
+use Rattle.plan.specs.Decode.{planOf}
 use Rattle.format.specs.Format.{workerCount}
-
--- ---- the start
-
-module _ (b c₀ c₁ c₂ : List ℕ) (sound : planFault b ≡ none) (cleared : c₁ ≡ overwrite (replicate workNeed 0) c₀)
-    (made : memOf c₂ ≡ indexM b (memOf c₁)) where
-  ground : memOf c₂ ≡ indexM b (clearedM (memOf c₀))
-  ground = made ∙ ap (indexM b) (ap memOf cleared ∙ cleared-memory c₀)
-
-  -- cleared and indexed cells are ready to load the plan
-  pub start-ready : 24576 ≤ length c₂ → Ready b c₂
-  unfolding clearedM
-  start-ready long = record {
-    sound = sound;
-    index = subst (Indexed b) (sym ground) (indexed b sound (clearedM (memOf c₀)) (λ x y. refl) (λ i y. refl));
-    long = long;
-  }
-
-  -- and loaded, they are where a run starts
-  pub start-made : (c₃ : List ℕ) (t : Tally) → memOf c₃ ≡ loadM (systemOf (planOf b)) (memOf c₂) → t ≡ freshTally
-      → machine c₃ t ≡ startM b (memOf c₀)
-  unfolding startM systemAt
-  start-made c₃ t e f = λ i. record { mem = (e ∙ ap (loadM (systemOf (planOf b))) ground) i; tally = f i }
 
 -- ---- a worker's action, by its number
 

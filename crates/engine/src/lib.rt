@@ -1,4 +1,3 @@
-// Runs on lent cells: the plan is loaded, turns are played, the report is given and the cells are cleared.
-pub mod finish;
+// Turns played on lent cells, where a plan is loaded: one after the other, or the turns of a list.
 pub mod play;
 pub mod run;

@@ -1,49 +1,20 @@
-// A run: the plan is loaded, and turns are played one after the other.
-use cells::clear;
+// The turns of a run.
 use controller::Heard;
-use disac4::ListCounter;
 use disac4::Tally;
-use disac4::Timestamp;
 use refinement::Progress;
 ghost use mathlib.Core.Bool.{true, cond};
 ghost use mathlib.Core.List.{[], _∷_};
-ghost use mathlib.Core.Option.{none};
 ghost use mathlib.Core.Path.{_≡_};
 ghost use Prim.Native.Nat.{_<_, _≤_};
 ghost use lib.Dec.{eqb};
 ghost use lib.ListN.{length};
 ghost use Rattle.disac4.specs.Outcome.{systemAt};
 ghost use Rattle.disac4.specs.Turn.{allowed, turn};
-ghost use Rattle.cells.specs.Memory.{memOf, Acts};
+ghost use Rattle.cells.specs.Memory.{Acts};
 ghost use Rattle.engine.specs.Play.{Running, Works};
-ghost use Rattle.refinement.specs.Run.{freshTally, startM, Playable, readOn, workerOn, turnOn, Going, Plays};
-ghost use Rattle.controller.specs.Controller.{machine, Hears};
-ghost use Rattle.plan.specs.Decode.{planFault};
+ghost use Rattle.refinement.specs.Run.{Playable, readOn, workerOn, turnOn, Going, Plays};
+ghost use Rattle.controller.specs.Controller.{Hears};
 ghost use Rattle.format.specs.Format.{workerCount};
-
-// The tally as loaded.
-fn fresh() -> Tally
-    ensures { λ r. ⌜ r ≡ freshTally ⌝ }
-{
-    Tally {
-        lists: ListCounter(0),
-        timestamp: Timestamp(0),
-        marks: 0,
-        polling: false,
-        closed: false,
-    }
-}
-
-// Loads an accepted plan, whatever the cells held.
-pub fn start(b: &[u8], cells: &mut [u16]) -> Tally
-    requires { ⌜ (planFault (now b) ≡ none) × (24576 ≤ length (now cells)) ⌝ }
-    ensures { λ r. ⌜ machine (now (cells .exit)) r ≡ startM (now (b .entry)) (memOf (now (cells .entry))) ⌝ }
-{
-    clear::clear(cells);
-    indexing::index_plan(b, cells);
-    loading::load_plan(b, cells);
-    fresh()
-}
 
 // Row `i` reads from actor `d`: the next poll, or the next list message.
 fn read(cells: &mut [u16], t: Tally, i: usize, d: usize) -> usize

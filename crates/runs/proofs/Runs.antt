@@ -2,27 +2,19 @@
 use Prim.Native.Nat.{ℕ, _^_, _<_, _≤_}
 use mathlib.Core.List.{List, []}
 use mathlib.Core.Option.{none}
-use mathlib.Core.Path.{_≡_, refl, _∙_, ap}
+use mathlib.Core.Path.{_≡_, _∙_, ap}
 use lib.ListN.{length}
 use Rattle.disac4.specs.Outcome.{Gives, played, systemAt}
 use Rattle.disac4.specs.Round.{roundRunTurns}
 use Rattle.disac4.specs.Turn.{Turn}
 use Rattle.disac4.specs.declared.Answer.the-variants.{Reported}
 use Rattle.disac4.specs.declared.Report.{Report}
-use Rattle.disac4.specs.declared.Tally.{Tally}
-use Rattle.engine.proofs.Finishing.{work-of-turns}
+use Rattle.ends.proofs.Finishing.{work-of-turns}
 use Rattle.cells.specs.Memory.{Mem, memOf}
 use Rattle.rounds.specs.Rounds.{Begun, PlaysRounds}
-use Rattle.refinement.specs.Run.{startM, playM, countM, At, Going, Plays, Finishes}
-use Rattle.controller.specs.Controller.{machine}
+use Rattle.refinement.specs.Run.{At, Going, Plays, Finishes}
 use Rattle.refinement.specs.declared.Progress.{Progress}
 use Rattle.plan.specs.Decode.{planFault}
-
--- a loaded plan has played no turns
-pub begins : (b : List ℕ) (m : Mem) (cells : List ℕ) (t : Tally) → machine cells t ≡ startM b m
-    → At b m [] cells (record { tally = t; changes = 0; sends = 0; polls = 0 })
-unfolding playM countM
-begins b m cells t e = record { stands = e; changes = refl; sends = refl; polls = refl }
 
 -- a run that has played its turns and ends
 pub ends : (b : List ℕ) → planFault b ≡ none → (work cells lists work′ lists′ : List ℕ) (ts : List Turn) (g : Progress) (r : Report)

@@ -1,8 +1,6 @@
 // Whole runs on an accepted plan: it is loaded, the turns are played, and the run ends with its report.
 use disac4::Answer;
 use disac4::Report;
-use refinement::Progress;
-ghost use mathlib.Core.List.{[]};
 ghost use mathlib.Core.Option.{none};
 ghost use mathlib.Core.Path.{_≡_};
 ghost use Prim.Native.Nat.{_≤_};
@@ -10,33 +8,17 @@ ghost use lib.ListN.{length};
 ghost use Rattle.disac4.specs.Outcome.{Gives, played, systemAt};
 ghost use Rattle.disac4.specs.Round.{roundRunTurns};
 ghost use Rattle.disac4.specs.Turn.{turnFault, turnsOf};
-ghost use Rattle.cells.specs.Memory.{memOf};
-ghost use Rattle.refinement.specs.Run.{At};
 ghost use Rattle.plan.specs.Decode.{planFault};
 ghost use Rattle.format.specs.Format.{workerCount};
-
-// Loads an accepted plan: a run that has played no turns.
-fn load(plan: &[u8], work: &mut [u16]) -> Progress
-    requires { ⌜ (planFault (now plan) ≡ none) × (24576 ≤ length (now work)) ⌝ }
-    ensures { λ r. ⌜ At (now (plan .entry)) (memOf (now (work .entry))) [] (now (work .exit)) r ⌝ }
-{
-    let t = engine::run::start(plan, work);
-    Progress {
-        tally: t,
-        changes: 0,
-        sends: 0,
-        polls: 0,
-    }
-}
 
 // Plays a list of allowed turns on an accepted plan.
 pub fn play_list(plan: &[u8], turns: &[u8], work: &mut [u16], lists: &mut [u16], p: usize) -> Report
     requires { ⌜ (planFault (now plan) ≡ none) × (24576 ≤ length (now work)) × (32 ≤ length (now lists)) × (p ≡ workerCount (now plan)) × (turnFault p (now turns) ≡ none) ⌝ }
     ensures { λ r. ⌜ Gives (played (now (work .entry)) (now (lists .entry)) (systemAt (now (plan .entry))) (turnsOf (now (turns .entry)))) (Answer.Reported r) (now (work .exit)) (now (lists .exit)) ⌝ }
 {
-    let start = load(plan, work);
+    let start = ends::load(plan, work);
     let g = engine::play::play_turns(plan, turns, work, start, p);
-    engine::finish::finish(plan, work, lists, g)
+    ends::finish(plan, work, lists, g)
 }
 
 // Plays rounds on an accepted plan until it is closed.
@@ -44,7 +26,7 @@ pub fn play_rounds(plan: &[u8], work: &mut [u16], lists: &mut [u16], p: usize) -
     requires { ⌜ (planFault (now plan) ≡ none) × (24576 ≤ length (now work)) × (32 ≤ length (now lists)) × (p ≡ workerCount (now plan)) ⌝ }
     ensures { λ r. ⌜ Gives (played (now (work .entry)) (now (lists .entry)) (systemAt (now (plan .entry))) (roundRunTurns (systemAt (now (plan .entry))))) (Answer.Reported r) (now (work .exit)) (now (lists .exit)) ⌝ }
 {
-    let start = load(plan, work);
+    let start = ends::load(plan, work);
     let g = rounds::play_rounds(plan, work, start, p);
-    engine::finish::finish(plan, work, lists, g)
+    ends::finish(plan, work, lists, g)
 }

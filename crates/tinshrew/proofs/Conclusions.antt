@@ -39,7 +39,7 @@ use Rattle.plan.specs.Network.{networkOf}
 use Rattle.format.specs.Format.{workerCount}
 use Rattle.plan.specs.declared.Decline.{Decline}
 use Rattle.plan.specs.declared.Fault.the-variants.{BadTurnList}
-use Rattle.tinshrew.proofs.Outcomes.{long-enough}
+use Rattle.calls.proofs.Outcomes.{long-enough}
 use Rattle.tinshrew.specs.Conclusions.{listedIn, Concluded}
 
 -- ---- from a report to what was checked

@@ -4,7 +4,6 @@ use denote.Ref.{now}
 use mathlib.Core.Bool.{Bool}
 use mathlib.Core.Path.{_≡_, sym, _∙_}
 use native.Mathlib.Omega.{arith}
-use Rattle.cells.specs.Memory.{memOf}
 use Rattle.counting.proofs.CountLaws.{both-linked, both-apart}
 use Rattle.counting.proofs.Kept.{pair-kept}
 use Rattle.counting.proofs.count_both.Statement.{statement}

@@ -1,6 +1,6 @@
 -- `counting::count_rows` stores the counts of a variable's values against another, and returns the counts in the other
 -- direction. Invariant: those of the first v values are stored, and their rows added up. Assumes nothing.
-use Prim.Native.Nat.{ℕ, _-_, _<_, _≤_}
+use Prim.Native.Nat.{ℕ, _-_, _≤_}
 use denote.Ref.{now}
 use lib.ListN.{length}
 use mathlib.Core.List.{List}

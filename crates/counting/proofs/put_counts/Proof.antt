@@ -1,10 +1,9 @@
 -- `counting::put_counts` stores the counts that it is given. Invariant: those of the first v values are stored. Assumes
 -- nothing.
-use Prim.Native.Nat.{ℕ, _-_, _<_, _≤_}
+use Prim.Native.Nat.{_-_, _≤_}
 use borrow.Author.Needs.{needs}
 use denote.Ref.{now}
 use lib.ListN.{length, getD}
-use mathlib.Core.List.{List}
 use mathlib.Core.Path.{_≡_, refl, _∙_}
 use native.Mathlib.Omega.{arith}
 use Rattle.cells.proofs.Ranges.{may-put}

@@ -1,8 +1,8 @@
--- `runs::load` loads an accepted plan. Assumes nothing.
+-- `ends::load` loads an accepted plan. Assumes nothing.
 use borrow.Author.Needs.{needs}
-use Rattle.runs.proofs.Runs.{begins}
-use Rattle.runs.proofs.load.Statement.{statement}
-use Rattle.runs.proofs.load.Tie as tie
+use Rattle.ends.proofs.Starting.{begins}
+use Rattle.ends.proofs.load.Statement.{statement}
+use Rattle.ends.proofs.load.Tie as tie
 
 start-requires : tie.Need-start-requires
 start-requires c κs = search needs

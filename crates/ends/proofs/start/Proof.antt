@@ -1,10 +1,10 @@
--- `engine::run::start` loads the plan. Assumes nothing.
+-- `ends::start` loads the plan. Assumes nothing.
 use native.Mathlib.Omega.{arith}
 use denote.Ref.{now}
-use Rattle.engine.proofs.RunLaws.{start-ready, start-made}
+use Rattle.ends.proofs.Starting.{start-ready, start-made}
 use borrow.Author.Needs.{needs}
-use Rattle.engine.proofs.run.start.Statement.{statement}
-use Rattle.engine.proofs.run.start.Tie as tie
+use Rattle.ends.proofs.start.Statement.{statement}
+use Rattle.ends.proofs.start.Tie as tie
 
 clear-requires : tie.Need-clear-requires
 clear-requires c κs = search needs

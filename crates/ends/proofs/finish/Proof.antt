@@ -1,9 +1,9 @@
--- `engine::finish::finish` ends a run. Assumes nothing.
+-- `ends::finish` ends a run. Assumes nothing.
 use denote.Ref.{now}
-use Rattle.engine.proofs.Finishing.{going-ready, finishes}
+use Rattle.ends.proofs.Finishing.{going-ready, finishes}
 use borrow.Author.Needs.{needs}
-use Rattle.engine.proofs.finish.finish.Statement.{statement}
-use Rattle.engine.proofs.finish.finish.Tie as tie
+use Rattle.ends.proofs.finish.Statement.{statement}
+use Rattle.ends.proofs.finish.Tie as tie
 
 write-lists-requires : tie.Need-write-lists-requires
 write-lists-requires c κs =

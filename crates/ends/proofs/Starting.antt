@@ -1,0 +1,43 @@
+-- Cleared, indexed and loaded cells are where a run starts.
+use Prim.Native.Nat.{ℕ, _≤_}
+use mathlib.Core.List.{List, []}
+use mathlib.Core.Option.{none}
+use mathlib.Core.Path.{_≡_, refl, sym, _∙_, ap, subst}
+use lib.ListN.{length, replicate}
+use Rattle.cells.specs.Memory.{Mem, memOf, clearedM}
+use Rattle.controller.specs.Controller.{machine}
+use Rattle.disac4.specs.Outcome.{overwrite, workNeed, systemAt}
+use Rattle.disac4.specs.System.{systemOf}
+use Rattle.disac4.specs.declared.Tally.{Tally}
+use Rattle.index.proofs.Chains.{indexed}
+use Rattle.index.specs.Index.{Ready, Indexed, indexM}
+use Rattle.loading.specs.Load.{loadM}
+use Rattle.plan.specs.Decode.{planFault, planOf}
+use Rattle.refinement.proofs.Behind.{cleared-memory}
+use Rattle.refinement.specs.Run.{freshTally, startM, playM, countM, At}
+
+module _ (b c₀ c₁ c₂ : List ℕ) (sound : planFault b ≡ none) (cleared : c₁ ≡ overwrite (replicate workNeed 0) c₀)
+    (made : memOf c₂ ≡ indexM b (memOf c₁)) where
+  ground : memOf c₂ ≡ indexM b (clearedM (memOf c₀))
+  ground = made ∙ ap (indexM b) (ap memOf cleared ∙ cleared-memory c₀)
+
+  -- cleared and indexed cells are ready to load the plan
+  pub start-ready : 24576 ≤ length c₂ → Ready b c₂
+  unfolding clearedM
+  start-ready long = record {
+    sound = sound;
+    index = subst (Indexed b) (sym ground) (indexed b sound (clearedM (memOf c₀)) (λ x y. refl) (λ i y. refl));
+    long = long;
+  }
+
+  -- and loaded, they are where a run starts
+  pub start-made : (c₃ : List ℕ) (t : Tally) → memOf c₃ ≡ loadM (systemOf (planOf b)) (memOf c₂) → t ≡ freshTally
+      → machine c₃ t ≡ startM b (memOf c₀)
+  unfolding startM systemAt
+  start-made c₃ t e f = λ i. record { mem = (e ∙ ap (loadM (systemOf (planOf b))) ground) i; tally = f i }
+
+-- a loaded plan has played no turns
+pub begins : (b : List ℕ) (m : Mem) (cells : List ℕ) (t : Tally) → machine cells t ≡ startM b m
+    → At b m [] cells (record { tally = t; changes = 0; sends = 0; polls = 0 })
+unfolding playM countM
+begins b m cells t e = record { stands = e; changes = refl; sends = refl; polls = refl }
