@@ -1,16 +1,14 @@
 -- From the tests and the turns that were played to the outcome that the definitions lay down.
 use Prim.Native.Nat.{ℕ, _<_, _≤_}
-use mathlib.Core.Bool.{Bool, true, false}
-use mathlib.Core.List.{List, [], _∷_}
+use mathlib.Core.Bool.{true}
+use mathlib.Core.List.{List}
 use mathlib.Core.Option.{Option, none, some}
 use mathlib.Core.Path.{_≡_, refl, ap}
-use native.Mathlib.Omega.{arith}
-use borrow.Author.Tests.{lt-ltb, le-ltb, leb-true}
-use lib.Dec.{leb}
+use borrow.Author.Tests.{lt-ltb, le-ltb}
 use lib.ListN.{length}
 use Rattle.base.specs.Choice.{firstOf}
 use Rattle.disac4.proofs.Order.{then-plan}
-use Rattle.disac4.specs.Outcome.{Outcome, Gives, played, refused, unlessFault, bufferChecks, bufferFault, inputFault, workNeed, listNeed, systemAt, turnRun, roundRun}
+use Rattle.disac4.specs.Outcome.{Outcome, Gives, played, refused, unlessFault, bufferChecks, bufferFault, inputFault, systemAt, turnRun, roundRun}
 use Rattle.disac4.specs.Round.{roundRunTurns}
 use Rattle.disac4.specs.Turn.{turnsOf, turnListFits, turnFault}
 use Rattle.disac4.specs.declared.Answer.{Answer}
@@ -18,13 +16,13 @@ use Rattle.disac4.specs.declared.Answer.the-variants.{Reported, Declined}
 use Rattle.disac4.specs.declared.Report.{Report}
 use Rattle.turns.specs.Bad.{badTurn}
 use Rattle.parser.proofs.Scanned.{verdict-passes, verdict-fails}
-use Rattle.plan.specs.Check.{_orElse_, firstFault, faultAt, verdictOf}
+use Rattle.plan.specs.Check.{firstFault, faultAt, verdictOf}
 use Rattle.plan.specs.Decode.{planFault}
 use Rattle.plan.specs.Fault.{decline}
 use Rattle.format.specs.Format.{workerCount}
 use Rattle.plan.specs.declared.Decline.{Decline}
 use Rattle.plan.specs.declared.Fault.{Fault}
-use Rattle.plan.specs.declared.Fault.the-variants.{ShortWork, ShortLists, BadTurn}
+use Rattle.plan.specs.declared.Fault.the-variants.{BadTurn}
 use Rattle.plan.specs.declared.Verdict.{Verdict}
 use Rattle.plan.specs.declared.Verdict.the-variants.{Passes, Fails}
 
@@ -50,20 +48,6 @@ module _ (work lists : List ℕ) (v : Verdict) (e : v ≡ verdictOf (firstFault 
   pub buffers-fail : (f : Fault) → v ≡ Fails f → bufferFault work lists ≡ some (decline f 0)
   unfolding bufferFault
   buffers-fail f is = ap (faultAt 0) (verdict-fails (firstFault (bufferChecks work lists)) v f e is)
-
--- buffers that pass are long enough
-pub long-enough : (work lists : List ℕ) → bufferFault work lists ≡ none
-    → (workNeed ≤ length work) × (listNeed ≤ length lists)
-unfolding bufferFault bufferChecks
-long-enough work lists e =
-    let h = both (leb workNeed (length work)) (leb listNeed (length lists)) e in
-    (leb-true workNeed (length work) (h .0), leb-true listNeed (length lists) (h .1))
-  where
-    both : (s t : Bool) → faultAt 0 (firstFault ((s orElse ShortWork) ∷ (t orElse ShortLists) ∷ [])) ≡ none
-        → (s ≡ true) × (t ≡ true)
-    both true true p = (refl, refl)
-    both true false p = let z : _≡_ {A = ℕ} 0 1 = cc in absurd (omega arith)
-    both false t p = let z : _≡_ {A = ℕ} 0 1 = cc in absurd (omega arith)
 
 -- ---- the turn run
 

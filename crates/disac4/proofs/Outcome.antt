@@ -10,6 +10,7 @@ use lib.Seq.{getD-append-add, getD-drop}
 use Rattle.base.specs.Choice.{firstOf}
 use Rattle.plan.specs.Decode.{planFault}
 use Rattle.plan.specs.declared.Decline.{Decline}
+use Rattle.disac4.proofs.Passed.{Room, turns-pass, round-passes, has-room}
 use Rattle.disac4.specs.Outcome.{Outcome, overwrite, refused, played, unlessFault, turnRun, roundRun, bufferFault, inputFault, systemAt, workNeed, Untouched, Written}
 use Rattle.disac4.specs.Report.{listCells, final, reportOf}
 use Rattle.disac4.specs.Round.{roundRunTurns}
@@ -50,11 +51,7 @@ module _ (work lists : List ℕ) (sys : System) (turns : List Turn) where
   declined-untouched none d e = absurd (let z : _≡_ {A = ℕ} 0 1 = cc in omega arith)
   declined-untouched (some f) d e = record { same-work = refl; same-lists = refl }
 
-  -- the buffers have room for what the run writes
-  abbrev pub Room : Type 0
-  Room = (workNeed ≤ length work) × (length (listCells sys (final sys turns)) ≤ length lists)
-
-  run-written : Room → Written work lists sys turns (played work lists sys turns)
+  run-written : Room work lists sys turns → Written work lists sys turns (played work lists sys turns)
   unfolding played
   run-written room = record {
     work-length = overwrite-length (replicate workNeed 0) work (omega (arith, length-replicate {A = ℕ} workNeed 0, room .0));
@@ -67,7 +64,7 @@ module _ (work lists : List ℕ) (sys : System) (turns : List Turn) where
     lists-kept = overwrite-back (listCells sys (final sys turns)) lists;
   }
 
-  reported-written : Room → (o : Option Decline) (r : Report) → Ends o .answer ≡ Reported r
+  reported-written : Room work lists sys turns → (o : Option Decline) (r : Report) → Ends o .answer ≡ Reported r
       → (r ≡ reportOf sys turns) × Written work lists sys turns (Ends o)
   unfolding played refused
   reported-written room none r e = (let z : r ≡ reportOf sys turns = cc in z, run-written room)
@@ -90,18 +87,21 @@ roundRun-declined b work lists d e =
     declined-untouched work lists (systemAt b) (roundRunTurns (systemAt b)) (firstOf (bufferFault work lists) (planFault b)) d e
 
 -- a turn run that reports gives the report of its turns, and its cells
-pub turnRun-reported : (b ts work lists : List ℕ) → Room work lists (systemAt b) (turnsOf ts) → (r : Report)
-    → turnRun b ts work lists .answer ≡ Reported r
+pub turnRun-reported : (b ts work lists : List ℕ) (r : Report) → turnRun b ts work lists .answer ≡ Reported r
     → (r ≡ reportOf (systemAt b) (turnsOf ts)) × Written work lists (systemAt b) (turnsOf ts) (turnRun b ts work lists)
 unfolding turnRun
-turnRun-reported b ts work lists room r e =
-    reported-written work lists (systemAt b) (turnsOf ts) room (firstOf (bufferFault work lists) (inputFault b ts)) r e
+turnRun-reported b ts work lists r e =
+    let passed = turns-pass b work lists r ts e in
+    reported-written work lists (systemAt b) (turnsOf ts) (has-room b work lists (passed .0) (passed .1) (turnsOf ts))
+    (firstOf (bufferFault work lists) (inputFault b ts)) r e
 
 -- a round run that reports gives the report of its turns, and its cells
-pub roundRun-reported : (b work lists : List ℕ) → Room work lists (systemAt b) (roundRunTurns (systemAt b)) → (r : Report)
-    → roundRun b work lists .answer ≡ Reported r
+pub roundRun-reported : (b work lists : List ℕ) (r : Report) → roundRun b work lists .answer ≡ Reported r
     → (r ≡ reportOf (systemAt b) (roundRunTurns (systemAt b)))
     × Written work lists (systemAt b) (roundRunTurns (systemAt b)) (roundRun b work lists)
 unfolding roundRun
-roundRun-reported b work lists room r e =
-    reported-written work lists (systemAt b) (roundRunTurns (systemAt b)) room (firstOf (bufferFault work lists) (planFault b)) r e
+roundRun-reported b work lists r e =
+    let passed = round-passes b work lists r e in
+    let turns = roundRunTurns (systemAt b) in
+    reported-written work lists (systemAt b) turns (has-room b work lists (passed .0) (passed .1) turns)
+    (firstOf (bufferFault work lists) (planFault b)) r e

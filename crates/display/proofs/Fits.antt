@@ -7,14 +7,15 @@ use mathlib.Core.Path.{_≡_, refl}
 use lib.ListN.{length}
 use Rattle.base.specs.Bytes.{byteAt}
 use Rattle.base.specs.Choice.{firstOf}
+use Rattle.disac4.proofs.Passed.{neither, inputs-pass}
 use Rattle.disac4.specs.Outcome.{overwrite, refused, played, unlessFault, turnRun, roundRun, bufferFault, inputFault, systemAt}
 use Rattle.disac4.specs.Report.{listCells, final}
 use Rattle.disac4.specs.Round.{roundRunTurns}
 use Rattle.disac4.specs.Turn.{Turn, turnsOf}
+use Rattle.plan.proofs.Faults.{decoded}
 use Rattle.plan.specs.Decode.{planFault, planOf}
 use Rattle.plan.specs.declared.Decline.{Decline}
 use Rattle.text.proofs.Length.{run-short, decline-short}
-use Rattle.tinshrew.proofs.Conclusions.{neither, decoded, inputs-pass}
 use Rattle.display.proofs.Places.{PlaceBelow, round-place, turn-place}
 use Rattle.display.specs.Shown.{shownOf, shownRounds, shownTurns, shown, freshWork, freshLists}
 

@@ -13,7 +13,7 @@ fn show_rounds(plan: &[u8], out: &mut [u8]) -> usize
 {
     let mut work = [0u16; WORK_CELLS];
     let mut lists = [0u16; LIST_CELLS];
-    let answer = tinshrew::run_round(plan, &mut work, &mut lists);
+    let answer = calls::run_round(plan, &mut work, &mut lists);
     text::print_answer(answer, plan, &lists, out)
 }
 
@@ -23,7 +23,7 @@ fn show_turns(plan: &[u8], turns: &[u8], out: &mut [u8]) -> usize
 {
     let mut work = [0u16; WORK_CELLS];
     let mut lists = [0u16; LIST_CELLS];
-    let answer = tinshrew::run_turns(plan, turns, &mut work, &mut lists);
+    let answer = calls::run_turns(plan, turns, &mut work, &mut lists);
     text::print_answer(answer, plan, &lists, out)
 }
 

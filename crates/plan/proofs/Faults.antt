@@ -143,3 +143,8 @@ number-within b d e = go (ending b)
         (arith, number-of c t, between-low 1 7 (numberOf (c .fault)) h, between-high 1 7 (numberOf (c .fault)) h)
     go (trailing p q) = omega (arith, number-of (decline TrailingBytes (planEnd b)) q)
     go (sound p q r s) = let z : _≡_ {A = ℕ} 0 1 = cc (decode-fault b d e) in absurd (omega arith)
+
+-- a plan without a fault is accepted
+pub decoded : (b : List ℕ) → planFault b ≡ none → decode b ≡ accepted (planOf b)
+unfolding decode
+decoded b e = ap (decodedAs (planOf b)) e

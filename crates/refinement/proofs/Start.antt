@@ -3,7 +3,7 @@ use Prim.Native.Nat.{ℕ, _<_, _≤_}
 use mathlib.Core.List.{List}
 use mathlib.Core.Logic.{inl, inr}
 use mathlib.Core.Option.{none}
-use mathlib.Core.Path.{_≡_, _∙_, ap}
+use mathlib.Core.Path.{_≡_, _∙_}
 use native.Mathlib.Omega.{arith}
 use borrow.Author.Tests.{lt-ltb}
 use Rattle.base.proofs.Choice.{cond-true}
@@ -22,18 +22,14 @@ use Rattle.loading.proofs.Kept.{load-kept}
 use Rattle.cells.specs.Memory.{clearedM, Mem}
 use Rattle.loading.specs.Load.{loadM}
 use Rattle.refinement.specs.Run.{viewOf, startM}
-use Rattle.plan.specs.Decode.{planFault, planOf, decode, accepted, decodedAs}
+use Rattle.plan.proofs.Faults.{decoded}
+use Rattle.plan.specs.Decode.{planFault, planOf}
 
 module _ (b : List ℕ) (sound : planFault b ≡ none) where
-  -- bytes without a fault are an accepted plan
-  pub is-accepted : decode b ≡ accepted (planOf b)
-  unfolding decode
-  is-accepted = ap (decodedAs (planOf b)) sound
-
   -- its system fits the regions
   pub fits-regions : Small (systemAt b)
   unfolding systemAt
-  fits-regions = small b (planOf b) is-accepted
+  fits-regions = small b (planOf b) (decoded b sound)
 
   module _ (m : Mem) where
     -- the memory in which the plan is loaded: its index, and 0 elsewhere

@@ -18,7 +18,7 @@ use Rattle.disac4.specs.Turn.{Turn, isSome, play, changesWhere}
 use Rattle.index.proofs.Chains.{indexed-kept}
 use Rattle.refinement.proofs.Refined.{refined}
 use Rattle.refinement.proofs.Runs.{Refines, playM-append, countM-append, run-view, run-keeps, run-counts}
-use Rattle.refinement.proofs.Start.{is-accepted, fits-regions, start-inv, start-view, start-indexed, start-behind}
+use Rattle.refinement.proofs.Start.{fits-regions, start-inv, start-view, start-indexed, start-behind}
 use Rattle.refinement.proofs.Static.{play-static}
 use Rattle.index.specs.Index.{Ready}
 use Rattle.refinement.specs.Inv.{Inv}
@@ -28,6 +28,7 @@ use Rattle.refinement.specs.Run.{viewOf, playM, countM, startM, At, Goin
 use Rattle.controller.specs.Controller.{Machine, machine}
 use Rattle.refinement.specs.Step.{stepM, afterM}
 use Rattle.refinement.specs.declared.Progress.{Progress}
+use Rattle.plan.proofs.Faults.{decoded}
 use Rattle.plan.specs.Decode.{planFault, planOf}
 
 module _ (b : List ℕ) (sound : planFault b ≡ none) where
@@ -86,7 +87,7 @@ module _ (b : List ℕ) (sound : planFault b ≡ none) where
     pub under-small : (g .changes < 65536) × (g .sends < 65536) × (g .polls < 65536)
     unfolding systemAt
     under-small =
-        let f = figures-fit b (planOf b) (is-accepted b sound) ts in (
+        let f = figures-fit b (planOf b) (decoded b sound) ts in (
           omega (arith, under-changes, f .turns, f .bound),
           omega (arith, under-sends, f .sends),
           omega (arith, under-polls, f .polls),

@@ -1,27 +1,27 @@
 -- What a caller may conclude from `Gives`: the promises of the calls, from the plan's bytes, the turns and the buffers.
 use Prim.Native.Nat.{ℕ, _<_, _/_}
 use mathlib.Core.Bool.{Bool, true, false, cond}
-use mathlib.Core.List.{List, [], _∷_}
-use mathlib.Core.Option.{Option, none, some}
+use mathlib.Core.List.{List}
+use mathlib.Core.Option.{none}
 use mathlib.Core.Path.{_≡_, refl, sym, _∙_, ap}
 use native.Mathlib.Omega.{arith}
 use lib.Dec.{eqb}
 use lib.ListN.{length, getD}
-use Rattle.base.proofs.Below.{length-list-below, getD-list-below}
+use Rattle.base.proofs.Below.{getD-list-below}
 use Rattle.base.proofs.Bools.{and-left}
 use Rattle.base.proofs.Each.{each-all, each-gather}
 use Rattle.base.proofs.Row.{row-bit}
-use Rattle.base.specs.Choice.{firstOf, allOf}
+use Rattle.base.specs.Choice.{allOf}
 use Rattle.base.specs.Row.{bit, rowOf}
 use Rattle.disac4.proofs.Demands.{demand2, demand3, round-closes-plan}
-use Rattle.disac4.proofs.Outcome.{Room, turnRun-declined, roundRun-declined, turnRun-reported, roundRun-reported}
+use Rattle.disac4.proofs.Outcome.{turnRun-declined, roundRun-declined, turnRun-reported, roundRun-reported}
+use Rattle.disac4.proofs.Passed.{turns-pass, round-passes, list-cell-each}
 use Rattle.disac4.specs.Demands.{closedAfter, Demand2, Demand3, RoundCloses}
-use Rattle.disac4.specs.Outcome.{Outcome, Gives, refused, unlessFault, bufferFault, inputFault, listNeed, systemAt, turnRun, roundRun, Untouched, Written}
+use Rattle.disac4.specs.Outcome.{Outcome, Gives, systemAt, turnRun, roundRun, Untouched, Written}
 use Rattle.disac4.specs.Report.{final, listCells, lowestEmpty, statusOf, reportOf}
 use Rattle.disac4.specs.Round.{roundRunTurns}
-use Rattle.disac4.specs.State.{State}
-use Rattle.disac4.specs.System.{System, systemOf}
-use Rattle.disac4.specs.Turn.{Turn, allowed, turnsOf, turnListFits, turnFault}
+use Rattle.disac4.specs.System.{systemOf}
+use Rattle.disac4.specs.Turn.{Turn, allowed, turnsOf, turnFault}
 use Rattle.disac4.specs.declared.Answer.{Answer}
 use Rattle.disac4.specs.declared.Answer.the-variants.{Reported, Declined}
 use Rattle.disac4.specs.declared.Report.{Report}
@@ -32,41 +32,13 @@ use Rattle.network.proofs.Largest.{largest-consistent}
 use Rattle.network.proofs.Loaded.{loaded-variable, loaded-value}
 use Rattle.network.specs.Consistency.{Within, Largest}
 use Rattle.network.specs.Network.{Domains, loaded}
-use Rattle.plan.proofs.WellFormed.{read-well-formed}
-use Rattle.plan.specs.Check.{_orElse_, firstFault, faultAt}
-use Rattle.plan.specs.Decode.{planFault, planOf, decode, decodedAs, accepted}
-use Rattle.plan.specs.Network.{networkOf}
+use Rattle.plan.proofs.Faults.{decoded}
+use Rattle.plan.specs.Decode.{planFault, planOf, accepted}
 use Rattle.format.specs.Format.{workerCount}
 use Rattle.plan.specs.declared.Decline.{Decline}
-use Rattle.plan.specs.declared.Fault.the-variants.{BadTurnList}
-use Rattle.calls.proofs.Outcomes.{long-enough}
 use Rattle.tinshrew.specs.Conclusions.{listedIn, Concluded}
 
 -- ---- from a report to what was checked
-
--- a call that reports was not declined
-not-declined : (run : Outcome) (work lists : List ℕ) (o : Option Decline) (r : Report)
-    → unlessFault run (refused work lists) o .answer ≡ Reported r → o ≡ none
-unfolding refused
-not-declined run work lists none r e = refl
-not-declined run work lists (some d) r e = let z : _≡_ {A = ℕ} 0 1 = cc in absurd (omega arith)
-
--- two tests of which none fails
-pub neither : (o u : Option Decline) → firstOf o u ≡ none → (o ≡ none) × (u ≡ none)
-neither none u e = (refl, e)
-neither (some d) u e = let z : _≡_ {A = ℕ} 0 1 = cc in absurd (omega arith)
-
--- a plan without a fault is accepted
-pub decoded : (b : List ℕ) → planFault b ≡ none → decode b ≡ accepted (planOf b)
-unfolding decode
-decoded b e = ap (decodedAs (planOf b)) e
-
--- neither the plan nor its turns have a fault
-pub inputs-pass : (b ts : List ℕ) → inputFault b ts ≡ none → (planFault b ≡ none) × (turnFault (workerCount b) ts ≡ none)
-unfolding inputFault
-inputs-pass b ts e =
-    neither (planFault b) (turnFault (workerCount b) ts)
-    (neither (faultAt 0 (firstFault ((turnListFits ts orElse BadTurnList) ∷ []))) _ e .1)
 
 -- a list without a fault has only allowed turns
 list-allowed : (b ts : List ℕ) → turnFault (workerCount b) ts ≡ none
@@ -75,21 +47,6 @@ unfolding systemAt systemOf planOf turnsOf
 list-allowed b ts e =
     each-all (allowed (workerCount b)) (turnsOf ts)
     (each-gather (λ t. allowed (workerCount b) t ≡ true) (length ts / 2) _ (λ i h. (is-allowed (workerCount b) ts e i h, tt)))
-
--- a run writes a list cell for each variable
-list-cell-each : (sys : System) (st : State) → length (listCells sys st) ≡ sys .net .variables
-unfolding listCells
-list-cell-each sys st = length-list-below (sys .net .variables) _
-
--- buffers that pass have room for what a run on an accepted plan writes
-has-room : (b work lists : List ℕ) → bufferFault work lists ≡ none → planFault b ≡ none → (ts : List Turn)
-    → Room work lists (systemAt b) ts
-unfolding systemAt systemOf networkOf listNeed
-has-room b work lists fit sound ts =
-    let long = long-enough work lists fit in (
-      long .0,
-      omega (arith, long .1, list-cell-each (systemAt b) (final (systemAt b) ts), read-well-formed b sound .variables-high),
-    )
 
 -- ---- the status
 
@@ -173,10 +130,9 @@ pub turn-run : (b ts work lists work′ lists′ : List ℕ) (r : Report) → Gi
     → Concluded b (turnsOf ts) work lists work′ lists′ r
 unfolding turnRun
 turn-run b ts work lists work′ lists′ r g =
-    let checks = neither (bufferFault work lists) (inputFault b ts) (not-declined _ work lists _ r (sym (g .answer))) in
-    let inputs = inputs-pass b ts (checks .1) in
-    concluded b (inputs .0) (turnsOf ts) (list-allowed b ts (inputs .1)) work lists work′ lists′ _ r g
-    (turnRun-reported b ts work lists (has-room b work lists (checks .0) (inputs .0) (turnsOf ts)) r (sym (g .answer)))
+    let checks = turns-pass b work lists r ts (sym (g .answer)) in
+    concluded b (checks .1) (turnsOf ts) (list-allowed b ts (checks .2)) work lists work′ lists′ _ r g
+    (turnRun-reported b ts work lists r (sym (g .answer)))
 
 -- a declined turn run changed neither buffer
 pub turn-run-declined : (b ts work lists work′ lists′ : List ℕ) (d : Decline)
@@ -185,12 +141,6 @@ turn-run-declined b ts work lists work′ lists′ d g =
     kept _ _ work lists work′ lists′ g (turnRun-declined b ts work lists d (sym (g .answer)))
 
 -- ---- the round run
-
--- the buffers of a reported round run passed, and its plan was accepted
-round-passes : (b work lists : List ℕ) (r : Report) → roundRun b work lists .answer ≡ Reported r
-    → (bufferFault work lists ≡ none) × (planFault b ≡ none)
-unfolding roundRun
-round-passes b work lists r e = neither (bufferFault work lists) (planFault b) (not-declined _ work lists _ r e)
 
 -- a reported round run: its turns are a list of allowed turns, and the plan is closed after them
 pub round-run-closes : (b work lists work′ lists′ : List ℕ) (r : Report)
@@ -206,7 +156,7 @@ round-run b work lists work′ lists′ r g =
     let checks = round-passes b work lists r (sym (g .answer)) in
     let turns = roundRunTurns (systemAt b) in
     concluded b (checks .1) turns (round-run-closes b work lists work′ lists′ r g .all-allowed) work lists work′ lists′ _ r g
-    (roundRun-reported b work lists (has-room b work lists (checks .0) (checks .1) turns) r (sym (g .answer)))
+    (roundRun-reported b work lists r (sym (g .answer)))
 
 -- its status is never open
 pub round-run-not-open : (b work lists work′ lists′ : List ℕ) (r : Report)

@@ -2,10 +2,11 @@
 use denote.Ref.{now}
 use mathlib.Core.Option.{none}
 use mathlib.Core.Path.{_≡_, refl, sym, _∙_}
+use Rattle.disac4.proofs.Passed.{long-enough}
 use Rattle.disac4.specs.Outcome.{bufferFault, workNeed, listNeed}
 use Rattle.plan.specs.Decode.{planFault}
 use Rattle.calls.proofs.Checked.{no-fault, its-fault, its-workers}
-use Rattle.calls.proofs.Outcomes.{buffers-pass, buffers-fail, long-enough, rounds-refused, rounds-played}
+use Rattle.calls.proofs.Outcomes.{buffers-pass, buffers-fail, rounds-refused, rounds-played}
 use borrow.Author.Needs.{needs}
 use Rattle.calls.proofs.run_round.Statement.{statement}
 use Rattle.calls.proofs.run_round.Tie as tie

@@ -6,6 +6,7 @@ use mathlib.Core.Path.{_≡_, refl, sym, _∙_}
 use Prim.Native.Nat.{_/_}
 use lib.ListN.{length}
 use Rattle.base.specs.Choice.{firstOf}
+use Rattle.disac4.proofs.Passed.{long-enough}
 use Rattle.disac4.proofs.Order.{bad-turn-list}
 use Rattle.disac4.specs.Outcome.{bufferFault, inputFault, workNeed, listNeed}
 use Rattle.disac4.specs.Turn.{turnListFits}
@@ -15,7 +16,7 @@ use Rattle.plan.specs.Decode.{planFault}
 use Rattle.format.specs.Format.{workerCount}
 use Rattle.plan.specs.declared.Decline.{Decline}
 use Rattle.calls.proofs.Checked.{no-fault, its-fault, its-workers}
-use Rattle.calls.proofs.Outcomes.{buffers-pass, buffers-fail, long-enough, turns-refused, then-inputs, turns-played, bad-turn, no-bad-turn}
+use Rattle.calls.proofs.Outcomes.{buffers-pass, buffers-fail, turns-refused, then-inputs, turns-played, bad-turn, no-bad-turn}
 use borrow.Author.Needs.{needs}
 use Rattle.calls.proofs.run_turns.Statement.{statement}
 use Rattle.calls.proofs.run_turns.Tie as tie
