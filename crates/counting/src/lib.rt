@@ -1,5 +1,5 @@
 // Counting the supports of a plan whose index stands in the cells. Of two linked variables only the rows of the first are
-// looked up: a row's values are the count of its label, and the rows that hold a value are the count of that value.
+// worked out: how many values a row holds is its label's count, and how many rows hold a value is that value's count.
 use base::row_count;
 use cells::layout;
 use format::read;
@@ -82,7 +82,7 @@ fn count_both(b: &[u8], cells: &mut [u16], x: usize, y: usize)
     }
 }
 
-// The counters of x and each variable before it: from there its rows are the quicker ones, a table has them as they are.
+// The counters of x and each variable before it, from the rows of that one: a table has those as they are.
 fn count_variable(b: &[u8], cells: &mut [u16], x: usize)
     requires { ⌜ Ready (now b) (now cells) × (x < variableCount (now b)) ⌝ }
     ensures { λ _. ⌜ memOf (now (cells .exit)) ≡ countVariableM (systemOf (planOf (now (b .entry)))) x x (memOf (now (cells .entry))) ⌝ }
