@@ -15,6 +15,8 @@ use std::time::{Duration, Instant};
 
 use tinshrew_tests::fast::{self, Sound};
 use tinshrew_tests::generate::{full_plan, random_turns, scattered_plan};
+use tinshrew_tests::reference::plan::decode;
+use tinshrew_tests::reference::run::{decode_turns, Run};
 use tinshrew_tests::reference::state::Turn;
 use tinshrew_tests::reference::{LIST_CELLS, WORK_CELLS};
 use tinshrew_tests::rng::Rng;
@@ -30,6 +32,10 @@ struct Buffers {
 }
 
 impl Buffers {
+    fn new() -> Buffers {
+        Buffers { work: vec![0; WORK_CELLS], lists: vec![0; LIST_CELLS], rng: Rng::new(3) }
+    }
+
     fn fill(&mut self) {
         let word = self.rng.word();
         self.work.fill(word);
@@ -121,8 +127,7 @@ fn agree(
 }
 
 fn measure(subject: &Subject, what: &str, plan: &[u8], turns: Option<&[u8]>) {
-    let mut buffers =
-        Buffers { work: vec![0; WORK_CELLS], lists: vec![0; LIST_CELLS], rng: Rng::new(3) };
+    let mut buffers = Buffers::new();
     let (found, deleted) = agree(subject, what, plan, turns, &mut buffers);
     let status = ["open", "closed", "bare"][found[1]];
     println!("{what}: {status}, {deleted} strikes, {} changing turns", found[2]);
@@ -144,6 +149,45 @@ fn measure(subject: &Subject, what: &str, plan: &[u8], turns: Option<&[u8]>) {
     for (name, (time, ratio)) in names.iter().zip(times) {
         println!("  {name:32} {time:12.1} us   ratio {ratio:8.2}");
     }
+}
+
+/// The turns of a list that change something, by the reference.
+fn changing(plan: &[u8], turns: &[u8]) -> Vec<u8> {
+    let mut run = Run::load(decode(plan).expect("an accepted plan"));
+    let turns = decode_turns(run.plan.workers, turns).expect("allowed turns");
+    let used = turns.into_iter().filter(|&turn| {
+        let used = run.state.has_use(turn);
+        run.turn_uncounted(turn);
+        used
+    });
+    used.flat_map(Turn::encode).collect()
+}
+
+/// What an idle turn of a list costs: how much longer the list takes than its
+/// changing turns alone, for each of the others.
+fn measure_idle(subject: &Subject, plan: &[u8], turns: &[u8]) {
+    let mut buffers = Buffers::new();
+    let without = changing(plan, turns);
+    let idle = (turns.len() - without.len()) / 2;
+    let times = time(
+        &mut buffers,
+        &mut [
+            &mut |work, lists| {
+                black_box(call(subject, black_box(plan), Some(turns), work, lists));
+            },
+            &mut |work, lists| {
+                black_box(call(subject, black_box(plan), Some(&without), work, lists));
+            },
+            &mut |work, lists| {
+                black_box(rust(black_box(plan), Some(turns), work, lists, false));
+            },
+            &mut |work, lists| {
+                black_box(rust(black_box(plan), Some(&without), work, lists, false));
+            },
+        ],
+    );
+    let each = |all: usize, changing: usize| 1e3 * (times[all].0 - times[changing].0) / idle as f64;
+    println!("  {idle} idle turns, each: {:.1} ns, Rust {:.1} ns", each(0, 1), each(2, 3));
 }
 
 /// 32,768 turns, most of them idle: one worker's actions are left out so that
@@ -178,7 +222,9 @@ fn main() {
     measure(&subject, "round, full random plan", &scattered, None);
     let idle = idle_list(&mut rng);
     measure(&subject, "32,768 turns, mostly idle, full plan", &core_kept, Some(&idle));
+    measure_idle(&subject, &core_kept, &idle);
     let even = random_turns(&mut rng, 8, 32_768);
     measure(&subject, "32,768 turns drawn evenly, full plan", &core_kept, Some(&even));
+    measure_idle(&subject, &core_kept, &even);
     measure(&subject, "no turns, full plan", &core_kept, Some(&[]));
 }

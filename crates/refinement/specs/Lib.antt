@@ -1,3 +1,4 @@
+pub mod Awake
 pub mod Inv
 pub mod Run
 pub mod Step
