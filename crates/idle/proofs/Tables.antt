@@ -1,0 +1,109 @@
+-- Laws of a table's cells.
+use Prim.Native.Nat.{ℕ, _+_, _*_, _<_, _≤_}
+use mathlib.Core.Bool.{Bool, true, false, cond, _&&_, _||_}
+use mathlib.Core.List.{List}
+use mathlib.Core.Path.{_≡_, refl, sym, _∙_, ap}
+use native.Mathlib.Decide.{ℕ-discrete}
+use native.Mathlib.Omega.{arith}
+use borrow.Author.Tests.{eq-eqb, ne-eqb, lt-ltb, le-ltb}
+use lib.Dec.{eqb}
+use lib.ListN.{length, getD, set, length-set}
+use lib.Seq.{getD-set-same, getD-set-other}
+use Rattle.base.proofs.Below.{any-below, some-below}
+use Rattle.base.proofs.Bools.{refuted, bool-ext, and-intro, and-right, and-false-left, and-false-right, or-false}
+use Rattle.base.proofs.Choice.{cond-true, cond-false, between-low, between-high}
+use Rattle.base.specs.Below.{anyBelow}
+use Rattle.base.specs.Choice.{between}
+use Rattle.disac4.specs.Turn.{turn}
+use Rattle.idle.specs.Table.{idleAt, Puts, enables}
+
+-- one cell is stored
+pub puts-one : (v k d : ℕ) (table : List ℕ) → length table ≡ 144 → k < 9 → d < 16
+    → Puts v (λ j a. eqb j k && eqb a d) table (set table (k * 16 + d) v)
+puts-one v k d table l h e = record { long = length-set table (k * 16 + d) v ∙ l; each = each }
+  where
+    each : (j a : ℕ) → j < 9 → a < 16 → idleAt (set table (k * 16 + d) v) j a ≡ cond (eqb j k && eqb a d) v (idleAt table j a)
+    each j a m n =
+        elim (ℕ-discrete (j * 16 + a) (k * 16 + d)) [
+          | yes same ↦ rw same (getD-set-same table (k * 16 + d) v 0 (omega (arith, l)))
+              ∙ sym (cond-true v (idleAt table j a) (and-intro (eq-eqb j k (omega arith)) (eq-eqb a d (omega arith))))
+          | no other ↦ getD-set-other table (k * 16 + d) (j * 16 + a) v 0 other
+              ∙ sym (cond-false v (idleAt table j a) (away other))
+        ]
+      where
+        away : (j * 16 + a ≡ k * 16 + d → ⊥) → eqb j k && eqb a d ≡ false
+        away other =
+            elim (ℕ-discrete j k) [
+              | yes p ↦ and-false-right (eqb j k) (ne-eqb a d (λ q. other (omega arith)))
+              | no n ↦ and-false-left (eqb a d) (ne-eqb j k n)
+            ]
+
+module _ {v : ℕ} {p q : ℕ → ℕ → Bool} {before after : List ℕ} where
+  -- two changes after each other are one
+  pub puts-both : {then : List ℕ} → Puts v p before then → Puts v q then after → Puts v (λ k d. p k d || q k d) before after
+  puts-both {then} f g = record {
+    long = g .long;
+    each = λ k d h e.
+        g .each k d h e ∙ ap (λ (n : ℕ). cond (q k d) v n) (f .each k d h e) ∙ either (p k d) (q k d) (idleAt before k d);
+  }
+    where
+      either : (a b : Bool) (n : ℕ) → cond b v (cond a v n) ≡ cond (a || b) v n
+      either true true n = refl
+      either true false n = refl
+      either false b n = refl
+
+  -- a change may be said by another test that agrees with its own
+  pub puts-as : ((k d : ℕ) → k < 9 → d < 16 → p k d ≡ q k d) → Puts v p before after → Puts v q before after
+  puts-as e f = record {
+    long = f .long;
+    each = λ k d h a. f .each k d h a ∙ ap (λ (t : Bool). cond t v (idleAt before k d)) (e k d h a);
+  }
+
+-- an actor's actions that are no reads, one by one
+pub own-actions : (c : Bool) (a : ℕ)
+    → (((c && eqb a 9) || (c && eqb a 10)) || (c && eqb a 11)) || (c && eqb a 12) ≡ c && between 9 12 a
+own-actions false a = refl
+own-actions true a =
+    elim (ℕ-discrete a 9) [
+      | yes e ↦ rw e refl
+      | no n₁ ↦ elim (ℕ-discrete a 10) [
+        | yes e ↦ rw e refl
+        | no n₂ ↦ elim (ℕ-discrete a 11) [
+          | yes e ↦ rw e refl
+          | no n₃ ↦ elim (ℕ-discrete a 12) [
+            | yes e ↦ rw e refl
+            | no n₄ ↦ or-false (or-false (or-false (ne-eqb a 9 n₁) (ne-eqb a 10 n₂)) (ne-eqb a 11 n₃)) (ne-eqb a 12 n₄)
+                ∙ sym (refuted (between 9 12 a) (λ e. omega (arith, between-low 9 12 a e, between-high 9 12 a e)))
+          ]
+        ]
+      ]
+    ]
+
+-- the reads from actor `k`, one actor after the other
+pub all-reads : (k j a : ℕ) → j < 9 → anyBelow 9 (λ i. eqb j i && eqb a k) ≡ eqb a k
+all-reads k j a h =
+    bool-ext _ _
+    (λ e. let w = some-below 9 (λ i. eqb j i && eqb a k) e in and-right (eqb j (w .0)) (eqb a k) (w .2))
+    (λ e. any-below 9 (λ i. eqb j i && eqb a k) j h (and-intro (eq-eqb j j refl) e))
+
+-- ---- what `forget` forgets, with the reads and without
+
+-- the same turn, and what its actor does but read
+abbrev own : ℕ → ℕ → ℕ → ℕ → Bool
+own k d j a = (eqb j k && eqb a d) || (eqb j k && between 9 12 a)
+
+module _ (k d : ℕ) {before after : List ℕ} where
+  pub forgets-reads : 9 < d → Puts 0 (λ j a. own k d j a || eqb a k) before after
+      → Puts 0 (λ j a. enables (turn k d) (turn j a)) before after
+  unfolding enables
+  forgets-reads h = puts-as (λ j a l m. ap (λ (t : Bool). own k d j a || (t && eqb a k)) (sym (lt-ltb 9 d h)))
+
+  pub forgets-own : d ≤ 9 → Puts 0 (own k d) before after → Puts 0 (λ j a. enables (turn k d) (turn j a)) before after
+  unfolding enables
+  forgets-own h =
+      puts-as
+      (λ j a l m. or-none (own k d j a) ∙ ap (λ (t : Bool). own k d j a || (t && eqb a k)) (sym (le-ltb 9 d h)))
+    where
+      or-none : (b : Bool) → b ≡ b || false
+      or-none true = refl
+      or-none false = refl

@@ -1,0 +1,13 @@
+-- `idle::none_known` gives a table of zeros. Assumes nothing.
+use Prim.Native.Nat.{_+_, _*_}
+use mathlib.Core.Path.{refl}
+use native.Mathlib.Omega.{arith}
+use lib.ListN.{getD-replicate}
+use Rattle.idle.proofs.none_known.Statement.{statement}
+use Rattle.idle.proofs.none_known.Tie as tie
+
+returns : tie.Need-returns
+returns c = (refl, λ k d h e. getD-replicate 144 (k * 16 + d) 0 0 (omega arith))
+
+pub none-known-spec : {M : Type 1} → statement M
+none-known-spec = tie.close (tie.spec returns)

@@ -1,0 +1,31 @@
+-- A table of the turns that are known to be idle, and what is learnt from a turn.
+use Prim.Native.Nat.{ℕ, _+_, _*_, _<_}
+use mathlib.Core.Bool.{Bool, true, false, cond, _&&_, _||_}
+use mathlib.Core.List.{List}
+use mathlib.Core.Path.{_≡_}
+use lib.Dec.{ltb, eqb}
+use lib.ListN.{length, getD}
+use Rattle.base.specs.Choice.{between}
+use Rattle.disac4.specs.Turn.{Turn, treatNumber, pollNumber}
+
+-- the cell of actor `k`'s action `d`: 1 where that is known to be idle
+abbrev pub idleAt : List ℕ → ℕ → ℕ → ℕ
+idleAt table k d = getD table (k * 16 + d) 0
+
+-- the cells of some turns become `v`, the others stay
+pub record Puts (v : ℕ) (which : ℕ → ℕ → Bool) (before after : List ℕ) : Type 0 where
+  pub long : length after ≡ 144
+  pub each : (k d : ℕ) → k < 9 → d < 16 → idleAt after k d ≡ cond (which k d) v (idleAt before k d)
+
+-- where `t` has changed something, `u` may find something to do: the same turn again; what its actor does but read; and where
+-- `t` sent a message, a read from that actor
+unfoldable pub enables : Turn → Turn → Bool
+enables t u =
+    ((eqb (u .actor) (t .actor) && eqb (u .action) (t .action))
+    || (eqb (u .actor) (t .actor) && between treatNumber pollNumber (u .action)))
+    || (ltb treatNumber (t .action) && eqb (u .action) (t .actor))
+
+-- what is known after `t`: it is idle, if it changed nothing; else nothing of the turns that it may have enabled
+unfoldable pub Learns : Turn → Bool → List ℕ → List ℕ → Type 0
+Learns t false before after = Puts 1 (λ k d. eqb k (t .actor) && eqb d (t .action)) before after
+Learns t true before after = Puts 0 (λ k d. enables t (record { actor = k; action = d })) before after
