@@ -16,7 +16,7 @@ use Rattle.base.proofs.Sums.{sum-zero}
 use Rattle.base.proofs.Weight.{weigh}
 use Rattle.base.specs.Below.{anyBelow}
 use Rattle.base.specs.Choice.{between}
-use Rattle.disac4.proofs.Allowed.{worker-cases, controller-cases, worker-does, controller-does, may-read, may-work, may-hear, may-poll}
+use Rattle.disac4.proofs.Allowed.{allowed-bounds, may-read, may-work, may-hear, may-poll}
 use Rattle.disac4.proofs.Channels.{into}
 use Rattle.disac4.proofs.Empty.{empty}
 use Rattle.disac4.proofs.Expected.{Answered, has-mark, has-replied, will-hold}
@@ -35,19 +35,32 @@ abbrev pub Stuck : System → State → Type 0
 Stuck sys st = (t : Turn) → allowed (sys .workers) t ≡ true → changes sys st t ≡ false
 
 -- a choice with one idle outcome that is idle
-none-chosen : (b : Bool) (s : State) → isSome (cond b none (some s)) ≡ false → b ≡ true
+pub none-chosen : (b : Bool) (s : State) → isSome (cond b none (some s)) ≡ false → b ≡ true
 none-chosen true s e = refl
 none-chosen false s e = absurd (false≢true (sym e))
 
-some-refused : (b : Bool) (s : State) → isSome (cond b (some s) none) ≡ false → b ≡ false
+pub some-refused : (b : Bool) (s : State) → isSome (cond b (some s) none) ≡ false → b ≡ false
 some-refused true s e = absurd (false≢true (sym e))
 some-refused false s e = refl
 
 -- an action that takes the oldest member of a list is idle only where the list is empty
-none-taken {ℓ} : {A : Type ℓ} (act : List A → Option State) → ((a : A) (l : List A) → isSome (act (a ∷ l)) ≡ true)
+pub none-taken {ℓ} : {A : Type ℓ} (act : List A → Option State) → ((a : A) (l : List A) → isSome (act (a ∷ l)) ≡ true)
     → (l : List A) → isSome (act l) ≡ false → l ≡ []
 none-taken act takes [] e = refl
 none-taken act takes (a ∷ l) e = clash (takes a l) e
+
+-- a worker takes a message of any kind
+pub read-takes : (j k : ℕ) (st : State) (m : Message) (l : List Message) → isSome (readFrom j k st (m ∷ l)) ≡ true
+read-takes j k st (list labels) l = refl
+read-takes j k st (poll q) l = refl
+read-takes j k st (reply n) l = refl
+
+-- and so does the controller
+pub hear-takes : (sys : System) (k : ℕ) (st : State) (m : Message) (l : List Message)
+    → isSome (controllerFrom sys k st (m ∷ l)) ≡ true
+hear-takes sys k st (list labels) l = refl
+hear-takes sys k st (poll q) l = refl
+hear-takes sys k st (reply n) l = refl
 
 module _ (sys : System) (st : State) (few : sys .workers ≤ 8) (running : st .controller .closed ≡ false)
     (stuck : Stuck sys st) where
@@ -79,30 +92,20 @@ module _ (sys : System) (st : State) (few : sys .workers ≤ 8) (running : st .c
   nothing-to-read : (j k : ℕ) → Worker sys k → j ≤ sys .workers → (j ≡ k → ⊥) → st .channel j k ≡ []
   unfolding workerStep readWorker
   nothing-to-read j k w h d =
-      none-taken (readFrom j k st) takes (st .channel j k)
+      none-taken (readFrom j k st) (read-takes j k st) (st .channel j k)
       (rw (
         ne-eqb j treatNumber (λ e. omega arith),
         ne-eqb j sendNumber (λ e. omega arith),
         ne-eqb j answerNumber (λ e. omega arith),
       )
       at (worker-idle k j w (may-read (sys .workers) k j (w .above) (w .within) h d)))
-    where
-      takes : (m : Message) (l : List Message) → isSome (readFrom j k st (m ∷ l)) ≡ true
-      takes (list labels) l = refl
-      takes (poll q) l = refl
-      takes (reply n) l = refl
 
   nothing-to-count : (k : ℕ) → Worker sys k → st .channel k 0 ≡ []
   unfolding controllerStep readController
   nothing-to-count k w =
-      none-taken (controllerFrom sys k st) takes (st .channel k 0)
+      none-taken (controllerFrom sys k st) (hear-takes sys k st) (st .channel k 0)
       (rw (ne-eqb k pollNumber (λ e. omega (arith, w .within)))
       at (controller-idle k (may-hear (sys .workers) k (w .above) (w .within))))
-    where
-      takes : (m : Message) (l : List Message) → isSome (controllerFrom sys k st (m ∷ l)) ≡ true
-      takes (list labels) l = refl
-      takes (poll q) l = refl
-      takes (reply n) l = refl
 
   -- a poll is open
   poll-open : st .controller .pollOpen ≡ true
@@ -179,25 +182,6 @@ stuck-closed {sys} sound ts stuck =
     (λ e.
     absurd (never-stuck sys (play sys (load sys) ts) (sound .few) e stuck (events sys (load sys) ts) (safe-run sound ts)))
     (decided (play sys (load sys) ts .controller .closed))
-
--- an allowed turn's actor and action are among finitely many
-allowed-bounds : (p : ℕ) (t : Turn) → p ≤ 8 → allowed p t ≡ true → (t .actor < suc p) × (t .action < 13)
-allowed-bounds p t few ok = ⊎-elim controller worker (decided (eqb (t .actor) 0))
-  where
-    controller : eqb (t .actor) 0 ≡ true → (t .actor < suc p) × (t .action < 13)
-    controller e = (
-      omega (arith, eqb-true (t .actor) 0 e),
-      ⊎-elim (λ r. omega (arith, r)) (λ q. omega (arith, eqb-true (t .action) pollNumber q))
-          (controller-cases p (t .action) (controller-does p t ok e)),
-    )
-
-    worker : eqb (t .actor) 0 ≡ false → (t .actor < suc p) × (t .action < 13)
-    worker n =
-        let w = worker-does p t ok n in (
-          omega (arith, w .0),
-          ⊎-elim (λ r. omega (arith, r .0)) (λ b. omega (arith, between-high treatNumber answerNumber (t .action) b))
-              (worker-cases p (t .actor) (t .action) (w .1)),
-        )
 
 -- while the plan is open, some allowed turn changes something
 pub progress : {sys : System} → Sound sys → (ts : List Turn) → play sys (load sys) ts .controller .closed ≡ false

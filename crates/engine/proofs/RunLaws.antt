@@ -5,16 +5,15 @@ use mathlib.Core.List.{List}
 use mathlib.Core.Option.{Option, none, some, Option·getD}
 use mathlib.Core.Path.{_≡_, refl, sym, _∙_, ap}
 use native.Mathlib.Omega.{arith}
-use mathlib.Core.Logic.{⊎-elim}
 use borrow.Author.Tests.{eq-eqb, ne-eqb}
 use lib.Dec.{eqb}
 use Rattle.base.proofs.Bools.{or-false, not-of-true}
-use Rattle.base.proofs.Choice.{cond-true, cond-false, between-high}
+use Rattle.base.proofs.Choice.{cond-true, cond-false}
 use Rattle.base.specs.Below.{one}
-use Rattle.disac4.proofs.Allowed.{worker-cases, worker-does, controller-does, reads-worker}
+use Rattle.disac4.proofs.Allowed.{worker-bound, worker-does, controller-does, reads-worker}
 use Rattle.disac4.specs.Outcome.{systemAt}
 use Rattle.disac4.specs.System.{System, systemOf}
-use Rattle.disac4.specs.Turn.{turn, treatNumber, answerNumber, pollNumber, allowed}
+use Rattle.disac4.specs.Turn.{turn, pollNumber, allowed}
 use Rattle.disac4.specs.declared.Tally.{Tally}
 use Rattle.cells.specs.Memory.{Mem, memOf, left, changed, Acts}
 use Rattle.sends.specs.Sends.{sendM}
@@ -142,11 +141,8 @@ module _ (p actor action : ℕ) (few : p ≤ 8) (ok : allowed p (turn actor acti
   -- a worker's turn
   pub may-work : (actor ≡ 0 → ⊥) → (actor - 1 < p) × (action < 12)
   may-work n =
-      let w = worker-does p (turn actor action) ok (ne-eqb actor 0 n) in (
-        omega (arith, w .0),
-        ⊎-elim (λ x. omega (arith, x .0)) (λ x. omega (arith, between-high treatNumber answerNumber action x))
-            (worker-cases p actor action (w .1)),
-      )
+      let w = worker-does p (turn actor action) ok (ne-eqb actor 0 n) in
+      (omega (arith, w .0), worker-bound p actor action few (w .1))
 
   -- the controller's read
   pub may-hear : actor ≡ 0 → (action ≡ 12 → ⊥) → (0 < action) × (action ≤ p)

@@ -2,11 +2,35 @@
 use crate::run;
 use base::byte_at;
 use refinement::Progress;
+ghost use mathlib.Core.Bool.{true};
+ghost use mathlib.Core.List.{[], _∷_};
 ghost use mathlib.Core.Option.{none};
 ghost use mathlib.Core.Path.{_≡_};
-ghost use Rattle.disac4.specs.Turn.{turnFault, turnsOf};
+ghost use Rattle.disac4.specs.Turn.{allowed, turn, turnFault, turnsOf};
+ghost use Rattle.engine.specs.Play.{KnownIdle};
 ghost use Rattle.refinement.specs.Run.{Going, Plays};
 ghost use Rattle.format.specs.Format.{workerCount};
+
+// One turn more, which is passed over where it is known to be idle.
+fn next_turn(
+    b: &[u8],
+    cells: &mut [u16],
+    g: Progress,
+    p: usize,
+    table: &mut [u8; 117],
+    actor: usize,
+    action: usize,
+) -> Progress
+    requires { ⌜ Going (now b) (now cells) g × (p ≡ workerCount (now b)) × (allowed p (turn actor action) ≡ true) × KnownIdle (now b) (now cells) (g .tally) (now table) ⌝ }
+    ensures { λ r. ⌜ Plays (now (b .entry)) (turn actor action ∷ []) (now (cells .entry)) g (now (cells .exit)) r × KnownIdle (now (b .entry)) (now (cells .exit)) (r .tally) (now (table .exit)) ⌝ }
+{
+    if idle::known(table, actor, action) {
+        return g;
+    }
+    let after = run::advance(b, cells, g, p, actor, action);
+    idle::learn(table, actor, action, after.changes != g.changes);
+    after
+}
 
 // Plays the turns of the list, which are all allowed.
 pub fn play_turns(b: &[u8], list: &[u8], cells: &mut [u16], g: Progress, p: usize) -> Progress
@@ -14,14 +38,16 @@ pub fn play_turns(b: &[u8], list: &[u8], cells: &mut [u16], g: Progress, p: usiz
     ensures { λ r. ⌜ Plays (now (b .entry)) (turnsOf (now (list .entry))) (now (cells .entry)) g (now (cells .exit)) r ⌝ }
 {
     let count = list.len() / 2;
+    let mut table = idle::none_known();
     let mut at = g;
     let mut i = 0;
     while i < count {
-        at = run::advance(
+        at = next_turn(
             b,
             cells,
             at,
             p,
+            &mut table,
             byte_at(list, 2 * i),
             byte_at(list, 2 * i + 1),
         );

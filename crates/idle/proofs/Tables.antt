@@ -5,33 +5,32 @@ use mathlib.Core.List.{List}
 use mathlib.Core.Path.{_≡_, refl, sym, _∙_, ap}
 use native.Mathlib.Decide.{ℕ-discrete}
 use native.Mathlib.Omega.{arith}
-use borrow.Author.Tests.{eq-eqb, ne-eqb, lt-ltb, le-ltb}
-use lib.Dec.{eqb}
+use borrow.Author.Tests.{eq-eqb, ne-eqb, lt-leb, lt-ltb, le-ltb}
+use lib.Dec.{leb, eqb}
 use lib.ListN.{length, getD, set, length-set}
 use lib.Seq.{getD-set-same, getD-set-other}
 use Rattle.base.proofs.Below.{any-below, some-below}
-use Rattle.base.proofs.Bools.{refuted, bool-ext, and-intro, and-right, and-false-left, and-false-right, or-false}
-use Rattle.base.proofs.Choice.{cond-true, cond-false, between-low, between-high}
+use Rattle.base.proofs.Bools.{bool-ext, and-intro, and-right, and-false-left, and-false-right, or-false}
+use Rattle.base.proofs.Choice.{cond-true, cond-false}
 use Rattle.base.specs.Below.{anyBelow}
-use Rattle.base.specs.Choice.{between}
 use Rattle.disac4.specs.Turn.{turn}
 use Rattle.idle.specs.Table.{idleAt, Puts, enables}
 
 -- one cell is stored
-pub puts-one : (v k d : ℕ) (table : List ℕ) → length table ≡ 144 → k < 9 → d < 16
-    → Puts v (λ j a. eqb j k && eqb a d) table (set table (k * 16 + d) v)
-puts-one v k d table l h e = record { long = length-set table (k * 16 + d) v ∙ l; each = each }
+pub puts-one : (v k d : ℕ) (table : List ℕ) → length table ≡ 117 → k < 9 → d < 13
+    → Puts v (λ j a. eqb j k && eqb a d) table (set table (k * 13 + d) v)
+puts-one v k d table l h e = record { long = length-set table (k * 13 + d) v ∙ l; each = each }
   where
-    each : (j a : ℕ) → j < 9 → a < 16 → idleAt (set table (k * 16 + d) v) j a ≡ cond (eqb j k && eqb a d) v (idleAt table j a)
+    each : (j a : ℕ) → j < 9 → a < 13 → idleAt (set table (k * 13 + d) v) j a ≡ cond (eqb j k && eqb a d) v (idleAt table j a)
     each j a m n =
-        elim (ℕ-discrete (j * 16 + a) (k * 16 + d)) [
-          | yes same ↦ rw same (getD-set-same table (k * 16 + d) v 0 (omega (arith, l)))
+        elim (ℕ-discrete (j * 13 + a) (k * 13 + d)) [
+          | yes same ↦ rw same (getD-set-same table (k * 13 + d) v 0 (omega (arith, l)))
               ∙ sym (cond-true v (idleAt table j a) (and-intro (eq-eqb j k (omega arith)) (eq-eqb a d (omega arith))))
-          | no other ↦ getD-set-other table (k * 16 + d) (j * 16 + a) v 0 other
+          | no other ↦ getD-set-other table (k * 13 + d) (j * 13 + a) v 0 other
               ∙ sym (cond-false v (idleAt table j a) (away other))
         ]
       where
-        away : (j * 16 + a ≡ k * 16 + d → ⊥) → eqb j k && eqb a d ≡ false
+        away : (j * 13 + a ≡ k * 13 + d → ⊥) → eqb j k && eqb a d ≡ false
         away other =
             elim (ℕ-discrete j k) [
               | yes p ↦ and-false-right (eqb j k) (ne-eqb a d (λ q. other (omega arith)))
@@ -53,17 +52,17 @@ module _ {v : ℕ} {p q : ℕ → ℕ → Bool} {before after : List ℕ} where
       either false b n = refl
 
   -- a change may be said by another test that agrees with its own
-  pub puts-as : ((k d : ℕ) → k < 9 → d < 16 → p k d ≡ q k d) → Puts v p before after → Puts v q before after
+  pub puts-as : ((k d : ℕ) → k < 9 → d < 13 → p k d ≡ q k d) → Puts v p before after → Puts v q before after
   puts-as e f = record {
     long = f .long;
     each = λ k d h a. f .each k d h a ∙ ap (λ (t : Bool). cond t v (idleAt before k d)) (e k d h a);
   }
 
 -- an actor's actions that are no reads, one by one
-pub own-actions : (c : Bool) (a : ℕ)
-    → (((c && eqb a 9) || (c && eqb a 10)) || (c && eqb a 11)) || (c && eqb a 12) ≡ c && between 9 12 a
-own-actions false a = refl
-own-actions true a =
+pub own-actions : (c : Bool) (a : ℕ) → a < 13
+    → (((c && eqb a 9) || (c && eqb a 10)) || (c && eqb a 11)) || (c && eqb a 12) ≡ c && leb 9 a
+own-actions false a h = refl
+own-actions true a h =
     elim (ℕ-discrete a 9) [
       | yes e ↦ rw e refl
       | no n₁ ↦ elim (ℕ-discrete a 10) [
@@ -73,7 +72,7 @@ own-actions true a =
           | no n₃ ↦ elim (ℕ-discrete a 12) [
             | yes e ↦ rw e refl
             | no n₄ ↦ or-false (or-false (or-false (ne-eqb a 9 n₁) (ne-eqb a 10 n₂)) (ne-eqb a 11 n₃)) (ne-eqb a 12 n₄)
-                ∙ sym (refuted (between 9 12 a) (λ e. omega (arith, between-low 9 12 a e, between-high 9 12 a e)))
+                ∙ sym (lt-leb 9 a (omega arith))
           ]
         ]
       ]
@@ -90,7 +89,7 @@ all-reads k j a h =
 
 -- the same turn, and what its actor does but read
 abbrev own : ℕ → ℕ → ℕ → ℕ → Bool
-own k d j a = (eqb j k && eqb a d) || (eqb j k && between 9 12 a)
+own k d j a = (eqb j k && eqb a d) || (eqb j k && leb 9 a)
 
 module _ (k d : ℕ) {before after : List ℕ} where
   pub forgets-reads : 9 < d → Puts 0 (λ j a. own k d j a || eqb a k) before after

@@ -3,26 +3,25 @@ use Prim.Native.Nat.{ℕ, _+_, _*_, _<_}
 use mathlib.Core.Bool.{Bool, true, false, cond, _&&_, _||_}
 use mathlib.Core.List.{List}
 use mathlib.Core.Path.{_≡_}
-use lib.Dec.{ltb, eqb}
+use lib.Dec.{leb, ltb, eqb}
 use lib.ListN.{length, getD}
-use Rattle.base.specs.Choice.{between}
-use Rattle.disac4.specs.Turn.{Turn, treatNumber, pollNumber}
+use Rattle.disac4.specs.Turn.{Turn, treatNumber}
 
 -- the cell of actor `k`'s action `d`: 1 where that is known to be idle
 abbrev pub idleAt : List ℕ → ℕ → ℕ → ℕ
-idleAt table k d = getD table (k * 16 + d) 0
+idleAt table k d = getD table (k * 13 + d) 0
 
 -- the cells of some turns become `v`, the others stay
 pub record Puts (v : ℕ) (which : ℕ → ℕ → Bool) (before after : List ℕ) : Type 0 where
-  pub long : length after ≡ 144
-  pub each : (k d : ℕ) → k < 9 → d < 16 → idleAt after k d ≡ cond (which k d) v (idleAt before k d)
+  pub long : length after ≡ 117
+  pub each : (k d : ℕ) → k < 9 → d < 13 → idleAt after k d ≡ cond (which k d) v (idleAt before k d)
 
 -- where `t` has changed something, `u` may find something to do: the same turn again; what its actor does but read; and where
 -- `t` sent a message, a read from that actor
 unfoldable pub enables : Turn → Turn → Bool
 enables t u =
     ((eqb (u .actor) (t .actor) && eqb (u .action) (t .action))
-    || (eqb (u .actor) (t .actor) && between treatNumber pollNumber (u .action)))
+    || (eqb (u .actor) (t .actor) && leb treatNumber (u .action)))
     || (ltb treatNumber (t .action) && eqb (u .action) (t .actor))
 
 -- what is known after `t`: it is idle, if it changed nothing; else nothing of the turns that it may have enabled

@@ -2,39 +2,38 @@
 ghost use mathlib.Core.Bool.{_&&_};
 ghost use mathlib.Core.Path.{_≡_};
 ghost use Prim.Native.Nat.{ℕ, _<_};
-ghost use lib.Dec.{eqb};
+ghost use lib.Dec.{leb, eqb};
 ghost use lib.ListN.{length};
-ghost use Rattle.base.specs.Choice.{between};
 ghost use Rattle.disac4.specs.Turn.{turn};
 ghost use Rattle.idle.specs.Table.{idleAt, Puts, enables, Learns};
 
 // Of no turn anything is known.
-pub fn none_known() -> [u8; 144]
-    ensures { λ r. ⌜ (length r ≡ 144) × ((k d : ℕ) → k < 9 → d < 16 → idleAt r k d ≡ 0) ⌝ }
+pub fn none_known() -> [u8; 117]
+    ensures { λ r. ⌜ (length r ≡ 117) × ((k d : ℕ) → k < 9 → d < 13 → idleAt r k d ≡ 0) ⌝ }
 {
-    [0; 144]
+    [0; 117]
 }
 
 // Whether actor k's action d is known to be idle.
-pub fn known(table: &[u8; 144], k: usize, d: usize) -> bool
-    requires { ⌜ (length (now table) ≡ 144) × (k < 9) × (d < 16) ⌝ }
+pub fn known(table: &[u8; 117], k: usize, d: usize) -> bool
+    requires { ⌜ (length (now table) ≡ 117) × (k < 9) × (d < 13) ⌝ }
     ensures { λ r. ⌜ r ≡ eqb (idleAt (now (table .entry)) k d) 1 ⌝ }
 {
-    table[k * 16 + d] == 1
+    table[k * 13 + d] == 1
 }
 
 // Puts v into the cell of actor k's action d.
-fn put(table: &mut [u8; 144], k: usize, d: usize, v: u8)
-    requires { ⌜ (length (now table) ≡ 144) × (k < 9) × (d < 16) ⌝ }
+fn put(table: &mut [u8; 117], k: usize, d: usize, v: u8)
+    requires { ⌜ (length (now table) ≡ 117) × (k < 9) × (d < 13) ⌝ }
     ensures { λ _. ⌜ Puts v (λ j a. eqb j k && eqb a d) (now (table .entry)) (now (table .exit)) ⌝ }
 {
-    table[k * 16 + d] = v;
+    table[k * 13 + d] = v;
 }
 
 // Nothing is known any more of what actor k does but read.
-fn forget_own(table: &mut [u8; 144], k: usize)
-    requires { ⌜ (length (now table) ≡ 144) × (k < 9) ⌝ }
-    ensures { λ _. ⌜ Puts 0 (λ j a. eqb j k && between 9 12 a) (now (table .entry)) (now (table .exit)) ⌝ }
+fn forget_own(table: &mut [u8; 117], k: usize)
+    requires { ⌜ (length (now table) ≡ 117) × (k < 9) ⌝ }
+    ensures { λ _. ⌜ Puts 0 (λ j a. eqb j k && leb 9 a) (now (table .entry)) (now (table .exit)) ⌝ }
 {
     put(table, k, 9, 0);
     put(table, k, 10, 0);
@@ -43,8 +42,8 @@ fn forget_own(table: &mut [u8; 144], k: usize)
 }
 
 // Nor of the reads from actor k.
-fn forget_reads(table: &mut [u8; 144], k: usize)
-    requires { ⌜ (length (now table) ≡ 144) × (k < 9) ⌝ }
+fn forget_reads(table: &mut [u8; 117], k: usize)
+    requires { ⌜ (length (now table) ≡ 117) × (k < 9) ⌝ }
     ensures { λ _. ⌜ Puts 0 (λ j a. eqb a k) (now (table .entry)) (now (table .exit)) ⌝ }
 {
     let mut j = 0;
@@ -55,8 +54,8 @@ fn forget_reads(table: &mut [u8; 144], k: usize)
 }
 
 // Nor of any turn that may find something to do, where actor k's action d has changed something.
-fn forget(table: &mut [u8; 144], k: usize, d: usize)
-    requires { ⌜ (length (now table) ≡ 144) × (k < 9) × (d < 16) ⌝ }
+fn forget(table: &mut [u8; 117], k: usize, d: usize)
+    requires { ⌜ (length (now table) ≡ 117) × (k < 9) × (d < 13) ⌝ }
     ensures { λ _. ⌜ Puts 0 (λ j a. enables (turn k d) (turn j a)) (now (table .entry)) (now (table .exit)) ⌝ }
 {
     put(table, k, d, 0);
@@ -67,8 +66,8 @@ fn forget(table: &mut [u8; 144], k: usize, d: usize)
 }
 
 // What is known after actor k's action d: where it was idle, that; where it changed something, less than before.
-pub fn learn(table: &mut [u8; 144], k: usize, d: usize, changed: bool)
-    requires { ⌜ (length (now table) ≡ 144) × (k < 9) × (d < 16) ⌝ }
+pub fn learn(table: &mut [u8; 117], k: usize, d: usize, changed: bool)
+    requires { ⌜ (length (now table) ≡ 117) × (k < 9) × (d < 13) ⌝ }
     ensures { λ _. ⌜ Learns (turn k d) changed (now (table .entry)) (now (table .exit)) ⌝ }
 {
     if changed {

@@ -13,6 +13,7 @@ pub mod Growing
 pub mod Grown
 pub mod Hearing
 pub mod HeldPoll
+pub mod IdleKept
 pub mod Keeps
 pub mod LabelLoad
 pub mod Labelwise

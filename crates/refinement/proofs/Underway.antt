@@ -123,6 +123,23 @@ module _ (b : List ℕ) (sound : planFault b ≡ none) where
               ap (λ (s : Machine). one (isSome (stepM sys s t) && test t)) (at .stands),
             )
 
+    -- and what one turn more has done
+    pub at-after : (t : Turn) (cells′ : List ℕ) (g′ : Progress) → At b m (ts ++ (t ∷ [])) cells′ g′
+        → (machine cells′ (g′ .tally) ≡ afterM sys (machine cells (g .tally)) t)
+        × (g′ .changes ≡ g .changes + one (isSome (stepM sys (machine cells (g .tally)) t)))
+    unfolding playM countM
+    at-after t cells′ g′ later = (
+      later .stands ∙ playM-append sys ts (t ∷ []) (startM b m) ∙ ap (λ (s : Machine). afterM sys s t) (sym (at .stands)),
+      omega (
+        arith,
+        later .changes,
+        at .changes,
+        countM-append sys (λ t. true) ts (t ∷ []) (startM b m),
+        ap (λ (s : Machine). one (isSome (stepM sys s t))) (at .stands),
+        ap one (and-true (isSome (stepM sys (playM sys (startM b m) ts) t)) {b = true} refl),
+      ),
+    )
+
 -- ---- lists of turns, one after the other
 
 module _ (b : List ℕ) where

@@ -1,4 +1,3 @@
-pub mod Awake
 pub mod Inv
 pub mod Run
 pub mod Step

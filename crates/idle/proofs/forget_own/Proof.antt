@@ -22,7 +22,7 @@ returns c =
     let third = c .before .before in
     let second = third .before .before in
     let first = second .before .before in
-    puts-as (λ j a h e. own-actions (eqb j (first .before .before .args .k)) a)
+    puts-as (λ j a h e. own-actions (eqb j (first .before .before .args .k)) a e)
     (puts-both (puts-both (puts-both (first .put .ensures) (second .put2 .ensures)) (third .put3 .ensures)) (c .put4 .ensures))
 
 pub forget-own-spec : {M : Type 1} → statement M
