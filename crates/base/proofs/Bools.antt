@@ -74,6 +74,11 @@ pub or-right : (a : Bool) {b : Bool} → b ≡ true → a || b ≡ true
 or-right true q = refl
 or-right false q = q
 
+-- a test beside one that always fails decides alone
+pub or-never : (b : Bool) → b || false ≡ b
+or-never true = refl
+or-never false = refl
+
 -- where neither holds, the first fails
 pub or-false-left : (a b : Bool) → a || b ≡ false → a ≡ false
 or-false-left true b e = e

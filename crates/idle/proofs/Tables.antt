@@ -10,7 +10,7 @@ use lib.Dec.{leb, eqb}
 use lib.ListN.{length, getD, set, length-set}
 use lib.Seq.{getD-set-same, getD-set-other}
 use Rattle.base.proofs.Below.{any-below, some-below}
-use Rattle.base.proofs.Bools.{bool-ext, and-intro, and-right, and-false-left, and-false-right, or-false}
+use Rattle.base.proofs.Bools.{bool-ext, and-intro, and-right, and-false-left, and-false-right, or-never, or-false}
 use Rattle.base.proofs.Choice.{cond-true, cond-false}
 use Rattle.base.specs.Below.{anyBelow}
 use Rattle.disac4.specs.Turn.{turn}
@@ -101,8 +101,4 @@ module _ (k d : ℕ) {before after : List ℕ} where
   unfolding enables
   forgets-own h =
       puts-as
-      (λ j a l m. or-none (own k d j a) ∙ ap (λ (t : Bool). own k d j a || (t && eqb a k)) (sym (le-ltb 9 d h)))
-    where
-      or-none : (b : Bool) → b ≡ b || false
-      or-none true = refl
-      or-none false = refl
+      (λ j a l m. sym (or-never (own k d j a)) ∙ ap (λ (t : Bool). own k d j a || (t && eqb a k)) (sym (le-ltb 9 d h)))

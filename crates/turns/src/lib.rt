@@ -32,7 +32,7 @@ pub fn list_fits(turns: &[u8]) -> bool
     n % 2 == 0 && n <= 65536
 }
 
-// A worker reads from another actor, or treats, sends or answers. Here and below both tests are made: the turns of a list are
+// A worker reads from another actor, or treats, sends or answers. Here and below every test is made: the turns of a list are
 // of all kinds, so a test that hangs on another one would cost more than it spares.
 fn worker_may(p: usize, actor: usize, action: usize) -> bool
     ensures { λ r. ⌜ r ≡ workerMay p actor action ⌝ }
@@ -51,13 +51,9 @@ fn controller_may(p: usize, action: usize) -> bool
 pub fn allowed(p: usize, actor: usize, action: usize) -> bool
     ensures { λ r. ⌜ r ≡ allowedOf p (turn actor action) ⌝ }
 {
-    if actor == 0 {
-        return controller_may(p, action);
-    }
-    if p < actor {
-        return false;
-    }
-    worker_may(p, actor, action)
+    let controller = controller_may(p, action);
+    let worker = (actor <= p) & worker_may(p, actor, action);
+    ((actor == 0) & controller) | ((actor != 0) & worker)
 }
 
 // The number of the first turn that p workers do not allow; where all are allowed, how many there are.
