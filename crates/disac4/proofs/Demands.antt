@@ -6,7 +6,7 @@ use mathlib.Core.Logic.{⊎-elim}
 use mathlib.Core.Path.{_≡_, refl, sym, _∙_, ap, subst}
 use Rattle.base.proofs.Bools.{decided}
 use Rattle.base.proofs.Each.{Each, each-append, each-all}
-use Rattle.network.proofs.Chain.{apart-keeps}
+use Rattle.network.proofs.Chain.{untied-keeps}
 use Rattle.network.proofs.Largest.{largest-consistent, largest-exists}
 use Rattle.network.proofs.Solution.{solution-within}
 use Rattle.network.specs.Consistency.{Within, Largest}
@@ -61,8 +61,7 @@ module _ (sys : System) (sound : Sound sys) (ts : List Turn) where
     stays-deleted = λ us.
         rw (play-append sys ts us (load sys)) (domain-shrinks sys (sound .few) (play sys (load sys) ts) us);
     stays-closed = λ closed us. play-append sys ts us (load sys) ∙ closed-stays sys (play sys (load sys) ts) closed us;
-    apart-kept = λ a apart d within on x v h g.
-        in-largest x v (apart-keeps (sys .net) a d apart within on (big .0) (big .1) x v h g);
+    untied-kept = λ z d c x v u h. in-largest x v (untied-keeps (sys .net) z d c (big .0) (big .1) x v u h);
   }
     where
       big : (d : Domains) × Largest (sys .net) d

@@ -1,14 +1,16 @@
--- The figures of a run: the timestamp is the number of polls that changed something, and no count of lists is above the
--- number of such sends.
-use Prim.Native.Nat.{ℕ, _+_, _≤_}
+-- The figures of a run: the timestamp is the number of polls that changed something, no count of lists is above the number
+-- of such sends, and the lowest empty slot is one of the plan's, or 0.
+use Prim.Native.Nat.{ℕ, suc, _+_, _≤_}
 use mathlib.Core.Bool.{Bool, true, false, cond, _&&_, _||_, not}
 use mathlib.Core.List.{List, [], _∷_}
 use mathlib.Core.Option.{Option, none, some, Option·getD}
 use mathlib.Core.Path.{_≡_, refl, _∙_}
 use native.Mathlib.Omega.{arith}
 use lib.Dec.{eqb}
+use Rattle.base.proofs.Below.{first-below}
+use Rattle.base.proofs.Choice.{unless-some, some-same}
 use Rattle.base.proofs.Weight.{weigh, weigh-append}
-use Rattle.base.specs.Below.{one}
+use Rattle.base.specs.Below.{one, anyBelow, firstBelow}
 use Rattle.network.specs.Network.{Label}
 use Rattle.disac4.proofs.Channels.{into}
 use Rattle.disac4.proofs.Conservation.{isSent}
@@ -17,7 +19,7 @@ use Rattle.disac4.proofs.Sound.{isList}
 use Rattle.disac4.specs.Action.{isEmpty, treat, treatFrom, afterTreat, send, afterSend, readFrom, readWorker, afterList, afterPoll, afterDrop, ready, answer, answerTo, afterAnswer, ask, afterAsk, current, controllerFrom, readController, afterCount, afterMark}
 use Rattle.disac4.specs.Event.{sent, eventsAt, events, treatEvent, readEvent, isTreat, isRead}
 use Rattle.disac4.specs.Loading.{load}
-use Rattle.disac4.specs.Report.{isSend, isPoll}
+use Rattle.disac4.specs.Report.{lowestEmpty, isSend, isPoll}
 use Rattle.disac4.specs.State.{State, Message, list, poll, reply, Poll}
 use Rattle.disac4.specs.System.{System, Sound}
 use Rattle.disac4.specs.Turn.{Turn, pollNumber, treatNumber, sendNumber, answerNumber, allowed, workerStep, controllerStep, step, after, play, isSome, changes, changesWhere}
@@ -170,3 +172,22 @@ pub timestamp-of-run : (sys : System) (ts : List Turn)
     → play sys (load sys) ts .controller .timestamp ≡ changesWhere sys isPoll (load sys) ts
 unfolding load
 timestamp-of-run sys ts = polls-add sys ts (load sys) ∙ omega arith
+
+-- ---- the lowest empty slot
+
+-- it is at most the number of slots
+pub lowest-empty-bound : (sys : System) (st : State) → lowestEmpty sys st ≤ sys .net .variables
+unfolding lowestEmpty
+lowest-empty-bound sys st = go (firstBelow n slot) refl
+  where
+    n : ℕ
+    n = sys .net .variables
+
+    slot : ℕ → Option ℕ
+    slot x = cond (anyBelow (sys .net .size x) (st .domain x)) none (some (suc x))
+
+    go : (o : Option ℕ) → firstBelow n slot ≡ o → Option·getD o 0 ≤ n
+    go none e = omega arith
+    go (some a) e =
+        let r = first-below n slot a e in
+        some-same (λ (y : ℕ). y ≤ n) (unless-some (anyBelow (sys .net .size (r .0)) (st .domain (r .0))) (r .2) .1) (r .1)

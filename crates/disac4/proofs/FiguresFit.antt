@@ -8,24 +8,26 @@ use native.Mathlib.Omega.{arith}
 use Rattle.network.specs.Network.{labelCount}
 use Rattle.plan.proofs.WellFormed.{well-formed, few-labels}
 use Rattle.plan.specs.Decode.{decode, accepted}
+use Rattle.plan.specs.Network.{networkOf}
 use Rattle.plan.specs.Plan.{Plan}
 use Rattle.disac4.proofs.Bound.{changes-bounded}
 use Rattle.disac4.proofs.Demands.{plan-sound}
-use Rattle.disac4.proofs.Figures.{list-counter-bound, timestamp-of-run}
+use Rattle.disac4.proofs.Figures.{list-counter-bound, timestamp-of-run, lowest-empty-bound}
 use Rattle.disac4.proofs.PollBound.{polls-bound}
 use Rattle.disac4.proofs.QueueLengths.{QueueLengths, queue-lengths, queues-within}
 use Rattle.disac4.proofs.SendBound.{sends-bound}
 use Rattle.disac4.specs.Loading.{load}
-use Rattle.disac4.specs.Report.{isSend, isPoll, final}
+use Rattle.disac4.specs.Report.{lowestEmpty, isSend, isPoll, final}
 use Rattle.disac4.specs.System.{System, systemOf, turnBound, boundOf, Sound}
-use Rattle.disac4.specs.Turn.{Turn, changesWhere}
+use Rattle.disac4.specs.Turn.{Turn, play, changesWhere}
 
--- what the report counts, the counts of lists, the timestamp and the queues, after a list of turns
+-- the numbers of the report, the counts of lists, the timestamp and the queues, after a list of turns
 pub record FiguresFit (sys : System) (ts : List Turn) : Type 0 where
   pub turns : changesWhere sys (λ t. true) (load sys) ts ≤ boundOf sys
   pub bound : boundOf sys ≤ 21529
   pub sends : changesWhere sys isSend (load sys) ts ≤ 512
   pub polls : changesWhere sys isPoll (load sys) ts ≤ 513
+  pub lowest-empty : lowestEmpty sys (final sys ts) ≤ 32
   pub list-counters : (k : ℕ) → k ≤ sys .workers → final sys ts .listCounter k ≤ 512
   pub timestamp : final sys ts .controller .timestamp ≤ 513
   pub queues : QueueLengths sys (final sys ts) 512
@@ -37,13 +39,15 @@ turn-bound p l few labels =
     let five : 5 * p ≤ 40 = omega arith in
     omega (arith, mul-le-mul five labels)
 
-figures-of : {sys : System} → Sound sys → labelCount (sys .net) ≤ 512 → (ts : List Turn) → FiguresFit sys ts
+figures-of : {sys : System} → Sound sys → sys .net .variables ≤ 32 → labelCount (sys .net) ≤ 512 → (ts : List Turn)
+    → FiguresFit sys ts
 unfolding final boundOf
-figures-of {sys} sound labels ts = record {
+figures-of {sys} sound slots labels ts = record {
   turns = changes-bounded sys sound ts;
   bound = turn-bound (sys .workers) (labelCount (sys .net)) (sound .few) labels;
   sends = omega (arith, sends-bound sound ts);
   polls = omega (arith, polls-bound sound ts);
+  lowest-empty = omega (arith, lowest-empty-bound sys (play sys (load sys) ts));
   list-counters = λ k h. omega (arith, list-counter-bound sound ts k h, sends-bound sound ts);
   timestamp = omega (arith, timestamp-of-run sys ts, polls-bound sound ts);
   queues = queues-within labels (queue-lengths sound ts);
@@ -51,6 +55,6 @@ figures-of {sys} sound labels ts = record {
 
 -- every figure of every run of an accepted plan fits
 pub figures-fit : (b : List ℕ) (plan : Plan) → decode b ≡ accepted plan → (ts : List Turn) → FiguresFit (systemOf plan) ts
-unfolding systemOf
+unfolding systemOf networkOf
 figures-fit b plan e ts =
-    let w = well-formed b plan e in figures-of (plan-sound plan w) (few-labels plan w) ts
+    let w = well-formed b plan e in figures-of (plan-sound plan w) (w .variables-high) (few-labels plan w) ts

@@ -108,12 +108,27 @@ module _ (sys : System) (x v : ℕ) (st : State) (es : List Event) (f : Flow sys
           on-its-way sys x v st k,
         )
 
--- a worker treats a label at most once
-pub treated-once : (sys : System) → Sound sys → (ts : List Turn) (x v k : ℕ) → Worker sys k
-    → weigh (treatedBy x v k) (events sys (load sys) ts) ≤ 1
-treated-once sys sound ts x v k w =
-    omega (
-      arith,
-      treated-or-waits sys x v (play sys (load sys) ts) (events sys (load sys) ts) (flows sys x v sound ts) k w,
-      one-le (deleted sys (play sys (load sys) ts) x v),
-    )
+-- ---- the whole run
+
+module _ (sys : System) (sound : Sound sys) (ts : List Turn) (x v : ℕ) where
+  -- a worker treats a label at most once
+  pub treated-once : (k : ℕ) → Worker sys k → weigh (treatedBy x v k) (events sys (load sys) ts) ≤ 1
+  treated-once k w =
+      omega (
+        arith,
+        treated-or-waits sys x v (play sys (load sys) ts) (events sys (load sys) ts) (flows sys x v sound ts) k w,
+        one-le (deleted sys (play sys (load sys) ts) x v),
+      )
+
+  -- the list messages of a worker carry a label at most once
+  pub sent-once : (j : ℕ) → weigh (sentBy x v j) (events sys (load sys) ts) ≤ 1
+  sent-once j =
+      omega (
+        arith,
+        flows sys x v sound ts .sending j,
+        one-le (eqb (sys .owner x) j && deleted sys (play sys (load sys) ts) x v),
+      )
+
+  -- and those of any but its owner never
+  pub sent-by-owner : (j : ℕ) → (j ≡ sys .owner x → ⊥) → weigh (sentBy x v j) (events sys (load sys) ts) ≡ 0
+  sent-by-owner j n = omega (arith, flows sys x v sound ts .sending j, other sys x v (play sys (load sys) ts) j n)

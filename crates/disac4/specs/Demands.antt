@@ -6,9 +6,9 @@ use mathlib.Core.List.{List, _++_}
 use mathlib.Core.Logic.{_↔_}
 use mathlib.Core.Path.{_≡_}
 use Rattle.base.specs.Choice.{allOf}
-use Rattle.network.specs.Chain.{Apart, ConsistentOn}
+use Rattle.network.specs.Chain.{Untied, ConsistentApart}
 use Rattle.network.specs.Consistency.{Within, Largest}
-use Rattle.network.specs.Network.{Domains, loaded}
+use Rattle.network.specs.Network.{Domains}
 use Rattle.network.specs.Solution.{Solution}
 use Rattle.disac4.specs.Event.{events, unsent, unread, untreated, deleted}
 use Rattle.disac4.specs.Loading.{load}
@@ -53,9 +53,10 @@ pub record Demand2 (sys : System) (ts : List Turn) : Type 0 where
   pub stays-deleted : (us : List Turn) → Within (final sys (ts ++ us) .domain) (final sys ts .domain)
   -- a closed plan never changes again
   pub stays-closed : closedAfter sys ts ≡ true → (us : List Turn) → final sys (ts ++ us) ≡ final sys ts
-  -- variables that no chain of constraints ties to a domain lose no value through it, however small it is
-  pub apart-kept : (a : ℕ → Bool) → Apart (sys .net) a → (d : Domains) → Within d (loaded (sys .net))
-      → ConsistentOn (sys .net) a d → (x v : ℕ) → a x ≡ true → d x v ≡ true → final sys ts .domain x v ≡ true
+  -- variables that no chain of constraints ties to `z` lose no value through its domain, empty or not: they keep every label
+  -- of any domains that are arc-consistent apart from `z`
+  pub untied-kept : (z : ℕ) (d : Domains) → ConsistentApart (sys .net) z d → (x v : ℕ) → Untied (sys .net) x z
+      → d x v ≡ true → final sys ts .domain x v ≡ true
 
 -- The round run
 pub record RoundCloses (sys : System) : Type 0 where

@@ -60,8 +60,8 @@ isSentWith k x v (sent j labels) = eqb j k && holds labels x v
 isSentWith k x v (taken i j labels) = false
 isSentWith k x v (treated j a) = false
 
--- the event is `reader`'s read of a message from worker `k` that carries label `v` of `x`; a label is sent at most once, so
--- this is the message that carries it
+-- the event is `reader`'s read of a message from worker `k` that carries label `v` of `x`; a label is sent at most once
+-- (`sent-once`, `proofs/Treated.antt`), so this is the message that carries it
 abbrev pub isReadWith : ℕ → ℕ → ℕ → ℕ → Event → Bool
 isReadWith k reader x v (taken i j labels) = eqb i reader && eqb j k && holds labels x v
 isReadWith k reader x v (sent j labels) = false
