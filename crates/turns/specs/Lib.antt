@@ -1,1 +1,2 @@
 pub mod Bad
+pub mod Judged

@@ -7,7 +7,9 @@ ghost use mathlib.Core.Path.{_≡_};
 ghost use Rattle.disac4.specs.Turn.{workerMay, controllerMay, allowed as allowedOf, turn, turnFault, turnListFits};
 ghost use Prim.Native.Nat.{_/_, _≤_};
 ghost use lib.ListN.{length};
+ghost use Rattle.base.specs.Below.{one};
 ghost use Rattle.turns.specs.Bad.{badTurn};
+ghost use Rattle.turns.specs.Judged.{Judges};
 ghost use Rattle.plan.specs.Check.{firstFault, verdictOf};
 ghost use Rattle.disac4.specs.Outcome.{bufferChecks};
 
@@ -32,7 +34,7 @@ pub fn list_fits(turns: &[u8]) -> bool
     n % 2 == 0 && n <= 65536
 }
 
-// A worker reads from another actor, or treats, sends or answers. Here and below every test is made: the turns of a list are
+// A worker reads from another actor, or treats, sends or answers. Here and below both tests are made: the turns of a list are
 // of all kinds, so a test that hangs on another one would cost more than it spares.
 fn worker_may(p: usize, actor: usize, action: usize) -> bool
     ensures { λ r. ⌜ r ≡ workerMay p actor action ⌝ }
@@ -51,9 +53,46 @@ fn controller_may(p: usize, action: usize) -> bool
 pub fn allowed(p: usize, actor: usize, action: usize) -> bool
     ensures { λ r. ⌜ r ≡ allowedOf p (turn actor action) ⌝ }
 {
-    let controller = controller_may(p, action);
-    let worker = (actor <= p) & worker_may(p, actor, action);
-    ((actor == 0) & controller) | ((actor != 0) & worker)
+    if actor == 0 {
+        return controller_may(p, action);
+    }
+    if p < actor {
+        return false;
+    }
+    worker_may(p, actor, action)
+}
+
+// 1 where a test holds.
+fn one_if(test: bool) -> u8
+    ensures { λ r. ⌜ r ≡ one test ⌝ }
+{
+    if test { 1 } else { 0 }
+}
+
+// For each actor and action, whether p workers allow it.
+fn judge_all(p: usize) -> [u8; 117]
+    ensures { λ r. ⌜ Judges p r ⌝ }
+{
+    let mut table = [0; 117];
+    let mut i = 0;
+    while i < 117 {
+        table[i] = one_if(allowed(p, i / 13, i % 13));
+        i += 1;
+    }
+    table
+}
+
+// The same as `allowed`, looked up: a long list has each turn many times.
+fn judged(table: &[u8; 117], p: usize, actor: usize, action: usize) -> bool
+    requires { ⌜ Judges p (now table) ⌝ }
+    ensures { λ r. ⌜ r ≡ allowedOf p (turn actor action) ⌝ }
+{
+    if actor < 9 {
+        if action < 13 {
+            return table[actor * 13 + action] == 1;
+        }
+    }
+    allowed(p, actor, action)
 }
 
 // The number of the first turn that p workers do not allow; where all are allowed, how many there are.
@@ -61,9 +100,10 @@ pub fn first_bad(list: &[u8], p: usize) -> usize
     ensures { λ r. ⌜ (r ≤ length (now (list .entry)) / 2) × (turnFault p (now (list .entry)) ≡ badTurn (length (now (list .entry)) / 2) r) ⌝ }
 {
     let count = list.len() / 2;
+    let table = judge_all(p);
     let mut k = 0;
     while k < count {
-        if !allowed(p, byte_at(list, 2 * k), byte_at(list, 2 * k + 1)) {
+        if !judged(&table, p, byte_at(list, 2 * k), byte_at(list, 2 * k + 1)) {
             return k;
         }
         k += 1;
