@@ -1,5 +1,5 @@
 -- Answer in memory is answer.
-use Prim.Native.Nat.{ℕ, suc, _+_, _<_}
+use Prim.Native.Nat.{ℕ, suc, _<_}
 use mathlib.Core.Bool.{Bool, true, false, cond, _&&_}
 use mathlib.Core.List.{List, [], _∷_, _++_}
 use mathlib.Core.Option.{none, some}
@@ -7,18 +7,17 @@ use mathlib.Core.Path.{_≡_, refl, sym, _∙_, ap, ap₂}
 use native.Mathlib.Omega.{arith}
 use borrow.Author.Tests.{lt-ltb}
 use lib.Dec.{eqb}
-use Rattle.base.proofs.Choice.{update-same, update-other, update₂-same}
 use Rattle.disac4.specs.Action.{isEmpty, pollOf, afterAnswer, ready, answerTo, answer}
 use Rattle.disac4.specs.State.{Poll, Message, reply}
 use Rattle.disac4.specs.System.{System}
 use Rattle.disac4.specs.declared.Tally.{Tally}
 use Rattle.cells.proofs.Queue.{labels-empty, queue, queue-put}
-use Rattle.cells.proofs.Stores.{store-other}
-use Rattle.cells.specs.Layout.{WORKERS, BOUNDS, WORK, OUT, WANTED, HEAD, TAIL, LOGEND, SENDS, LISTS, HELD, OUTEND}
+use Rattle.cells.specs.Layout.{WORKERS, BOUNDS, WORK, WANTED, HEAD, TAIL, LOGEND, SENDS, LISTS, HELD, OUTEND}
 use Rattle.cells.specs.Memory.{Mem}
 use Rattle.answers.specs.Answers.{answeredM, emptyM, answerM}
 use Rattle.controller.specs.Controller.{Machine}
 use Rattle.cells.specs.View.{messageOf, pollAt, viewWork, viewLists, viewOut, view}
+use Rattle.refinement.proofs.Answering.{other-rows, none-held, put}
 use Rattle.refinement.proofs.Actors.{at-worker, counter-worker}
 use Rattle.refinement.proofs.Capacity.{sends-few, outend-few, held-few, timestamp-few}
 use Rattle.refinement.proofs.ChannelRows.{at-out, Stays, Beside, channels-update}
@@ -55,8 +54,7 @@ module _ (sys : System) (small : Small sys) (s : Machine) (inv : Inv sys s) (i :
   answer-grown = record {
     logs = λ j hj d l. refl;
     bounds = λ j hj n l. refl;
-    outs = λ j hj n l. store-other m OUT i (m WORKERS i OUTEND) (m WORKERS i HELD) OUT j n
-        (λ r e f. omega (arith, ap (λ (k : ℕ). m WORKERS k OUTEND) e));
+    outs = λ j hj n l. put i m .old j n (λ e f. omega (arith, ap (λ (k : ℕ). m WORKERS k OUTEND) e));
     wanted = λ n l. refl;
   }
 
@@ -66,7 +64,7 @@ module _ (sys : System) (small : Small sys) (s : Machine) (inv : Inv sys s) (i :
     cursors = λ j k hj hk n. refl;
     sends = λ j k hj hk n. refl;
     out-read = λ j hj n. refl;
-    out-end = λ j hj n. update-other (λ j. m WORKERS j OUTEND) i (m WORKERS i OUTEND + 1) j (λ e. n (ap suc e) refl);
+    out-end = λ j hj n. other-rows i m j OUTEND (λ e. n (ap suc e) refl);
     polls = λ k hk n. refl;
     timestamp = λ k hk n. refl;
   })
@@ -76,9 +74,9 @@ module _ (sys : System) (small : Small sys) (s : Machine) (inv : Inv sys s) (i :
   unfolding answeredM held pollAt pollOf viewOut
   replied =
       queue-put (outQueue m i) (outQueue m′ i) (out-kept sys small s inv m′ answer-grown i h) (inv .rows i h .out-read) refl
-      (update-same (λ j. m WORKERS j OUTEND) i (m WORKERS i OUTEND + 1))
+      (put i m .more)
       ∙ ap (λ (a : Message). viewOut m i ++ (a ∷ []))
-      (ap (messageOf m′ i) (update₂-same (λ n j. m OUT j n) (m WORKERS i OUTEND) i (m WORKERS i HELD))
+      (ap (messageOf m′ i) (put i m .new)
       ∙ reply-code m′ i (m WORKERS i HELD) (omega (arith, held-small)))
 
   answer-view : view sys m′ t ≡ afterAnswer (suc i) held (view sys m t)
@@ -99,11 +97,10 @@ module _ (sys : System) (small : Small sys) (s : Machine) (inv : Inv sys s) (i :
   })
     where
       here : heldAt m′ i ≡ none
-      here =
-          ap (λ (n : ℕ). cond (eqb n 0) none (some (pollAt m n))) (update-same (λ j. m WORKERS j HELD) i 0)
+      here = ap (λ (n : ℕ). cond (eqb n 0) none (some (pollAt m n))) (none-held i m)
 
       there : (j : ℕ) → j < sys .workers → (j ≡ i → ⊥) → heldAt m′ j ≡ heldAt m j
-      there j hj n = held-row m m′ j (update-other (λ j. m WORKERS j HELD) i 0 j n) refl
+      there j hj n = held-row m m′ j (other-rows i m j HELD n) refl
 
   -- both lists are empty, and the list counter equals the wanted count
   abbrev isReady : Bool

@@ -8,15 +8,13 @@ use native.Mathlib.Numerals.{add-one}
 use native.Mathlib.Omega.{arith}
 use borrow.Author.Tests.{lt-ltb}
 use Rattle.base.proofs.Bools.{and-false-right}
-use Rattle.base.proofs.Choice.{update₂-same}
 use Rattle.base.proofs.Row.{bit-past}
 use Rattle.disac4.specs.Action.{pollOf, afterAsk, ask}
 use Rattle.disac4.specs.State.{Poll, Message, poll}
 use Rattle.disac4.specs.System.{System}
 use Rattle.disac4.specs.declared.Tally.{Tally}
 use Rattle.cells.proofs.Queue.{queue-put}
-use Rattle.cells.proofs.Stores.{store-other}
-use Rattle.cells.specs.Layout.{WORKERS, WANTED, HELD}
+use Rattle.cells.specs.Layout.{WORKERS, HELD}
 use Rattle.cells.specs.Memory.{Mem}
 use Rattle.controller.specs.Controller.{askM, askedT, asksT, Machine, pollM}
 use Rattle.cells.specs.View.{isWorker, pollAt, viewLists, viewPolls, view}
@@ -25,6 +23,7 @@ use Rattle.refinement.proofs.ChannelRows.{atChannel, at-polls, Stays, c
 use Rattle.refinement.proofs.Grown.{Grown, pollsQueue, polls-kept, channels-kept}
 use Rattle.refinement.proofs.HeldPoll.{heldAt, held-same, held-row}
 use Rattle.refinement.specs.Inv.{Small, Inv}
+use Rattle.refinement.proofs.Polling.{new-wanted, old-wanted}
 use Rattle.refinement.proofs.Seen.{mapO, viewOf, view-parts, rowsOf, same-state, mapO-cond}
 
 module _ (sys : System) (small : Small sys) (s : Machine) (inv : Inv sys s) where
@@ -49,14 +48,13 @@ module _ (sys : System) (small : Small sys) (s : Machine) (inv : Inv sys s) wher
     logs = λ j hj d l. refl;
     bounds = λ j hj n l. refl;
     outs = λ j hj n l. refl;
-    wanted = λ n l. store-other m WANTED 0 (t .timestamp .0 + 1) (t .lists .0) WANTED 0 n (λ r e f. omega arith);
+    wanted = old-wanted t m;
   }
 
   -- the new poll
   asked : pollAt m′ (t .timestamp .0 + 1) ≡ pollOf (suc (t .timestamp .0)) (t .lists .0)
-  unfolding pollAt askM
-  asked =
-      ap₂ pollOf (add-one (t .timestamp .0)) (update₂-same (λ n j. m WANTED j n) (t .timestamp .0 + 1) 0 (t .lists .0))
+  unfolding pollAt
+  asked = ap₂ pollOf (add-one (t .timestamp .0)) (new-wanted t m)
 
   asked-view : view sys m′ t′ ≡ afterAsk sys (view sys m t)
   unfolding view-parts viewPolls askM askedT afterAsk

@@ -26,6 +26,7 @@ use Rattle.refinement.proofs.Actors.{atActor, at-worker, actors-update}
 use Rattle.refinement.proofs.Capacity.{heard-few, outend-few}
 use Rattle.refinement.proofs.ChannelRows.{at-out, Stays, Beside, channels-update}
 use Rattle.refinement.proofs.Grown.{Grown, outQueue, out-kept, channels-kept}
+use Rattle.refinement.proofs.Hearing.{more-read, others}
 use Rattle.refinement.specs.Inv.{Small, Inv}
 use Rattle.refinement.proofs.Marks.{mark-small, mark-bit, marks-full}
 use Rattle.refinement.proofs.Seen.{mapO, viewOf, view-parts, rowsOf, channel-rows, same-state}
@@ -55,7 +56,7 @@ module _ (sys : System) (small : Small sys) (s : Machine) (inv : Inv sys s) (i :
   other-channels t′ e = channels-kept sys small s inv m′ heard-grown t′ (Beside (suc i) 0) (record {
     cursors = λ j k hj hk n. refl;
     sends = λ j k hj hk n. refl;
-    out-read = λ j hj n. update-other (λ j. m WORKERS j OUTREAD) i (m WORKERS i OUTREAD + 1) j (λ e. n (ap suc e) refl);
+    out-read = λ j hj n. others i m j OUTREAD (λ e q. n (ap suc e) refl);
     out-end = λ j hj n. refl;
     polls = λ k hk n. refl;
     timestamp = λ k hk n. e;
@@ -220,7 +221,7 @@ module _ (sys : System) (small : Small sys) (s : Machine) (inv : Inv sys s) (i :
           (channel
           ∙ queue-taken (outQueue m i) (outQueue m′ i) (out-kept sys small s inv m′ heard-grown i h)
           (ltb-true (m WORKERS i OUTREAD) (m WORKERS i OUTEND) p)
-          (update-same (λ j. m WORKERS j OUTREAD) i (m WORKERS i OUTREAD + 1)) refl))
+          (more-read i m) refl))
       go false p =
           sym
           (ap (controllerFrom sys (suc i) (viewOf sys s))

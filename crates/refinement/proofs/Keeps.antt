@@ -18,7 +18,8 @@ use Rattle.treating.specs.Treat.{treatM}
 use Rattle.refinement.proofs.Answering.{answer-keeps}
 use Rattle.refinement.proofs.Hearing.{hear-keeps}
 use Rattle.refinement.specs.Inv.{Small, Inv}
-use Rattle.refinement.proofs.Polling.{poll-keeps, read-poll-keeps}
+use Rattle.refinement.proofs.Polling.{poll-keeps}
+use Rattle.refinement.proofs.PollReadKeeps.{read-poll-keeps}
 use Rattle.refinement.proofs.Reading.{read-list-keeps}
 use Rattle.refinement.proofs.Sending.{send-keeps}
 

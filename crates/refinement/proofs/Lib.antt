@@ -23,6 +23,7 @@ pub mod Loading
 pub mod Marks
 pub mod Outgoing
 pub mod PollRead
+pub mod PollReadKeeps
 pub mod Polling
 pub mod Reading
 pub mod Refined

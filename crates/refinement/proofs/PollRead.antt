@@ -6,14 +6,14 @@ use mathlib.Core.Path.{_≡_, refl, sym, _∙_, ap}
 use native.Mathlib.Omega.{arith}
 use borrow.Author.Tests.{ltb-true, ltb-false, ne-eqb}
 use lib.Dec.{ltb}
-use Rattle.base.proofs.Choice.{cond-false, update-same, update-other}
+use Rattle.base.proofs.Choice.{cond-false}
 use Rattle.disac4.specs.Action.{afterPoll, readFrom, readWorker}
 use Rattle.disac4.specs.State.{Poll}
 use Rattle.disac4.specs.System.{System}
 use Rattle.disac4.specs.declared.Tally.{Tally}
 use Rattle.cells.proofs.Queue.{queue-taken, queue-none}
 use Rattle.cells.specs.Layout.{WORKERS, HELD, POLLS}
-use Rattle.cells.specs.Memory.{Mem, store}
+use Rattle.cells.specs.Memory.{Mem}
 use Rattle.reads.specs.Reads.{readPollM}
 use Rattle.controller.specs.Controller.{Machine}
 use Rattle.cells.specs.View.{pollAt, viewPolls, view}
@@ -21,6 +21,7 @@ use Rattle.refinement.proofs.ChannelRows.{at-polls, Stays, Beside, chan
 use Rattle.refinement.proofs.Grown.{Grown, pollsQueue, polls-kept, channels-kept}
 use Rattle.refinement.proofs.HeldPoll.{heldAt, held-update, held-row}
 use Rattle.refinement.specs.Inv.{Small, Inv}
+use Rattle.refinement.proofs.PollReadKeeps.{heldM, more-polls, newest-held, other-rows}
 use Rattle.refinement.proofs.Seen.{mapO, viewOf, view-parts, rowsOf, channel-rows, same-state}
 
 module _ (sys : System) (small : Small sys) (s : Machine) (inv : Inv sys s) (i : ℕ) (h : i < sys .workers) where
@@ -32,7 +33,7 @@ module _ (sys : System) (small : Small sys) (s : Machine) (inv : Inv sys s) (i :
 
   -- the memory after
   abbrev m′ : Mem
-  m′ = store (store m WORKERS i POLLS (m WORKERS i POLLS + 1)) WORKERS i HELD (m WORKERS i POLLS + 1)
+  m′ = heldM i m
 
   newest : Poll
   newest = pollAt m (m WORKERS i POLLS + 1)
@@ -51,7 +52,7 @@ module _ (sys : System) (small : Small sys) (s : Machine) (inv : Inv sys s) (i :
     sends = λ j k hj hk n. refl;
     out-read = λ j hj n. refl;
     out-end = λ j hj n. refl;
-    polls = λ k hk n. update-other (λ j. m WORKERS j POLLS) i (m WORKERS i POLLS + 1) k (λ e. n refl (ap suc e));
+    polls = λ k hk n. other-rows i m k POLLS (λ e. n refl (ap suc e));
     timestamp = λ k hk n. refl;
   })
 
@@ -71,14 +72,12 @@ module _ (sys : System) (small : Small sys) (s : Machine) (inv : Inv sys s) (i :
     where
       here : heldAt m′ i ≡ some newest
       here =
-          let e : m′ WORKERS i HELD ≡ m WORKERS i POLLS + 1 =
-          update-same (λ j. m WORKERS j HELD) i (m WORKERS i POLLS + 1) in
-          cond-false none (some (pollAt m′ (m′ WORKERS i HELD)))
-          (ne-eqb (m′ WORKERS i HELD) 0 (λ z. omega arith))
-          ∙ ap (λ (n : ℕ). some (pollAt m n)) e
+          cond-false none (some (pollAt m (m′ WORKERS i HELD)))
+          (ne-eqb (m′ WORKERS i HELD) 0 (λ z. omega (arith, newest-held i m)))
+          ∙ ap (λ (n : ℕ). some (pollAt m n)) (newest-held i m)
 
       there : (j : ℕ) → j < sys .workers → (j ≡ i → ⊥) → heldAt m′ j ≡ heldAt m j
-      there j hj n = held-row m m′ j (update-other (λ j. m WORKERS j HELD) i (m WORKERS i POLLS + 1) j n) refl
+      there j hj n = held-row m m′ j (other-rows i m j HELD n) refl
 
   -- reading a poll in memory is reading from the controller
   pub poll-refines : mapO (λ m′. view sys m′ t) (readPollM i (t .timestamp .0) m) ≡ readWorker 0 (suc i) (viewOf sys s)
@@ -98,7 +97,7 @@ module _ (sys : System) (small : Small sys) (s : Machine) (inv : Inv sys s) (i :
           (channel
           ∙ queue-taken (pollsQueue m t i) (pollsQueue m′ t i) (polls-kept sys small s inv m′ poll-grown t i)
           (omega (arith, ltb-true (m WORKERS i POLLS) (t .timestamp .0) p))
-          (ap (λ (n : ℕ). n + 1) (update-same (λ j. m WORKERS j POLLS) i (m WORKERS i POLLS + 1))) refl))
+          (ap (λ (n : ℕ). n + 1) (more-polls i m)) refl))
       go false p =
           sym
           (ap (readFrom 0 (suc i) (viewOf sys s))
