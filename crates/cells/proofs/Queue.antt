@@ -3,7 +3,7 @@
 use Prim.Native.Nat.{ℕ, suc, _+_, _-_, _/_, _%_, _<_, _≤_}
 use mathlib.Core.List.{List, [], _∷_, _++_}
 use mathlib.Core.Path.{_≡_, refl, sym, _∙_, ap, ap₂}
-use native.Mathlib.Decide.{ℕ-discrete}
+use native.Mathlib.Decide.{ℕ-discrete, decLt}
 use native.Mathlib.Omega.{arith}
 use borrow.Author.Tests.{eq-eqb, ne-eqb}
 use lib.Dec.{eqb}
@@ -78,6 +78,16 @@ module _ {A : Type 0} where
       same d k =
           let y : q′ .start + d ≡ q .start + suc d = omega arith in
           sym (h (q .start + suc d) (omega arith) (omega arith)) ∙ ap (q′ .place) (sym y)
+
+  -- a read makes something of the oldest and the others, or of an empty queue
+  pub read-queue : {S : Type 0} (from : List A → S) (q q′ : Queue A) (z : S) → Kept q q′ → q′ .start ≡ q .start + 1
+      → q′ .stop ≡ q .stop → (q .start < q .stop → z ≡ from (q .place (q .start) ∷ listed q′))
+      → (q .stop ≤ q .start → z ≡ from []) → z ≡ from (listed q)
+  read-queue from q q′ z h a b oldest none =
+      elim (decLt (q .start) (q .stop)) [
+        | yes l ↦ oldest l ∙ ap from (sym (queue-taken q q′ h l a b))
+        | no n ↦ none (omega arith) ∙ ap from (sym (queue-none q (omega arith)))
+      ]
 
   -- it is empty exactly if it ends where it begins
   pub queue-empty : (q : Queue A) → q .start ≤ q .stop → isEmpty (listed q) ≡ eqb (q .start) (q .stop)

@@ -44,12 +44,7 @@ module _ (sys : System) (small : Small sys) (s : Machine) (inv : Inv sys s) wher
 
   asked-grown : Grown sys m t m′
   unfolding askM
-  asked-grown = record {
-    logs = λ j hj d l. refl;
-    bounds = λ j hj n l. refl;
-    outs = λ j hj n l. refl;
-    wanted = old-wanted t m;
-  }
+  asked-grown = search (old-wanted t m)
 
   -- the new poll
   asked : pollAt m′ (t .timestamp .0 + 1) ≡ pollOf (suc (t .timestamp .0)) (t .lists .0)

@@ -6,7 +6,7 @@ use mathlib.Core.Option.{none, some}
 use mathlib.Core.Path.{_≡_, refl, sym, _∙_, ap}
 use native.Mathlib.Numerals.{add-one}
 use native.Mathlib.Omega.{arith}
-use borrow.Author.Tests.{lt-ltb, ltb-true, ltb-false}
+use borrow.Author.Tests.{lt-ltb, le-ltb}
 use lib.Dec.{leb, ltb, eqb}
 use Rattle.base.proofs.Below.{all-ext}
 use Rattle.base.proofs.Bools.{and-true}
@@ -17,7 +17,7 @@ use Rattle.disac4.specs.Action.{afterCount, afterMark, afterDrop, allMarked, cu
 use Rattle.disac4.specs.State.{State, Controller, list, reply}
 use Rattle.disac4.specs.System.{System}
 use Rattle.disac4.specs.declared.Tally.{Tally}
-use Rattle.cells.proofs.Queue.{queue-taken, queue-none}
+use Rattle.cells.proofs.Queue.{read-queue}
 use Rattle.cells.specs.Layout.{WORKERS, OUT, LISTS, OUTEND, OUTREAD}
 use Rattle.cells.specs.Memory.{Mem}
 use Rattle.controller.specs.Controller.{countedT, markedT, toldT, withMark, hasOut, outReadM, Machine, hearM}
@@ -43,12 +43,7 @@ module _ (sys : System) (small : Small sys) (s : Machine) (inv : Inv sys s) (i :
 
   heard-grown : Grown sys m t m′
   unfolding outReadM
-  heard-grown = record {
-    logs = λ j hj d l. refl;
-    bounds = λ j hj n l. refl;
-    outs = λ j hj n l. refl;
-    wanted = λ n l. refl;
-  }
+  heard-grown = search
 
   -- the channel from worker `i + 1` loses its oldest message, whatever the tally makes of that
   other-channels : (t′ : Tally) → t′ .timestamp .0 ≡ t .timestamp .0 → Stays sys (Beside (suc i) 0) (rowsOf m t) (rowsOf m′ t′)
@@ -206,23 +201,10 @@ module _ (sys : System) (small : Small sys) (s : Machine) (inv : Inv sys s) (i :
   unfolding hearM readController viewOut outReadM
   hear-refines =
       ap (λ (b : Bool). mapO (viewOf sys) (cond b (some heard) none)) hear-room
-      ∙ go (ltb (m WORKERS i OUTREAD) (m WORKERS i OUTEND)) refl
-    where
-      channel : viewOf sys s .channel (suc i) 0 ≡ viewOut m i
-      channel = channel-rows sys s (suc i) 0 ∙ at-out sys (rowsOf m t) i h
-
-      go : (b : Bool) → ltb (m WORKERS i OUTREAD) (m WORKERS i OUTEND) ≡ b
-          → mapO (viewOf sys) (cond b (some heard) none)
-          ≡ controllerFrom sys (suc i) (viewOf sys s) (viewOf sys s .channel (suc i) 0)
-      go true p =
-          told-view oldest
-          ∙ sym
-          (ap (controllerFrom sys (suc i) (viewOf sys s))
-          (channel
-          ∙ queue-taken (outQueue m i) (outQueue m′ i) (out-kept sys small s inv m′ heard-grown i h)
-          (ltb-true (m WORKERS i OUTREAD) (m WORKERS i OUTEND) p)
-          (more-read i m) refl))
-      go false p =
-          sym
-          (ap (controllerFrom sys (suc i) (viewOf sys s))
-          (channel ∙ queue-none (outQueue m i) (ltb-false (m WORKERS i OUTREAD) (m WORKERS i OUTEND) p)))
+      ∙ read-queue (controllerFrom sys (suc i) (viewOf sys s)) (outQueue m i) (outQueue m′ i) _
+      (out-kept sys small s inv m′ heard-grown i h) (more-read i m) refl
+      (λ l.
+      ap (mapO (viewOf sys)) (cond-true (some heard) none (lt-ltb (m WORKERS i OUTREAD) (m WORKERS i OUTEND) l))
+      ∙ told-view oldest)
+      (λ l. ap (mapO (viewOf sys)) (cond-false (some heard) none (le-ltb (m WORKERS i OUTREAD) (m WORKERS i OUTEND) l)))
+      ∙ ap (controllerFrom sys (suc i) (viewOf sys s)) (sym (channel-rows sys s (suc i) 0 ∙ at-out sys (rowsOf m t) i h))

@@ -4,14 +4,14 @@ use mathlib.Core.Bool.{Bool, true, false, cond}
 use mathlib.Core.Option.{none, some}
 use mathlib.Core.Path.{_≡_, refl, sym, _∙_, ap}
 use native.Mathlib.Omega.{arith}
-use borrow.Author.Tests.{ltb-true, ltb-false, ne-eqb}
+use borrow.Author.Tests.{lt-ltb, le-ltb, ne-eqb}
 use lib.Dec.{ltb}
-use Rattle.base.proofs.Choice.{cond-false}
+use Rattle.base.proofs.Choice.{cond-true, cond-false}
 use Rattle.disac4.specs.Action.{afterPoll, readFrom, readWorker}
 use Rattle.disac4.specs.State.{Poll}
 use Rattle.disac4.specs.System.{System}
 use Rattle.disac4.specs.declared.Tally.{Tally}
-use Rattle.cells.proofs.Queue.{queue-taken, queue-none}
+use Rattle.cells.proofs.Queue.{read-queue}
 use Rattle.cells.specs.Layout.{WORKERS, HELD, POLLS}
 use Rattle.cells.specs.Memory.{Mem}
 use Rattle.reads.specs.Reads.{readPollM}
@@ -39,12 +39,7 @@ module _ (sys : System) (small : Small sys) (s : Machine) (inv : Inv sys s) (i :
   newest = pollAt m (m WORKERS i POLLS + 1)
 
   poll-grown : Grown sys m t m′
-  poll-grown = record {
-    logs = λ j hj d l. refl;
-    bounds = λ j hj n l. refl;
-    outs = λ j hj n l. refl;
-    wanted = λ n l. refl;
-  }
+  poll-grown = search
 
   other-channels : Stays sys (Beside 0 (suc i)) (rowsOf m t) (rowsOf m′ t)
   other-channels = channels-kept sys small s inv m′ poll-grown t (Beside 0 (suc i)) (record {
@@ -82,24 +77,12 @@ module _ (sys : System) (small : Small sys) (s : Machine) (inv : Inv sys s) (i :
   -- reading a poll in memory is reading from the controller
   pub poll-refines : mapO (λ m′. view sys m′ t) (readPollM i (t .timestamp .0) m) ≡ readWorker 0 (suc i) (viewOf sys s)
   unfolding readPollM readWorker viewPolls newest
-  poll-refines = go (ltb (m WORKERS i POLLS) (t .timestamp .0)) refl
-    where
-      channel : viewOf sys s .channel 0 (suc i) ≡ viewPolls m t i
-      channel = channel-rows sys s 0 (suc i) ∙ at-polls sys (rowsOf m t) i h
-
-      go : (b : Bool) → ltb (m WORKERS i POLLS) (t .timestamp .0) ≡ b
-          → mapO (λ m′. view sys m′ t) (cond b (some m′) none)
-          ≡ readFrom 0 (suc i) (viewOf sys s) (viewOf sys s .channel 0 (suc i))
-      go true p =
-          ap some poll-view
-          ∙ sym
-          (ap (readFrom 0 (suc i) (viewOf sys s))
-          (channel
-          ∙ queue-taken (pollsQueue m t i) (pollsQueue m′ t i) (polls-kept sys small s inv m′ poll-grown t i)
-          (omega (arith, ltb-true (m WORKERS i POLLS) (t .timestamp .0) p))
-          (ap (λ (n : ℕ). n + 1) (more-polls i m)) refl))
-      go false p =
-          sym
-          (ap (readFrom 0 (suc i) (viewOf sys s))
-          (channel
-          ∙ queue-none (pollsQueue m t i) (omega (arith, ltb-false (m WORKERS i POLLS) (t .timestamp .0) p))))
+  poll-refines =
+      read-queue (readFrom 0 (suc i) (viewOf sys s)) (pollsQueue m t i) (pollsQueue m′ t i) _
+      (polls-kept sys small s inv m′ poll-grown t i) (ap (λ (n : ℕ). n + 1) (more-polls i m)) refl
+      (λ l.
+      ap (mapO (λ m′. view sys m′ t)) (cond-true (some m′) none (lt-ltb (m WORKERS i POLLS) (t .timestamp .0) (omega arith)))
+      ∙ ap some poll-view)
+      (λ l.
+      ap (mapO (λ m′. view sys m′ t)) (cond-false (some m′) none (le-ltb (m WORKERS i POLLS) (t .timestamp .0) (omega arith))))
+      ∙ ap (readFrom 0 (suc i) (viewOf sys s)) (sym (channel-rows sys s 0 (suc i) ∙ at-polls sys (rowsOf m t) i h))

@@ -1,18 +1,18 @@
 -- Reading a list message in memory is reading from a worker.
-use Prim.Native.Nat.{ℕ, suc, _+_, _<_}
+use Prim.Native.Nat.{ℕ, suc, _+_, _<_, _≤_}
 use mathlib.Core.Bool.{Bool, true, false, cond, _&&_}
 use mathlib.Core.List.{List, [], _++_}
 use mathlib.Core.Option.{none, some}
 use mathlib.Core.Path.{_≡_, refl, sym, _∙_, ap}
 use native.Mathlib.Omega.{arith}
-use borrow.Author.Tests.{ltb-true, ltb-false, lt-ltb, le-leb}
+use borrow.Author.Tests.{lt-ltb, le-ltb, le-leb}
 use lib.Dec.{ltb, eqb}
 use Rattle.base.proofs.Choice.{cond-false}
 use Rattle.disac4.specs.Action.{afterList, readFrom, readWorker}
 use Rattle.disac4.specs.System.{System}
 use Rattle.disac4.specs.declared.Tally.{Tally}
 use Rattle.network.specs.Network.{Label, loaded}
-use Rattle.cells.proofs.Queue.{labels-same, queue, queue-taken, queue-none}
+use Rattle.cells.proofs.Queue.{labels-same, queue, read-queue}
 use Rattle.cells.specs.Layout.{WORKERS, CURSORS, BOUNDS, LOG, WORK, OUT, WANTED, DOMAIN, COUNTERS, HEADS, HEAD, TAIL, LOGEND, SENDS, LISTS, HELD, POLLS, OUTEND, OUTREAD}
 use Rattle.cells.specs.Memory.{Mem}
 use Rattle.reads.specs.Reads.{listEnd, takenM, readListM}
@@ -118,28 +118,13 @@ module _ (sys : System) (small : Small sys) (s : Machine) (inv : Inv sys s) (j i
   -- reading a list message in memory is reading from a worker
   pub list-refines : mapO (λ m′. view sys m′ t) (readListM j i m) ≡ readWorker (suc j) (suc i) (viewOf sys s)
   unfolding readWorker viewListMessages
-  list-refines = go (ltb (m CURSORS j i) (m WORKERS j SENDS)) refl
+  list-refines =
+      read-queue (readFrom (suc j) (suc i) (viewOf sys s)) (listMessagesQueue m j i) (listMessagesQueue m′ j i) _
+      (list-messages-kept sys small s inv m′ taken-grown j i hj) (new-cursor j i m) (steady j SENDS (omega arith))
+      (λ l. ap (mapO (λ m′. view sys m′ t)) (read-room l) ∙ ap some (taken-view l))
+      (λ l. ap (mapO (λ m′. view sys m′ t)) (idle l))
+      ∙ ap (readFrom (suc j) (suc i) (viewOf sys s))
+      (sym (channel-rows sys s (suc j) (suc i) ∙ at-list-messages sys (rowsOf m t) j i hj hi apart))
     where
-      channel : viewOf sys s .channel (suc j) (suc i) ≡ viewListMessages m j i
-      channel = channel-rows sys s (suc j) (suc i) ∙ at-list-messages sys (rowsOf m t) j i hj hi apart
-
-      idle : ltb (m CURSORS j i) (m WORKERS j SENDS) ≡ false → readListM j i m ≡ none
-      idle p = unfold readListM in cond-false _ none p
-
-      go : (b : Bool) → ltb (m CURSORS j i) (m WORKERS j SENDS) ≡ b
-          → mapO (λ m′. view sys m′ t) (readListM j i m)
-          ≡ readFrom (suc j) (suc i) (viewOf sys s) (viewOf sys s .channel (suc j) (suc i))
-      go true p =
-          let l : m CURSORS j i < m WORKERS j SENDS = ltb-true (m CURSORS j i) (m WORKERS j SENDS) p in
-          ap (mapO (λ m′. view sys m′ t)) (read-room l)
-          ∙ ap some (taken-view l)
-          ∙ sym
-          (ap (readFrom (suc j) (suc i) (viewOf sys s))
-          (channel
-          ∙ queue-taken (listMessagesQueue m j i) (listMessagesQueue m′ j i) (list-messages-kept sys small s inv m′ taken-grown j i hj) l
-          (new-cursor j i m) (steady j SENDS (omega arith))))
-      go false p =
-          ap (mapO (λ m′. view sys m′ t)) (idle p)
-          ∙ sym
-          (ap (readFrom (suc j) (suc i) (viewOf sys s))
-          (channel ∙ queue-none (listMessagesQueue m j i) (ltb-false (m CURSORS j i) (m WORKERS j SENDS) p)))
+      idle : m WORKERS j SENDS ≤ m CURSORS j i → readListM j i m ≡ none
+      idle l = unfold readListM in cond-false _ none (le-ltb (m CURSORS j i) (m WORKERS j SENDS) l)
