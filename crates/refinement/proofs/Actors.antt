@@ -1,19 +1,17 @@
 -- From rows to actors: what a function of rows says of a worker, and what changes at one worker.
 use Prim.Native.Nat.{ℕ, suc, _+_, _-_, _<_, _≤_}
-use mathlib.Core.Bool.{true, cond}
+use mathlib.Core.Bool.{true, false, cond}
 use mathlib.Core.Path.{_≡_, refl, sym, _∙_, ap}
 use native.Mathlib.Decide.{ℕ-discrete}
 use native.Mathlib.Omega.{arith}
 use borrow.Author.Tests.{ne-eqb}
 use lib.Dec.{eqb}
-use Rattle.base.proofs.Choice.{cond-true, cond-false, cond-ext, update-same, update-other, between-intro, between-low, between-high}
+use Rattle.base.proofs.Choice.{cond-true, cond-false, cond-same, cond-ext, update-same, update-other, between-intro, between-low, between-high}
+use Rattle.base.proofs.Row.{bit-past}
 use Rattle.base.specs.Choice.{update}
+use Rattle.base.specs.Row.{bit}
 use Rattle.disac4.specs.System.{System}
-use Rattle.cells.specs.View.{isWorker}
-
--- row `i` for worker `i + 1`, and `none` for all others
-abbrev pub atActor {ℓ} : {A : Type ℓ} → System → (ℕ → A) → A → ℕ → A
-atActor sys f none k = cond (isWorker sys k) (f (k - 1)) none
+use Rattle.cells.specs.View.{isWorker, atActor}
 
 -- worker `i + 1` is a worker
 pub worker-row : (sys : System) (i : ℕ) → i < sys .workers → isWorker sys (suc i) ≡ true
@@ -38,6 +36,10 @@ module _ {ℓ} {A : Type ℓ} (sys : System) where
       → atActor sys g none k ≡ atActor sys f none k
   actors-same f g none h k = cond-ext (isWorker sys k) _ _ _ _ (λ p. h (k - 1) (row-of sys k p .0)) (λ p. refl)
 
+  -- rows in which nothing stands
+  pub actors-none : (f : ℕ → A) (none : A) → ((i : ℕ) → f i ≡ none) → (k : ℕ) → atActor sys f none k ≡ none
+  actors-none f none h k = cond-same (isWorker sys k) (f (k - 1)) none none (h (k - 1)) refl
+
   -- one row changes
   pub actors-update : (f g : ℕ → A) (none : A) (i : ℕ) (a : A) → i < sys .workers → g i ≡ a
       → ((j : ℕ) → j < sys .workers → (j ≡ i → ⊥) → g j ≡ f j) → (k : ℕ)
@@ -52,6 +54,10 @@ module _ {ℓ} {A : Type ℓ} (sys : System) where
             (λ p. r (k - 1) (row-of sys k p .0) (λ q. n (row-of sys k p .1 ∙ ap suc q))) (λ p. refl)
             ∙ sym (update-other (atActor sys f none) (suc i) a k n)
       ]
+
+-- the empty row of marks marks nobody
+pub no-marks : (sys : System) (k : ℕ) → atActor sys (bit 0) false k ≡ false
+no-marks sys = actors-none sys (bit 0) false (λ i. bit-past 0 0 i (omega arith) (omega arith))
 
 -- row `i`'s counter, beside the controller's
 pub counter-worker : (sys : System) (f : ℕ → ℕ) (c i : ℕ) → i < sys .workers

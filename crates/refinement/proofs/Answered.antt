@@ -11,20 +11,19 @@ use Rattle.disac4.specs.Action.{isEmpty, pollOf, afterAnswer, ready, answerTo, 
 use Rattle.disac4.specs.State.{Poll, Message, reply}
 use Rattle.disac4.specs.System.{System}
 use Rattle.disac4.specs.declared.Tally.{Tally}
-use Rattle.cells.proofs.Queue.{labels-empty, queue, queue-put}
+use Rattle.cells.proofs.Queue.{labels-empty, queue-put}
 use Rattle.cells.specs.Layout.{WORKERS, BOUNDS, WORK, WANTED, HEAD, TAIL, LOGEND, SENDS, LISTS, HELD, OUTEND}
 use Rattle.cells.specs.Memory.{Mem}
 use Rattle.answers.specs.Answers.{answeredM, emptyM, answerM}
 use Rattle.controller.specs.Controller.{Machine}
-use Rattle.cells.specs.View.{messageOf, pollAt, viewWork, viewLists, viewOut, view}
+use Rattle.cells.specs.View.{messageOf, pollAt, viewLists, view, listed, workOf, heldOf, outQueue, atActor, rowsOf}
 use Rattle.refinement.proofs.Answering.{other-rows, none-held, put}
-use Rattle.refinement.proofs.Actors.{at-worker, counter-worker}
+use Rattle.refinement.proofs.Actors.{at-worker, counter-worker, actors-update}
 use Rattle.refinement.proofs.Capacity.{sends-few, outend-few, held-few, timestamp-few}
 use Rattle.refinement.proofs.ChannelRows.{at-out, Stays, Beside, channels-update}
-use Rattle.refinement.proofs.Grown.{Grown, outQueue, out-kept, channels-kept}
-use Rattle.refinement.proofs.HeldPoll.{heldAt, held-worker, held-update, held-row}
+use Rattle.refinement.proofs.Grown.{Grown, out-kept, channels-kept, held-row}
 use Rattle.refinement.specs.Inv.{Small, Inv}
-use Rattle.refinement.proofs.Seen.{mapO, mapO-cond, viewOf, view-parts, rowsOf, reply-code, same-state, workOf}
+use Rattle.refinement.proofs.Seen.{mapO, mapO-cond, viewOf, view-parts, reply-code, same-state}
 use Rattle.refinement.proofs.Sent.{nothing-to-send}
 
 -- the tests of both lists and of the count are one test
@@ -70,12 +69,12 @@ module _ (sys : System) (small : Small sys) (s : Machine) (inv : Inv sys s) (i :
   })
 
   -- the reply is the newest message to the controller
-  replied : viewOut m′ i ≡ viewOut m i ++ (reply (held .number) ∷ [])
-  unfolding answeredM held pollAt pollOf viewOut
+  replied : listed (outQueue m′ i) ≡ listed (outQueue m i) ++ (reply (held .number) ∷ [])
+  unfolding answeredM held pollAt pollOf
   replied =
       queue-put (outQueue m i) (outQueue m′ i) (out-kept sys small s inv m′ answer-grown i h) (inv .rows i h .out-read) refl
       (put i m .more)
-      ∙ ap (λ (a : Message). viewOut m i ++ (a ∷ []))
+      ∙ ap (λ (a : Message). listed (outQueue m i) ++ (a ∷ []))
       (ap (messageOf m′ i) (put i m .new)
       ∙ reply-code m′ i (m WORKERS i HELD) (omega (arith, held-small)))
 
@@ -86,7 +85,7 @@ module _ (sys : System) (small : Small sys) (s : Machine) (inv : Inv sys s) (i :
     counter = λ x v y. refl;
     workList = λ k. refl;
     toSend = λ k. refl;
-    held = held-update sys m m′ i none h here there;
+    held = actors-update sys (heldOf m) (heldOf m′) none i none h here there;
     listCounter = λ k. refl;
     channel = channels-update sys (rowsOf m t) (rowsOf m′ t) (suc i) 0 _
         (at-out sys (rowsOf m′ t) i h
@@ -96,10 +95,10 @@ module _ (sys : System) (small : Small sys) (s : Machine) (inv : Inv sys s) (i :
     controller = refl;
   })
     where
-      here : heldAt m′ i ≡ none
+      here : heldOf m′ i ≡ none
       here = ap (λ (n : ℕ). cond (eqb n 0) none (some (pollAt m n))) (none-held i m)
 
-      there : (j : ℕ) → j < sys .workers → (j ≡ i → ⊥) → heldAt m′ j ≡ heldAt m j
+      there : (j : ℕ) → j < sys .workers → (j ≡ i → ⊥) → heldOf m′ j ≡ heldOf m j
       there j hj n = held-row m m′ j (other-rows i m j HELD n) refl
 
   -- both lists are empty, and the list counter equals the wanted count
@@ -116,9 +115,8 @@ module _ (sys : System) (small : Small sys) (s : Machine) (inv : Inv sys s) (i :
       (ap₂ (λ (a b : Bool). a && b) no-work (nothing-to-send sys small s inv i h))
       (ap (λ (n : ℕ). eqb n (m WANTED 0 (m WORKERS i HELD))) count)
     where
-      no-work : isEmpty (viewWork sys m (suc i)) ≡ eqb (m WORKERS i HEAD) (m WORKERS i TAIL)
+      no-work : isEmpty (atActor sys (workOf m) [] (suc i)) ≡ eqb (m WORKERS i HEAD) (m WORKERS i TAIL)
       no-work =
-          unfold viewWork in
           ap isEmpty (at-worker sys (workOf m) [] i h)
           ∙ labels-empty m WORK i (m WORKERS i HEAD) (m WORKERS i TAIL) (inv .rows i h .queue)
 
@@ -147,7 +145,7 @@ module _ (sys : System) (small : Small sys) (s : Machine) (inv : Inv sys s) (i :
       ∙ ap (answerTo (suc i) (viewOf sys s)) (sym holds)
     where
       holds : viewOf sys s .held (suc i) ≡ cond (eqb (m WORKERS i HELD) 0) none (some held)
-      holds = unfold view held in held-worker sys m i h
+      holds = unfold view held in at-worker sys (heldOf m) none i h
 
       go : (b : Bool)
           → mapO (λ m′. view sys m′ t) (cond b none (cond isReady (some m′) none))

@@ -21,15 +21,15 @@ use Rattle.cells.proofs.Queue.{read-queue}
 use Rattle.cells.specs.Layout.{WORKERS, OUT, LISTS, OUTEND, OUTREAD}
 use Rattle.cells.specs.Memory.{Mem}
 use Rattle.controller.specs.Controller.{countedT, markedT, toldT, withMark, hasOut, outReadM, Machine, hearM}
-use Rattle.cells.specs.View.{LISTMARK, isWorker, listAt, messageOf, viewLists, viewOut, view}
-use Rattle.refinement.proofs.Actors.{atActor, at-worker, actors-update}
+use Rattle.cells.specs.View.{LISTMARK, listAt, messageOf, viewLists, view, listed, outQueue, atActor, rowsOf}
+use Rattle.refinement.proofs.Actors.{at-worker, actors-update}
 use Rattle.refinement.proofs.Capacity.{heard-few, outend-few}
 use Rattle.refinement.proofs.ChannelRows.{at-out, Stays, Beside, channels-update}
-use Rattle.refinement.proofs.Grown.{Grown, outQueue, out-kept, channels-kept}
+use Rattle.refinement.proofs.Grown.{Grown, out-kept, channels-kept}
 use Rattle.refinement.proofs.Hearing.{more-read, others}
 use Rattle.refinement.specs.Inv.{Small, Inv}
-use Rattle.refinement.proofs.Marks.{mark-small, mark-bit, marks-full}
-use Rattle.refinement.proofs.Seen.{mapO, viewOf, view-parts, rowsOf, channel-rows, same-state}
+use Rattle.controller.proofs.Marks.{mark-small, mark-bit, marks-full}
+use Rattle.refinement.proofs.Seen.{mapO, viewOf, view-parts, same-state}
 
 module _ (sys : System) (small : Small sys) (s : Machine) (inv : Inv sys s) (i : ℕ) (h : i < sys .workers) where
   abbrev m : Mem
@@ -71,7 +71,7 @@ module _ (sys : System) (small : Small sys) (s : Machine) (inv : Inv sys s) (i :
     toSend = viewOf sys s .toSend;
     held = viewOf sys s .held;
     listCounter = lists;
-    channel = update₂ (viewOf sys s .channel) (suc i) 0 (viewOut m′ i);
+    channel = update₂ (viewOf sys s .channel) (suc i) 0 (listed (outQueue m′ i));
     controller = c;
   }
 
@@ -84,13 +84,13 @@ module _ (sys : System) (small : Small sys) (s : Machine) (inv : Inv sys s) (i :
     toSend = λ k. refl;
     held = λ k. refl;
     listCounter = told .listCounter;
-    channel = channels-update sys (rowsOf m t) (rowsOf m′ t′) (suc i) 0 (viewOut m′ i)
+    channel = channels-update sys (rowsOf m t) (rowsOf m′ t′) (suc i) 0 (listed (outQueue m′ i))
         (at-out sys (rowsOf m′ t′) i h) (other-channels t′ (told .timestamp));
     controller = told .controller;
   })
 
   -- a list message
-  counted-view : view sys m′ (countedT t) ≡ afterCount (suc i) (viewOut m′ i) (view sys m t)
+  counted-view : view sys m′ (countedT t) ≡ afterCount (suc i) (listed (outQueue m′ i)) (view sys m t)
   unfolding view viewLists countedT afterCount
   counted-view =
       heard-view (countedT t) _ _ (record {
@@ -105,7 +105,7 @@ module _ (sys : System) (small : Small sys) (s : Machine) (inv : Inv sys s) (i :
       one-more false n = refl
 
   -- a reply to another poll
-  dropped-view : view sys m′ t ≡ afterDrop (suc i) 0 (viewOut m′ i) (view sys m t)
+  dropped-view : view sys m′ t ≡ afterDrop (suc i) 0 (listed (outQueue m′ i)) (view sys m t)
   unfolding view afterDrop
   dropped-view =
       heard-view t _ _ (record {
@@ -116,36 +116,23 @@ module _ (sys : System) (small : Small sys) (s : Machine) (inv : Inv sys s) (i :
 
   -- the workers marked by a row of bits
   abbrev marks : ℕ → ℕ → Bool
-  marks r k = isWorker sys k && bit r (k - 1)
-
-  marks-actor : (r k : ℕ) → marks r k ≡ atActor sys (bit r) false k
-  marks-actor r k = go (isWorker sys k) (bit r (k - 1))
-    where
-      go : (a b : Bool) → a && b ≡ cond a b false
-      go true b = refl
-      go false b = refl
+  marks r = atActor sys (bit r) false
 
   marked-more : (k : ℕ) → marks (withMark (t .marks) i) k ≡ update (marks (t .marks)) (suc i) true k
-  marked-more k =
-      marks-actor (withMark (t .marks) i) k
-      ∙ actors-update sys (bit (t .marks)) (bit (withMark (t .marks) i)) false i true h
+  marked-more =
+      actors-update sys (bit (t .marks)) (bit (withMark (t .marks) i)) false i true h
       (mark-bit (sys .workers) (t .marks) (inv .marks) i h i h ∙ update-same (bit (t .marks)) i true)
-      (λ j l n. mark-bit (sys .workers) (t .marks) (inv .marks) i h j l ∙ update-other (bit (t .marks)) i true j n) k
-      ∙ ap (λ (b : Bool). cond (eqb k (suc i)) true b) (sym (marks-actor (t .marks) k))
+      (λ j l n. mark-bit (sys .workers) (t .marks) (inv .marks) i h j l ∙ update-other (bit (t .marks)) i true j n)
 
   closed-full : eqb (withMark (t .marks) i + 1) (2 ^ sys .workers) ≡ allMarked sys (update (marks (t .marks)) (suc i) true)
   unfolding allMarked
   closed-full =
       marks-full (sys .workers) (withMark (t .marks) i) (mark-small (sys .workers) (t .marks) (inv .marks) i h)
       ∙ all-ext (sys .workers) (bit (withMark (t .marks) i)) (λ j. update (marks (t .marks)) (suc i) true (suc j))
-      (λ j l.
-      sym
-      (at-worker sys (bit (withMark (t .marks) i)) false j l)
-      ∙ sym (marks-actor (withMark (t .marks) i) (suc j))
-      ∙ marked-more (suc j))
+      (λ j l. sym (at-worker sys (bit (withMark (t .marks) i)) false j l) ∙ marked-more (suc j))
 
   -- a reply to the open poll
-  marked-view : view sys m′ (markedT (sys .workers) i t) ≡ afterMark sys (suc i) (viewOut m′ i) (view sys m t)
+  marked-view : view sys m′ (markedT (sys .workers) i t) ≡ afterMark sys (suc i) (listed (outQueue m′ i)) (view sys m t)
   unfolding view viewLists markedT afterMark
   marked-view =
       heard-view (markedT (sys .workers) i t) _ _ (record {
@@ -166,14 +153,14 @@ module _ (sys : System) (small : Small sys) (s : Machine) (inv : Inv sys s) (i :
   -- the tally that it leaves
   told-view : (c : ℕ)
       → some (view sys m′ (toldT (sys .workers) i c t))
-      ≡ controllerFrom sys (suc i) (viewOf sys s) (messageOf m i c ∷ viewOut m′ i)
+      ≡ controllerFrom sys (suc i) (viewOf sys s) (messageOf m i c ∷ listed (outQueue m′ i))
   unfolding toldT messageOf
   told-view c = go (leb LISTMARK c) (t .polling) (eqb c (t .timestamp .0)) (unfold view current in refl)
     where
       go : (a b d : Bool) → current (record { 0 = c }) (viewOf sys s) ≡ b && d
           → some (view sys m′ (cond a (countedT t) (cond b (cond d (markedT (sys .workers) i t) t) t)))
           ≡ controllerFrom sys (suc i) (viewOf sys s)
-          (cond a (list (listAt m i (c - LISTMARK))) (reply (record { 0 = c })) ∷ viewOut m′ i)
+          (cond a (list (listAt m i (c - LISTMARK))) (reply (record { 0 = c })) ∷ listed (outQueue m′ i))
       go true b d e = ap some counted-view
       go false true true e = ap some (marked-view ∙ sym (cond-true _ _ e))
       go false true false e = ap some (dropped-view ∙ sym (cond-false _ _ e))
@@ -198,7 +185,7 @@ module _ (sys : System) (small : Small sys) (s : Machine) (inv : Inv sys s) (i :
 
   -- the controller's read in memory is its read
   pub hear-refines : mapO (viewOf sys) (hearM sys i s) ≡ readController sys (suc i) (viewOf sys s)
-  unfolding hearM readController viewOut outReadM
+  unfolding view hearM readController outReadM
   hear-refines =
       ap (λ (b : Bool). mapO (viewOf sys) (cond b (some heard) none)) hear-room
       ∙ read-queue (controllerFrom sys (suc i) (viewOf sys s)) (outQueue m i) (outQueue m′ i) _
@@ -207,4 +194,4 @@ module _ (sys : System) (small : Small sys) (s : Machine) (inv : Inv sys s) (i :
       ap (mapO (viewOf sys)) (cond-true (some heard) none (lt-ltb (m WORKERS i OUTREAD) (m WORKERS i OUTEND) l))
       ∙ told-view oldest)
       (λ l. ap (mapO (viewOf sys)) (cond-false (some heard) none (le-ltb (m WORKERS i OUTREAD) (m WORKERS i OUTEND) l)))
-      ∙ ap (controllerFrom sys (suc i) (viewOf sys s)) (sym (channel-rows sys s (suc i) 0 ∙ at-out sys (rowsOf m t) i h))
+      ∙ ap (controllerFrom sys (suc i) (viewOf sys s)) (sym (at-out sys (rowsOf m t) i h))

@@ -12,7 +12,6 @@ pub mod Frames
 pub mod Growing
 pub mod Grown
 pub mod Hearing
-pub mod HeldPoll
 pub mod Keeps
 pub mod LabelLoad
 pub mod Labelwise
@@ -20,7 +19,6 @@ pub mod Listing
 pub mod LoadKeeps
 pub mod Loaded
 pub mod Loading
-pub mod Marks
 pub mod Outgoing
 pub mod PollRead
 pub mod PollReadKeeps

@@ -10,6 +10,7 @@ use borrow.Author.Tests.{lt-ltb}
 use lib.Dec.{eqb}
 use Rattle.disac4.specs.Action.{isEmpty, afterSend, send}
 use Rattle.disac4.specs.State.{Message, list}
+use Rattle.network.specs.Network.{Label}
 use Rattle.disac4.specs.System.{System}
 use Rattle.disac4.specs.declared.Tally.{Tally}
 use Rattle.cells.proofs.Queue.{labels-same, labels-none, labels-empty, queue-put}
@@ -17,14 +18,14 @@ use Rattle.cells.specs.Layout.{WORKERS, BOUNDS, LOG, OUT, LOGEND, SENDS, LISTS,
 use Rattle.cells.specs.Memory.{Mem}
 use Rattle.sends.specs.Sends.{sentM, sendM}
 use Rattle.controller.specs.Controller.{Machine}
-use Rattle.cells.specs.View.{listAt, messageOf, viewSend, viewListMessages, viewOut, view}
+use Rattle.cells.specs.View.{listAt, messageOf, view, sendOf, listMessagesQueue, outQueue, atActor, rowsOf, atChannel}
 use Rattle.refinement.proofs.Actors.{at-worker, actors-update, counters-more}
 use Rattle.refinement.proofs.Capacity.{sends-few, outend-few, lists-few}
-use Rattle.refinement.proofs.ChannelRows.{atChannel, at-list-messages, at-out, Stays, channels-broadcast}
-use Rattle.refinement.proofs.Grown.{Grown, send-kept, listMessagesQueue, list-messages-kept, outQueue, out-kept, channels-kept}
+use Rattle.refinement.proofs.ChannelRows.{at-list-messages, at-out, Stays, channels-broadcast}
+use Rattle.refinement.proofs.Grown.{Grown, send-kept, list-messages-kept, out-kept, channels-kept}
 use Rattle.refinement.specs.Inv.{Small, Inv}
 use Rattle.refinement.proofs.Sending.{other-rows, old-bound, new-bound, more-sends, more-lists, put}
-use Rattle.refinement.proofs.Seen.{mapO, viewOf, view-parts, rowsOf, list-code, same-state, sendOf, mapO-cond}
+use Rattle.refinement.proofs.Seen.{mapO, viewOf, view-parts, list-code, same-state, mapO-cond}
 
 module _ (sys : System) (small : Small sys) (s : Machine) (inv : Inv sys s) (i : ℕ) (h : i < sys .workers) where
   abbrev m : Mem
@@ -32,6 +33,10 @@ module _ (sys : System) (small : Small sys) (s : Machine) (inv : Inv sys s) (i :
 
   abbrev t : Tally
   t = s .tally
+
+  -- what the worker has to send
+  abbrev unsent : List Label
+  unsent = atActor sys (sendOf m) [] (suc i)
 
   sent-grown : Grown sys m t (sentM i m)
   unfolding sentM
@@ -43,21 +48,21 @@ module _ (sys : System) (small : Small sys) (s : Machine) (inv : Inv sys s) (i :
   }
 
   -- what is to be sent becomes the newest list message
-  newest : listAt (sentM i m) i (m WORKERS i SENDS) ≡ viewSend sys m (suc i)
-  unfolding sentM listAt viewSend
+  newest : listAt (sentM i m) i (m WORKERS i SENDS) ≡ unsent
+  unfolding sentM listAt
   newest =
       labels-same m (sentM i m) LOG i (m BOUNDS i (m WORKERS i SENDS)) (m WORKERS i LOGEND)
       (sent-grown .bounds i h (m WORKERS i SENDS) (le-refl _)) (new-bound i m) (λ d p q. refl)
       ∙ sym (at-worker sys (sendOf m) [] i h)
 
-  newest-out : messageOf (sentM i m) i (sentM i m OUT i (m WORKERS i OUTEND)) ≡ list (viewSend sys m (suc i))
+  newest-out : messageOf (sentM i m) i (sentM i m OUT i (m WORKERS i OUTEND)) ≡ list (unsent)
   newest-out = list-code (sentM i m) i _ (m WORKERS i SENDS) (put i m .new) ∙ ap list newest
 
   -- every other actor is sent it
   sent-to : (k : ℕ) → k ≤ sys .workers → (k ≡ suc i → ⊥)
       → atChannel sys (rowsOf (sentM i m) t) (suc i) k
-      ≡ atChannel sys (rowsOf m t) (suc i) k ++ (list (viewSend sys m (suc i)) ∷ [])
-  unfolding sentM viewListMessages viewOut
+      ≡ atChannel sys (rowsOf m t) (suc i) k ++ (list (unsent) ∷ [])
+  unfolding sentM
   sent-to zero l n =
       at-out sys (rowsOf (sentM i m) t) i h
       ∙ queue-put (outQueue m i) (outQueue (sentM i m) i) (out-kept sys small s inv (sentM i m) sent-grown i h)
@@ -94,7 +99,7 @@ module _ (sys : System) (small : Small sys) (s : Machine) (inv : Inv sys s) (i :
     held = λ k. refl;
     listCounter = counters-more sys (λ j. m WORKERS j LISTS) (λ j. sentM i m WORKERS j LISTS) (t .lists .0) i h
         (more-lists i m) (λ j hj. other-rows i m j LISTS);
-    channel = channels-broadcast sys (rowsOf m t) (rowsOf (sentM i m) t) (suc i) (list (viewSend sys m (suc i))) h
+    channel = channels-broadcast sys (rowsOf m t) (rowsOf (sentM i m) t) (suc i) (list (unsent)) h
         sent-to not-sent;
     controller = refl;
   })
@@ -115,8 +120,7 @@ module _ (sys : System) (small : Small sys) (s : Machine) (inv : Inv sys s) (i :
       )
 
   -- nothing is to be sent exactly if the last list message ends where the log does
-  pub nothing-to-send : isEmpty (viewSend sys m (suc i)) ≡ eqb (m BOUNDS i (m WORKERS i SENDS)) (m WORKERS i LOGEND)
-  unfolding viewSend
+  pub nothing-to-send : isEmpty unsent ≡ eqb (m BOUNDS i (m WORKERS i SENDS)) (m WORKERS i LOGEND)
   nothing-to-send =
       ap isEmpty (at-worker sys (sendOf m) [] i h)
       ∙ labels-empty m LOG i (m BOUNDS i (m WORKERS i SENDS)) (m WORKERS i LOGEND) (inv .rows i h .last-bound)
