@@ -10,7 +10,7 @@ use Rattle.cells.proofs.Stores.{store-same, store-other}
 use Rattle.cells.specs.Layout.{WORKERS, OUT, SENDS, OUTEND, OUTREAD}
 use Rattle.cells.specs.Memory.{Mem, store}
 use Rattle.cells.specs.View.{LISTMARK}
-use Rattle.refinement.proofs.Frame.{lists-out-kept, lists-out-more, heard-kept}
+use Rattle.refinement.proofs.InvKept.{lists-out-kept, lists-out-more, heard-kept}
 use Rattle.refinement.specs.Inv.{listsOut}
 
 -- row `i` has put the message `c`

@@ -14,7 +14,7 @@ use Rattle.cells.proofs.Stores.{store-same}
 use Rattle.cells.specs.Layout.{WORKERS, HELD, POLLS}
 use Rattle.cells.specs.Memory.{Mem, store}
 use Rattle.reads.specs.Reads.{readPollM}
-use Rattle.refinement.proofs.Frame.{OnlyRow, only-store, only-same, worker-action}
+use Rattle.refinement.proofs.InvKept.{OnlyRow, only-store, only-same, worker-action}
 use Rattle.refinement.specs.Inv.{Row, Replied, Totals, Inv}
 
 -- the memory after row `i` has read a poll

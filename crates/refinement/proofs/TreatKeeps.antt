@@ -24,10 +24,10 @@ use Rattle.controller.specs.Controller.{Machine}
 use Rattle.treating.proofs.TreatLaws.{no-work}
 use Rattle.treating.specs.Treat.{treatM}
 use Rattle.cells.specs.View.{LISTED, labelOf, view}
-use Rattle.refinement.proofs.Frame.{OnlyRow, Answered, worker-action, totals-kept}
-use Rattle.refinement.proofs.Growing.{Both, both-none, both-more}
+use Rattle.refinement.proofs.InvKept.{OnlyRow, Answered, worker-action, totals-kept}
+use Rattle.refinement.proofs.LongerLists.{Both, both-none, both-more}
 use Rattle.refinement.specs.Inv.{Small, Inv, Row, Totals}
-use Rattle.refinement.proofs.Treating.{treatedM, treated-apart, treated-both, treated-unmoved, head-after, other-row, domain-after, heads-after, treat-busy}
+use Rattle.refinement.proofs.TreatRefines.{treatedM, treated-apart, treated-both, treated-unmoved, head-after, other-row, domain-after, heads-after, treat-busy}
 use Rattle.refinement.proofs.Unmoved.{Unmoved, row-longer}
 
 module _ (sys : System) (small : Small sys) (s : Machine) (inv : Inv sys s) (i : ℕ) (h : i < sys .workers)

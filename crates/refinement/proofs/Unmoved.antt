@@ -15,9 +15,9 @@ use Rattle.cells.specs.View.{isWorker, viewLists, heldOf, atActor, rowsOf, atCh
 use Rattle.controller.specs.Controller.{Machine}
 use Rattle.refinement.specs.Inv.{Small, Row, Inv}
 use Rattle.refinement.proofs.ChannelRows.{channels-stay}
-use Rattle.refinement.proofs.Frame.{row-grown}
-use Rattle.refinement.proofs.Growing.{Both}
-use Rattle.refinement.proofs.Grown.{channels-kept, held-row}
+use Rattle.refinement.proofs.InvKept.{row-grown}
+use Rattle.refinement.proofs.LongerLists.{Both}
+use Rattle.refinement.proofs.ChannelsKept.{channels-kept, held-row}
 use Rattle.refinement.proofs.Actors.{actors-same}
 
 -- a column that deletions don't touch

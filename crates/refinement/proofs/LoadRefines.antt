@@ -28,12 +28,12 @@ use Rattle.cells.specs.Memory.{Mem}
 pub use Rattle.refinement.specs.Run.{freshTally as startTally}
 use Rattle.cells.specs.View.{LISTED, isWorker, labelsBetween, counterRow, viewCounter, viewLists, view, listed, heldOf, listMessagesQueue, outQueue, pollsQueue, atActor, rowsOf, atChannel}
 use Rattle.refinement.proofs.Actors.{actors-none, no-marks, row-of}
-use Rattle.refinement.proofs.Frames.{Apart}
-use Rattle.refinement.proofs.Growing.{Longer, Both, both-none, both-more}
+use Rattle.refinement.proofs.DeleteApart.{Apart}
+use Rattle.refinement.proofs.LongerLists.{Longer, Both, both-none, both-more}
 use Rattle.refinement.specs.Inv.{Small}
 use Rattle.index.specs.Index.{Paired}
 use Rattle.refinement.proofs.Counting.{count-else, counted-at}
-use Rattle.refinement.proofs.Frame.{paired-kept}
+use Rattle.refinement.proofs.InvKept.{paired-kept}
 use Rattle.refinement.proofs.LabelLoad.{listStep, list-apart, list-shows, list-both}
 use Rattle.refinement.proofs.Labelwise.{unloaded-apart, Shows, walk-apart, walk-shows, walk-both, Local}
 use Rattle.refinement.proofs.Listing.{load-walk}

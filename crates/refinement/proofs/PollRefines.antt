@@ -18,10 +18,10 @@ use Rattle.controller.specs.Controller.{askM, askedT, asksT, Machine, pollM}
 use Rattle.cells.specs.View.{pollAt, viewLists, view, heldOf, pollsQueue, rowsOf, atChannel}
 use Rattle.refinement.proofs.Capacity.{held-few, timestamp-few}
 use Rattle.refinement.proofs.ChannelRows.{at-polls, Stays, channels-broadcast}
-use Rattle.refinement.proofs.Grown.{Grown, polls-kept, channels-kept, held-row}
+use Rattle.refinement.proofs.ChannelsKept.{Grown, polls-kept, channels-kept, held-row}
 use Rattle.refinement.specs.Inv.{Small, Inv}
-use Rattle.refinement.proofs.Polling.{new-wanted, old-wanted}
-use Rattle.refinement.proofs.Seen.{mapO, viewOf, view-parts, same-state, mapO-cond}
+use Rattle.refinement.proofs.PollKeeps.{new-wanted, old-wanted}
+use Rattle.refinement.proofs.ViewParts.{mapO, viewOf, view-parts, same-state, mapO-cond}
 use Rattle.refinement.proofs.Actors.{no-marks, actors-same}
 
 module _ (sys : System) (small : Small sys) (s : Machine) (inv : Inv sys s) where

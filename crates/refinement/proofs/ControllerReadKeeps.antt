@@ -18,7 +18,7 @@ use Rattle.cells.specs.Layout.{WORKERS, OUT, OUTEND, OUTREAD}
 use Rattle.cells.specs.Memory.{Mem}
 use Rattle.controller.specs.Controller.{countedT, markedT, toldT, hasOut, outReadM, Machine, hearM}
 use Rattle.cells.specs.View.{LISTMARK}
-use Rattle.refinement.proofs.Frame.{OnlyRow, only-store, only-same, Answered, Follows, row-action, replied-kept, follows-itself, lists-out-kept, lists-out-more}
+use Rattle.refinement.proofs.InvKept.{OnlyRow, only-store, only-same, Answered, Follows, row-action, replied-kept, follows-itself, lists-out-kept, lists-out-more}
 use Rattle.controller.proofs.Marks.{mark-small}
 use Rattle.refinement.specs.Inv.{Row, Polled, Totals, Inv, listsOut}
 

@@ -18,7 +18,7 @@ use Rattle.cells.specs.Layout.{WORKERS, CURSORS, BOUNDS, OUT, LOGEND, SENDS, LI
 use Rattle.cells.specs.Memory.{Mem}
 use Rattle.sends.specs.Sends.{sendM, sentM}
 use Rattle.cells.specs.View.{LISTMARK}
-use Rattle.refinement.proofs.Frame.{OnlyRow, only-store, only-same, Answered, worker-action}
+use Rattle.refinement.proofs.InvKept.{OnlyRow, only-store, only-same, Answered, worker-action}
 use Rattle.refinement.specs.Inv.{Row, Totals, Inv}
 use Rattle.refinement.proofs.Outgoing.{Put, put-out, put-lists, put-counted, put-heard}
 

@@ -16,10 +16,10 @@ use Rattle.reads.specs.Reads.{readPollM}
 use Rattle.controller.specs.Controller.{Machine}
 use Rattle.cells.specs.View.{pollAt, view, listed, heldOf, pollsQueue, rowsOf}
 use Rattle.refinement.proofs.ChannelRows.{at-polls, Stays, Beside, channels-update}
-use Rattle.refinement.proofs.Grown.{Grown, polls-kept, channels-kept, held-row}
+use Rattle.refinement.proofs.ChannelsKept.{Grown, polls-kept, channels-kept, held-row}
 use Rattle.refinement.specs.Inv.{Small, Inv}
 use Rattle.refinement.proofs.PollReadKeeps.{heldM, more-polls, newest-held, other-rows}
-use Rattle.refinement.proofs.Seen.{mapO, viewOf, view-parts, same-state}
+use Rattle.refinement.proofs.ViewParts.{mapO, viewOf, view-parts, same-state}
 use Rattle.refinement.proofs.Actors.{actors-update}
 
 module _ (sys : System) (small : Small sys) (s : Machine) (inv : Inv sys s) (i : ℕ) (h : i < sys .workers) where

@@ -26,12 +26,12 @@ use Rattle.controller.specs.Controller.{Machine}
 use Rattle.index.proofs.Kept.{row-heads}
 use Rattle.treating.proofs.TreatLaws.{treated, no-work}
 use Rattle.treating.specs.Treat.{touchVariablesM, treatM}
-use Rattle.cells.specs.View.{LISTED, Queue, queue, labelOf, labelsBetween, counterRow, viewCounter, view, workOf, sendOf, atActor}
+use Rattle.cells.specs.View.{LISTED, Queue, queue, labelOf, labelsBetween, counterRow, viewCounter, view, workOf, sendOf}
 use Rattle.refinement.proofs.Actors.{at-worker, actors-update}
 use Rattle.refinement.proofs.Capacity.{log-room, tail-room, tail-small}
-use Rattle.refinement.proofs.Frame.{paired-kept}
-use Rattle.refinement.proofs.Frames.{Apart}
-use Rattle.refinement.proofs.Growing.{Both}
+use Rattle.refinement.proofs.InvKept.{paired-kept}
+use Rattle.refinement.proofs.DeleteApart.{Apart}
+use Rattle.refinement.proofs.LongerLists.{Both}
 use Rattle.refinement.specs.Inv.{Small, Inv}
 use Rattle.index.specs.Index.{Paired}
 use Rattle.refinement.proofs.Labelwise.{unloaded-apart, Shows, walk-apart, walk-shows, walk-both, Local}
@@ -194,7 +194,8 @@ module _ (sys : System) (small : Small sys) (s : Machine) (inv : Inv sys s) (i :
       treated-apart WORKERS j b (λ x v k l. omega arith)
       ∙ store-other m WORKERS i HEAD (head + 1) WORKERS j b (λ e f g. n f)
 
-  work-after : (k : ℕ) → atActor sys (workOf treatedM) [] k ≡ update (atActor sys (workOf m) []) (suc i) (rest ++ deletions sys (suc i) a st) k
+  work-after : (k : ℕ) → view sys treatedM t .workList k ≡ update (st .workList) (suc i) (rest ++ deletions sys (suc i) a st) k
+  unfolding view
   work-after =
       actors-update sys (workOf m) (workOf treatedM) [] i (rest ++ deletions sys (suc i) a st) h
       (ap (λ (b : ℕ). labelsBetween treatedM WORK i b (treatedM WORKERS i TAIL)) head-after
@@ -206,9 +207,10 @@ module _ (sys : System) (small : Small sys) (s : Machine) (inv : Inv sys s) (i :
       (λ d p q. treated-apart WORK j d (λ x v k l. omega arith)))
 
   send-after : (k : ℕ)
-      → atActor sys (sendOf treatedM) [] k ≡ update (atActor sys (sendOf m) []) (suc i) (atActor sys (sendOf m) [] (suc i) ++ deletions sys (suc i) a st) k
+      → view sys treatedM t .toSend k ≡ update (st .toSend) (suc i) (st .toSend (suc i) ++ deletions sys (suc i) a st) k
+  unfolding view
   send-after =
-      actors-update sys (sendOf m) (sendOf treatedM) [] i (atActor sys (sendOf m) [] (suc i) ++ deletions sys (suc i) a st) h
+      actors-update sys (sendOf m) (sendOf treatedM) [] i (st .toSend (suc i) ++ deletions sys (suc i) a st) h
       (ap (λ (b : ℕ). labelsBetween treatedM LOG i b (treatedM WORKERS i LOGEND)) (same-bound sys m treatedM t treated-unmoved i)
       ∙ treated-both .log .new (m BOUNDS i (m WORKERS i SENDS)) (inv .rows i h .last-bound)
       ∙ ap (λ (l : List Label). l ++ deletions sys (suc i) a st)
@@ -235,7 +237,8 @@ module _ (sys : System) (small : Small sys) (s : Machine) (inv : Inv sys s) (i :
 
   -- the turn is not idle
   pub treat-busy : treatM sys i (s .mem) ≡ some treatedM
-  treat-busy = treated sys i head (m WORKERS i TAIL) m refl refl (m WORK i head) busy (omega (arith, tail-small sys small s inv i h)) refl
+  treat-busy =
+      treated sys i head (m WORKERS i TAIL) m refl refl (m WORK i head) busy (omega (arith, tail-small sys small s inv i h)) refl
 
 -- treating in memory is treating
 pub treat-refines : (sys : System) → Small sys → (s : Machine) → Inv sys s → (i : ℕ) → i < sys .workers

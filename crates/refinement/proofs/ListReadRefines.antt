@@ -22,10 +22,10 @@ use Rattle.index.proofs.Kept.{row-heads}
 use Rattle.refinement.proofs.Actors.{at-worker, actors-update, counters-more, actors-same}
 use Rattle.refinement.proofs.Capacity.{bound-logged, logend-small, sends-few, lists-few}
 use Rattle.refinement.proofs.ChannelRows.{at-list-messages, Stays, Beside, channels-update}
-use Rattle.refinement.proofs.Grown.{Grown, list-messages-kept, channels-kept, send-kept, held-row}
+use Rattle.refinement.proofs.ChannelsKept.{Grown, list-messages-kept, channels-kept, send-kept, held-row}
 use Rattle.refinement.specs.Inv.{Small, Inv}
-use Rattle.refinement.proofs.Reading.{region, column, other-work, more-lists, new-cursor, old-cursor, taken-list}
-use Rattle.refinement.proofs.Seen.{mapO, viewOf, same-state}
+use Rattle.refinement.proofs.ListReadKeeps.{region, column, other-work, more-lists, new-cursor, old-cursor, taken-list}
+use Rattle.refinement.proofs.ViewParts.{mapO, viewOf, same-state}
 
 module _ (sys : System) (small : Small sys) (s : Machine) (inv : Inv sys s) (j i : ℕ) (hj : j < sys .workers)
     (hi : i < sys .workers) (apart : j ≡ i → ⊥) where

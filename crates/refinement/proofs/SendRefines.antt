@@ -22,10 +22,10 @@ use Rattle.cells.specs.View.{listAt, messageOf, view, sendOf, listMessagesQueue
 use Rattle.refinement.proofs.Actors.{at-worker, actors-update, counters-more}
 use Rattle.refinement.proofs.Capacity.{sends-few, outend-few, lists-few}
 use Rattle.refinement.proofs.ChannelRows.{at-list-messages, at-out, Stays, channels-broadcast}
-use Rattle.refinement.proofs.Grown.{Grown, send-kept, list-messages-kept, out-kept, channels-kept}
+use Rattle.refinement.proofs.ChannelsKept.{Grown, send-kept, list-messages-kept, out-kept, channels-kept}
 use Rattle.refinement.specs.Inv.{Small, Inv}
-use Rattle.refinement.proofs.Sending.{other-rows, old-bound, new-bound, more-sends, more-lists, put}
-use Rattle.refinement.proofs.Seen.{mapO, viewOf, view-parts, list-code, same-state, mapO-cond}
+use Rattle.refinement.proofs.SendKeeps.{other-rows, old-bound, new-bound, more-sends, more-lists, put}
+use Rattle.refinement.proofs.ViewParts.{mapO, viewOf, view-parts, list-code, same-state, mapO-cond}
 
 module _ (sys : System) (small : Small sys) (s : Machine) (inv : Inv sys s) (i : ℕ) (h : i < sys .workers) where
   abbrev m : Mem

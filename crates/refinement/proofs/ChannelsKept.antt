@@ -1,5 +1,5 @@
--- What only grows: logs, bounds, messages to the controller and wanted counts keep what they hold, so a message once sent
--- stays the same, and a channel changes only at its ends.
+-- Logs, bounds, messages to the controller and wanted counts keep what they hold, so a message once sent stays the same,
+-- and a channel changes only at its ends.
 use Prim.Native.Nat.{ℕ, suc, _+_, _-_, _<_, _≤_}
 use mathlib.Core.Path.{_≡_, refl, _∙_, ap}
 use native.Mathlib.Nat.{le-refl}

@@ -17,14 +17,14 @@ use Rattle.cells.specs.Memory.{Mem}
 use Rattle.answers.specs.Answers.{answeredM, emptyM, answerM}
 use Rattle.controller.specs.Controller.{Machine}
 use Rattle.cells.specs.View.{messageOf, pollAt, viewLists, view, listed, workOf, heldOf, outQueue, atActor, rowsOf}
-use Rattle.refinement.proofs.Answering.{other-rows, none-held, put}
+use Rattle.refinement.proofs.AnswerKeeps.{other-rows, none-held, put}
 use Rattle.refinement.proofs.Actors.{at-worker, counter-worker, actors-update}
 use Rattle.refinement.proofs.Capacity.{sends-few, outend-few, held-few, timestamp-few}
 use Rattle.refinement.proofs.ChannelRows.{at-out, Stays, Beside, channels-update}
-use Rattle.refinement.proofs.Grown.{Grown, out-kept, channels-kept, held-row}
+use Rattle.refinement.proofs.ChannelsKept.{Grown, out-kept, channels-kept, held-row}
 use Rattle.refinement.specs.Inv.{Small, Inv}
-use Rattle.refinement.proofs.Seen.{mapO, mapO-cond, viewOf, view-parts, reply-code, same-state}
-use Rattle.refinement.proofs.Sent.{nothing-to-send}
+use Rattle.refinement.proofs.ViewParts.{mapO, mapO-cond, viewOf, view-parts, reply-code, same-state}
+use Rattle.refinement.proofs.SendRefines.{nothing-to-send}
 
 -- the tests of both lists and of the count are one test
 nested : {A : Type 0} (a b c : Bool) (x y : A) → cond (a && true && b) (cond c x y) y ≡ cond (a && b && c) x y

@@ -19,7 +19,7 @@ use Rattle.cells.specs.Memory.{Mem}
 use Rattle.answers.specs.Answers.{answerM, answeredM, emptyM}
 use Rattle.cells.specs.View.{LISTMARK}
 use Rattle.refinement.proofs.Capacity.{risen}
-use Rattle.refinement.proofs.Frame.{OnlyRow, only-store, only-same, Answered, worker-action}
+use Rattle.refinement.proofs.InvKept.{OnlyRow, only-store, only-same, Answered, worker-action}
 use Rattle.refinement.specs.Inv.{Row, Polled, Replied, Totals, Inv}
 use Rattle.refinement.proofs.Outgoing.{Put, put-out, put-lists, put-counted, put-heard}
 

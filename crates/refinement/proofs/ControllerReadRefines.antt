@@ -25,11 +25,11 @@ use Rattle.cells.specs.View.{LISTMARK, listAt, messageOf, viewLists, view, list
 use Rattle.refinement.proofs.Actors.{at-worker, actors-update}
 use Rattle.refinement.proofs.Capacity.{heard-few, outend-few}
 use Rattle.refinement.proofs.ChannelRows.{at-out, Stays, Beside, channels-update}
-use Rattle.refinement.proofs.Grown.{Grown, out-kept, channels-kept}
-use Rattle.refinement.proofs.Hearing.{more-read, others}
+use Rattle.refinement.proofs.ChannelsKept.{Grown, out-kept, channels-kept}
+use Rattle.refinement.proofs.ControllerReadKeeps.{more-read, others}
 use Rattle.refinement.specs.Inv.{Small, Inv}
 use Rattle.controller.proofs.Marks.{mark-small, mark-bit, marks-full}
-use Rattle.refinement.proofs.Seen.{mapO, viewOf, view-parts, same-state}
+use Rattle.refinement.proofs.ViewParts.{mapO, viewOf, view-parts, same-state}
 
 module _ (sys : System) (small : Small sys) (s : Machine) (inv : Inv sys s) (i : ℕ) (h : i < sys .workers) where
   abbrev m : Mem

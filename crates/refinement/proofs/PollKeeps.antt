@@ -17,7 +17,7 @@ use Rattle.cells.proofs.Stores.{store-same, store-other}
 use Rattle.cells.specs.Layout.{WORKERS, WANTED, LISTS, HELD, POLLS}
 use Rattle.cells.specs.Memory.{Mem}
 use Rattle.controller.specs.Controller.{askM, askedT, asksT, Machine, pollM}
-use Rattle.refinement.proofs.Frame.{row-kept, paired-kept}
+use Rattle.refinement.proofs.InvKept.{row-kept, paired-kept}
 use Rattle.refinement.specs.Inv.{Polled, Replied, Inv}
 
 module _ (t : Tally) (m : Mem) where
