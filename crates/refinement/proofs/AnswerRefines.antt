@@ -59,14 +59,10 @@ module _ (sys : System) (small : Small sys) (s : Machine) (inv : Inv sys s) (i :
 
   other-channels : Stays sys (Beside (suc i) 0) (rowsOf m t) (rowsOf m′ t)
   unfolding answeredM
-  other-channels = channels-kept sys small s inv m′ answer-grown t (Beside (suc i) 0) (record {
-    cursors = λ j k hj hk n. refl;
-    sends = λ j k hj hk n. refl;
-    out-read = λ j hj n. refl;
-    out-end = λ j hj n. other-rows i m j OUTEND (λ e. n (ap suc e) refl);
-    polls = λ k hk n. refl;
-    timestamp = λ k hk n. refl;
-  })
+  other-channels =
+      let ends : (j : ℕ) → j < sys .workers → Beside (suc i) 0 (suc j) 0 → m′ WORKERS j OUTEND ≡ m WORKERS j OUTEND =
+      λ j hj n. other-rows i m j OUTEND (λ e. n (ap suc e) refl) in
+      channels-kept sys small s inv m′ answer-grown t (Beside (suc i) 0) (search)
 
   -- the reply is the newest message to the controller
   replied : listed (outQueue m′ i) ≡ listed (outQueue m i) ++ (reply (held .number) ∷ [])

@@ -48,14 +48,10 @@ module _ (sys : System) (small : Small sys) (s : Machine) (inv : Inv sys s) (i :
   -- the channel from worker `i + 1` loses its oldest message, whatever the tally makes of that
   other-channels : (t′ : Tally) → t′ .timestamp .0 ≡ t .timestamp .0 → Stays sys (Beside (suc i) 0) (rowsOf m t) (rowsOf m′ t′)
   unfolding outReadM
-  other-channels t′ e = channels-kept sys small s inv m′ heard-grown t′ (Beside (suc i) 0) (record {
-    cursors = λ j k hj hk n. refl;
-    sends = λ j k hj hk n. refl;
-    out-read = λ j hj n. others i m j OUTREAD (λ e q. n (ap suc e) refl);
-    out-end = λ j hj n. refl;
-    polls = λ k hk n. refl;
-    timestamp = λ k hk n. e;
-  })
+  other-channels t′ e =
+      let read : (j : ℕ) → j < sys .workers → Beside (suc i) 0 (suc j) 0 → m′ WORKERS j OUTREAD ≡ m WORKERS j OUTREAD =
+      λ j hj n. others i m j OUTREAD (λ e q. n (ap suc e) refl) in
+      channels-kept sys small s inv m′ heard-grown t′ (Beside (suc i) 0) (search)
 
   -- what the controller makes of the message: its count and the rest of its part
   record Told (t′ : Tally) (lists : ℕ → ℕ) (c : Controller) : Type 0 where

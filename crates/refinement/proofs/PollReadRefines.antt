@@ -40,14 +40,10 @@ module _ (sys : System) (small : Small sys) (s : Machine) (inv : Inv sys s) (i :
   poll-grown = search
 
   other-channels : Stays sys (Beside 0 (suc i)) (rowsOf m t) (rowsOf m′ t)
-  other-channels = channels-kept sys small s inv m′ poll-grown t (Beside 0 (suc i)) (record {
-    cursors = λ j k hj hk n. refl;
-    sends = λ j k hj hk n. refl;
-    out-read = λ j hj n. refl;
-    out-end = λ j hj n. refl;
-    polls = λ k hk n. other-rows i m k POLLS (λ e. n refl (ap suc e));
-    timestamp = λ k hk n. refl;
-  })
+  other-channels =
+      let polls : (k : ℕ) → k < sys .workers → Beside 0 (suc i) 0 (suc k) → m′ WORKERS k POLLS ≡ m WORKERS k POLLS =
+      λ k hk n. other-rows i m k POLLS (λ e. n refl (ap suc e)) in
+      channels-kept sys small s inv m′ poll-grown t (Beside 0 (suc i)) (search)
 
   poll-view : view sys m′ t ≡ afterPoll 0 (suc i) newest (listed (pollsQueue m′ t i)) (view sys m t)
   unfolding view-parts afterPoll newest

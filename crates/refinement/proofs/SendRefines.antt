@@ -79,14 +79,10 @@ module _ (sys : System) (small : Small sys) (s : Machine) (inv : Inv sys s) (i :
   -- nobody else sends
   not-sent : Stays sys (λ j k. j ≡ suc i → ⊥) (rowsOf m t) (rowsOf (sentM i m) t)
   unfolding sentM
-  not-sent = channels-kept sys small s inv (sentM i m) sent-grown t (λ j k. j ≡ suc i → ⊥) (record {
-    cursors = λ j k hj hk n. refl;
-    sends = λ j k hj hk n. other-rows i m j SENDS (λ e. n (ap suc e));
-    out-read = λ j hj n. refl;
-    out-end = λ j hj n. other-rows i m j OUTEND (λ e. n (ap suc e));
-    polls = λ k hk n. refl;
-    timestamp = λ k hk n. refl;
-  })
+  not-sent =
+      let ends : (c j : ℕ) → (suc j ≡ suc i → ⊥) → sentM i m WORKERS j c ≡ m WORKERS j c =
+      λ c j n. other-rows i m j c (λ e. n (ap suc e)) in
+      channels-kept sys small s inv (sentM i m) sent-grown t (λ j k. j ≡ suc i → ⊥) (search)
 
   sent-view : view sys (sentM i m) t ≡ afterSend sys (suc i) (view sys m t)
   unfolding view-parts sentM afterSend
