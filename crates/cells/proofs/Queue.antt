@@ -20,7 +20,7 @@ module _ {A : Type 0} where
   Kept q q′ = (n : ℕ) → q .start ≤ n → n < q .stop → q′ .place n ≡ q .place n
 
   -- as many places, each with the same content
-  pub queue-shift : (q q′ : Queue A) → q .stop - q .start ≡ q′ .stop - q′ .start
+  queue-shift : (q q′ : Queue A) → q .stop - q .start ≡ q′ .stop - q′ .start
       → ((d : ℕ) → d < q .stop - q .start → q .place (q .start + d) ≡ q′ .place (q′ .start + d)) → listed q ≡ listed q′
   unfolding listed
   queue-shift q q′ e h =
@@ -88,9 +88,10 @@ module _ {A : Type 0} where
             ∙ sym (ne-eqb (q .start) (q .stop) n)
       ]
 
--- ---- the labels of a row as a queue
+-- ---- the labels of a row
 
-abbrev labelQueue : Mem → ℕ → ℕ → ℕ → ℕ → Queue Label
+-- they are a queue
+abbrev pub labelQueue : Mem → ℕ → ℕ → ℕ → ℕ → Queue Label
 labelQueue m r i from to = queue from to (λ d. labelOf (m r i d))
 
 -- cells that agree between the same ends

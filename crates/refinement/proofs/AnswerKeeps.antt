@@ -46,6 +46,7 @@ module _ (i : ℕ) (m : Mem) where
   unfolding answeredM
   put = search (put-out i (m WORKERS i HELD) m)
 
+  -- of the rows, only the replying one is changed
   only-row : OnlyRow m (answeredM i m) i
   unfolding answeredM
   only-row =

@@ -16,7 +16,7 @@ use Rattle.cells.specs.Layout.{WORKERS, BOUNDS, WORK, WANTED, HEAD, TAIL, LOGEN
 use Rattle.cells.specs.Memory.{Mem}
 use Rattle.answers.specs.Answers.{answeredM, emptyM, answerM}
 use Rattle.controller.specs.Controller.{Machine}
-use Rattle.cells.specs.View.{messageOf, pollAt, viewLists, view, listed, workOf, heldOf, outQueue, atActor, rowsOf}
+use Rattle.cells.specs.View.{messageOf, pollAt, view, listed, workOf, heldOf, outQueue, atActor, rowsOf}
 use Rattle.refinement.proofs.AnswerKeeps.{other-rows, none-held, put}
 use Rattle.refinement.proofs.Actors.{at-worker, counter-worker, actors-update}
 use Rattle.refinement.proofs.Capacity.{sends-few, outend-few, held-few, timestamp-few}
@@ -109,15 +109,12 @@ module _ (sys : System) (small : Small sys) (s : Machine) (inv : Inv sys s) (i :
   ready-row =
       ap₂ (λ (a b : Bool). a && b)
       (ap₂ (λ (a b : Bool). a && b) no-work (nothing-to-send sys small s inv i h))
-      (ap (λ (n : ℕ). eqb n (m WANTED 0 (m WORKERS i HELD))) count)
+      (ap (λ (n : ℕ). eqb n (m WANTED 0 (m WORKERS i HELD))) (counter-worker sys m t i h))
     where
       no-work : isEmpty (atActor sys (workOf m) [] (suc i)) ≡ eqb (m WORKERS i HEAD) (m WORKERS i TAIL)
       no-work =
           ap isEmpty (at-worker sys (workOf m) [] i h)
           ∙ labels-empty m WORK i (m WORKERS i HEAD) (m WORKERS i TAIL) (inv .rows i h .queue)
-
-      count : viewLists sys m t (suc i) ≡ m WORKERS i LISTS
-      count = unfold viewLists in counter-worker sys (λ j. m WORKERS j LISTS) (t .lists .0) i h
 
   -- there is room for every reply
   answer-room : answerM i m ≡ cond (eqb (m WORKERS i HELD) 0) none (cond isReady (some m′) none)

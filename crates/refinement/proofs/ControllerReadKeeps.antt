@@ -60,6 +60,7 @@ module _ (sys : System) (m : Mem) (t t′ : Tally) (i : ℕ) (inv : Inv sys (rec
     (h : i < sys .workers) (unread : m WORKERS i OUTREAD < m WORKERS i OUTEND) (next : Follows m t t′)
     (count : t′ .lists .0 ≡ t .lists .0 + one (leb LISTMARK (m OUT i (m WORKERS i OUTREAD))))
     (marks : t′ .marks < 2 ^ sys .workers) where
+  -- of the rows, only the sender's is changed
   only-row : OnlyRow m (outReadM i m) i
   unfolding outReadM
   only-row = only-store WORKERS OUTREAD _ (omega arith) (only-same m i)

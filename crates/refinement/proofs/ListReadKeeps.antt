@@ -77,6 +77,7 @@ module _ (j i : ℕ) (m : Mem) where
   old-cursor l k n =
       store-other (copied j i m) CURSORS j i (m CURSORS j i + 1) CURSORS l k (λ p. n) ∙ uncopied CURSORS l k (omega arith)
 
+  -- of the rows, only the reader's is changed
   only-row : OnlyRow m (takenM j i m) i
   only-row = record {
     others = λ k n. record {

@@ -91,7 +91,7 @@ module _ (sys : System) (small : Small sys) (s : Machine) (inv : Inv sys s) (j i
           send-kept sys small s inv m′ taken-grown k hk (steady k SENDS (omega arith)) (steady k LOGEND (omega arith)));
       held = actors-same sys (heldOf m) (heldOf m′) none (λ k hk.
           held-row m m′ k (steady k HELD (omega arith)) (region j i m WANTED (omega arith) 0 (m WORKERS k HELD)));
-      listCounter = counters-more sys (λ k. m WORKERS k LISTS) (λ k. m′ WORKERS k LISTS) (t .lists .0) i hi (more-lists j i m)
+      listCounter = counters-more sys m m′ t i hi (more-lists j i m)
           (λ k hk n. column j i m k LISTS (omega arith) (λ e x. n e));
       channel = channels-update sys (rowsOf m t) (rowsOf m′ t) (suc j) (suc i) (listed (listMessagesQueue m′ j i))
           (at-list-messages sys (rowsOf m′ t) j i hj hi apart) other-channels;

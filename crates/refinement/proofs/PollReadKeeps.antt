@@ -36,6 +36,7 @@ module _ (i : ℕ) (m : Mem) where
 
 module _ (sys : System) (m : Mem) (t : Tally) (i : ℕ) (inv : Inv sys (record { mem = m; tally = t })) (h : i < sys .workers)
     (unread : m WORKERS i POLLS < t .timestamp .0) where
+  -- of the rows, only the reader's is changed
   only-row : OnlyRow m (heldM i m) i
   only-row = only-store WORKERS HELD _ (omega arith) (only-store WORKERS POLLS _ (omega arith) (only-same m i))
 

@@ -55,6 +55,7 @@ module _ (i : ℕ) (m : Mem) where
   unfolding sentM
   put = search (put-out i (LISTMARK + m WORKERS i SENDS) m)
 
+  -- of the rows, only the sender's is changed
   only-row : OnlyRow m (sentM i m) i
   unfolding sentM
   only-row =

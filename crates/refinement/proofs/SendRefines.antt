@@ -93,8 +93,7 @@ module _ (sys : System) (small : Small sys) (s : Machine) (inv : Inv sys s) (i :
     toSend = actors-update sys (sendOf m) (sendOf (sentM i m)) [] i [] h all-sent
         (λ j hj n. send-kept sys small s inv (sentM i m) sent-grown j hj (other-rows i m j SENDS n) refl);
     held = λ k. refl;
-    listCounter = counters-more sys (λ j. m WORKERS j LISTS) (λ j. sentM i m WORKERS j LISTS) (t .lists .0) i h
-        (more-lists i m) (λ j hj. other-rows i m j LISTS);
+    listCounter = counters-more sys m (sentM i m) t i h (more-lists i m) (λ j hj. other-rows i m j LISTS);
     channel = channels-broadcast sys (rowsOf m t) (rowsOf (sentM i m) t) (suc i) (list (unsent)) h
         sent-to not-sent;
     controller = refl;

@@ -18,7 +18,7 @@ use Rattle.disac4.specs.System.{System}
 use Rattle.disac4.specs.declared.Tally.{Tally}
 use Rattle.network.proofs.Loaded.{loaded-variable, loaded-value}
 use Rattle.network.specs.Network.{Label, label, loaded, labelsWhere, domainSize}
-use Rattle.cells.proofs.Queue.{labels-same, read-queue}
+use Rattle.cells.proofs.Queue.{labels-same, read-queue, labelQueue}
 use Rattle.cells.proofs.Stores.{store-same, store-other}
 use Rattle.cells.specs.Layout.{WORKERS, CURSORS, BOUNDS, LOG, WORK, OUT, WANTED, DOMAIN, COUNTERS, HEADS, HEAD, TAIL, LOGEND, SENDS}
 use Rattle.cells.specs.Memory.{Mem, store}
@@ -26,7 +26,7 @@ use Rattle.controller.specs.Controller.{Machine}
 use Rattle.index.proofs.Kept.{row-heads}
 use Rattle.treating.proofs.TreatLaws.{treated, no-work}
 use Rattle.treating.specs.Treat.{touchVariablesM, treatM}
-use Rattle.cells.specs.View.{LISTED, Queue, queue, labelOf, labelsBetween, counterRow, viewCounter, view, workOf, sendOf}
+use Rattle.cells.specs.View.{LISTED, labelOf, labelsBetween, counterRow, viewCounter, view, workOf, sendOf}
 use Rattle.refinement.proofs.Actors.{at-worker, actors-update}
 use Rattle.refinement.proofs.Capacity.{log-room, tail-room, tail-small}
 use Rattle.refinement.proofs.InvKept.{paired-kept}
@@ -245,11 +245,12 @@ pub treat-refines : (sys : System) → Small sys → (s : Machine) → Inv sys s
     → Option·map (λ m′. view sys m′ (s .tally)) (treatM sys i (s .mem)) ≡ treat sys (suc i) (view sys (s .mem) (s .tally))
 unfolding view treat labelsBetween
 treat-refines sys small s inv i h =
-    read-queue (treatFrom sys (suc i) (view sys m (s .tally))) (labels head) (labels (head + 1)) _ (λ n p q. refl) refl refl
+    read-queue (treatFrom sys (suc i) (view sys m (s .tally))) (labelQueue m WORK i head tail)
+    (labelQueue m WORK i (head + 1) tail) _ (λ n p q. refl) refl refl
     (λ busy.
     ap (Option·map (λ m′. view sys m′ (s .tally))) (treat-busy sys small s inv i h busy)
     ∙ ap some (treated-view sys small s inv i h busy))
-    (λ idle. ap (Option·map (λ m′. view sys m′ (s .tally))) (no-work sys i head (m WORKERS i TAIL) m refl refl idle))
+    (λ idle. ap (Option·map (λ m′. view sys m′ (s .tally))) (no-work sys i head tail m refl refl idle))
     ∙ ap (treatFrom sys (suc i) (view sys m (s .tally))) (sym (at-worker sys (workOf m) [] i h))
   where
     m : Mem
@@ -258,5 +259,5 @@ treat-refines sys small s inv i h =
     head : ℕ
     head = m WORKERS i HEAD
 
-    labels : ℕ → Queue Label
-    labels from = queue from (m WORKERS i TAIL) (λ d. labelOf (m WORK i d))
+    tail : ℕ
+    tail = m WORKERS i TAIL
