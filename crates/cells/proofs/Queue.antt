@@ -1,9 +1,8 @@
--- A queue in a row: what stands from one column to another. It grows at its end and is taken from its front. The labels of
--- a row are one.
+-- Laws of queues in a row: they grow at their ends and are taken from their fronts. The labels of a row are one.
 use Prim.Native.Nat.{ℕ, suc, _+_, _-_, _/_, _%_, _<_, _≤_}
 use mathlib.Core.List.{List, [], _∷_, _++_}
 use mathlib.Core.Path.{_≡_, refl, sym, _∙_, ap, ap₂}
-use native.Mathlib.Decide.{ℕ-discrete}
+use native.Mathlib.Decide.{ℕ-discrete, decLt}
 use native.Mathlib.Omega.{arith}
 use borrow.Author.Tests.{eq-eqb, ne-eqb}
 use lib.Dec.{eqb}
@@ -13,30 +12,17 @@ use Rattle.base.specs.Below.{listBelow}
 use Rattle.network.specs.Network.{Label, label}
 use Rattle.disac4.specs.Action.{isEmpty}
 use Rattle.cells.specs.Memory.{Mem}
-use Rattle.cells.specs.View.{labelNumber, labelOf, listBetween, labelsBetween}
-
--- where a queue begins, where it ends, and what stands at each place
-pub record Queue (A : Type 0) : Type 0 where
-  pub start : ℕ
-  pub stop : ℕ
-  pub place : ℕ → A
+use Rattle.cells.specs.View.{labelNumber, labelOf, Queue, queue, listed, labelsBetween}
 
 module _ {A : Type 0} where
-  -- a queue by its parts
-  abbrev pub queue : ℕ → ℕ → (ℕ → A) → Queue A
-  queue start stop place = record { start = start; stop = stop; place = place }
-
-  -- what stands in it, oldest first
-  abbrev pub listed : Queue A → List A
-  listed q = listBetween (q .start) (q .stop) (q .place)
-
   -- what stands in the first queue stands there in the second
   abbrev pub Kept : Queue A → Queue A → Type 0
   Kept q q′ = (n : ℕ) → q .start ≤ n → n < q .stop → q′ .place n ≡ q .place n
 
   -- as many places, each with the same content
-  pub queue-shift : (q q′ : Queue A) → q .stop - q .start ≡ q′ .stop - q′ .start
+  queue-shift : (q q′ : Queue A) → q .stop - q .start ≡ q′ .stop - q′ .start
       → ((d : ℕ) → d < q .stop - q .start → q .place (q .start + d) ≡ q′ .place (q′ .start + d)) → listed q ≡ listed q′
+  unfolding listed
   queue-shift q q′ e h =
       list-ext (q .stop - q .start) (λ d. q .place (q .start + d)) (λ d. q′ .place (q′ .start + d)) h
       ∙ ap (λ (n : ℕ). listBelow n (λ d. q′ .place (q′ .start + d))) e
@@ -49,6 +35,7 @@ module _ {A : Type 0} where
 
   -- it ends where it begins
   pub queue-none : (q : Queue A) → q .stop ≤ q .start → listed q ≡ []
+  unfolding listed
   queue-none q h =
       let e : q .stop - q .start ≡ 0 = omega arith in
       ap (λ (n : ℕ). listBelow n (λ d. q .place (q .start + d))) e
@@ -56,6 +43,7 @@ module _ {A : Type 0} where
   -- one more at the end
   pub queue-put : (q q′ : Queue A) → Kept q q′ → q .start ≤ q .stop → q′ .start ≡ q .start → q′ .stop ≡ q .stop + 1
       → listed q′ ≡ listed q ++ (q′ .place (q .stop) ∷ [])
+  unfolding listed
   queue-put q q′ h l a b =
       let e : q′ .stop - q′ .start ≡ suc (q .stop - q′ .start) = omega arith in
       let z : q′ .start + (q .stop - q′ .start) ≡ q .stop = omega arith in
@@ -66,6 +54,7 @@ module _ {A : Type 0} where
   -- the oldest taken
   pub queue-taken : (q q′ : Queue A) → Kept q q′ → q .start < q .stop → q′ .start ≡ q .start + 1 → q′ .stop ≡ q .stop
       → listed q ≡ q .place (q .start) ∷ listed q′
+  unfolding listed
   queue-taken q q′ h l a b =
       let e : q .stop - q .start ≡ suc (q′ .stop - q′ .start) = omega arith in
       let z : q .start + 0 ≡ q .start = omega arith in
@@ -79,6 +68,16 @@ module _ {A : Type 0} where
           let y : q′ .start + d ≡ q .start + suc d = omega arith in
           sym (h (q .start + suc d) (omega arith) (omega arith)) ∙ ap (q′ .place) (sym y)
 
+  -- a read makes something of the oldest and the others, or of an empty queue
+  pub read-queue : {S : Type 0} (from : List A → S) (q q′ : Queue A) (z : S) → Kept q q′ → q′ .start ≡ q .start + 1
+      → q′ .stop ≡ q .stop → (q .start < q .stop → z ≡ from (q .place (q .start) ∷ listed q′))
+      → (q .stop ≤ q .start → z ≡ from []) → z ≡ from (listed q)
+  read-queue from q q′ z h a b oldest none =
+      elim (decLt (q .start) (q .stop)) [
+        | yes l ↦ oldest l ∙ ap from (sym (queue-taken q q′ h l a b))
+        | no n ↦ none (omega arith) ∙ ap from (sym (queue-none q (omega arith)))
+      ]
+
   -- it is empty exactly if it ends where it begins
   pub queue-empty : (q : Queue A) → q .start ≤ q .stop → isEmpty (listed q) ≡ eqb (q .start) (q .stop)
   queue-empty q l =
@@ -89,9 +88,10 @@ module _ {A : Type 0} where
             ∙ sym (ne-eqb (q .start) (q .stop) n)
       ]
 
--- ---- the labels of a row as a queue
+-- ---- the labels of a row
 
-abbrev labelQueue : Mem → ℕ → ℕ → ℕ → ℕ → Queue Label
+-- they are a queue
+abbrev pub labelQueue : Mem → ℕ → ℕ → ℕ → ℕ → Queue Label
 labelQueue m r i from to = queue from to (λ d. labelOf (m r i d))
 
 -- cells that agree between the same ends
@@ -100,13 +100,6 @@ pub labels-same : (m n : Mem) (r i from to : ℕ) {from′ to′ : ℕ} → from
 unfolding labelsBetween
 labels-same m n r i from to {from′} {to′} e f h =
     queue-same (labelQueue m r i from to) (labelQueue n r i from′ to′) (λ d p q. ap labelOf (h d p q)) e f
-
--- the oldest label apart
-pub labels-first : (m : Mem) (r i from to : ℕ) → from < to
-    → labelsBetween m r i from to ≡ labelOf (m r i from) ∷ labelsBetween m r i (from + 1) to
-unfolding labelsBetween
-labels-first m r i from to h =
-    queue-taken (labelQueue m r i from to) (labelQueue m r i (from + 1) to) (λ d p q. refl) h refl refl
 
 -- no labels
 pub labels-none : (m : Mem) (r i from to : ℕ) → to ≤ from → labelsBetween m r i from to ≡ []
@@ -127,7 +120,7 @@ labels-last m r i from to h =
 
 -- how many there are
 pub labels-length : (m : Mem) (r i from to : ℕ) → length (labelsBetween m r i from to) ≡ to - from
-unfolding labelsBetween
+unfolding labelsBetween listed
 labels-length m r i from to = length-list-below (to - from) (λ d. labelOf (m r i (from + d)))
 
 -- a cell holds the label that was put into it

@@ -1,6 +1,6 @@
 -- What the work cells mean: the state of document 01 that a memory and the controller's tally stand for.
 use Prim.Native.Nat.{ℕ, _+_, _-_, _*_, _/_, _%_, _<_, _≤_}
-use mathlib.Core.Bool.{Bool, cond, _&&_, not}
+use mathlib.Core.Bool.{Bool, false, cond, _&&_}
 use mathlib.Core.List.{List, []}
 use mathlib.Core.Option.{Option, none, some}
 use lib.Dec.{leb, ltb, eqb}
@@ -15,10 +15,13 @@ use Rattle.network.specs.Network.{Label, label, loaded}
 use Rattle.cells.specs.Layout.{WORKERS, CURSORS, BOUNDS, LOG, WORK, OUT, WANTED, DOMAIN, COUNTERS, HEADS, HEAD, TAIL, LOGEND, SENDS, LISTS, HELD, POLLS, OUTEND, OUTREAD}
 use Rattle.cells.specs.Memory.{Mem}
 
+-- ---- single cells
+
 -- a label in a cell: 16 for each variable before it, and its value
 abbrev pub labelNumber : ℕ → ℕ → ℕ
 labelNumber x v = x * 16 + v
 
+-- the label that a cell holds
 abbrev pub labelOf : ℕ → Label
 labelOf c = label (c / 16) (c % 16)
 
@@ -30,63 +33,6 @@ LISTED = 65535
 abbrev pub LISTMARK : ℕ
 LISTMARK = 1024
 
--- `f` at `from`, `from + 1`, .., before `to`
-abbrev pub listBetween : {A : Type 0} → ℕ → ℕ → (ℕ → A) → List A
-listBetween from to f = listBelow (to - from) (λ d. f (from + d))
-
--- Worker `k`'s cells stand in row `k - 1`.
-abbrev pub isWorker : System → ℕ → Bool
-isWorker sys k = between 1 (sys .workers) k
-
--- the labels of a row of WORK or LOG from one column to another
-unfoldable pub labelsBetween : Mem → ℕ → ℕ → ℕ → ℕ → List Label
-labelsBetween m r i from to = listBetween from to (λ d. labelOf (m r i d))
-
--- the n-th list message of row `i`
-unfoldable pub listAt : Mem → ℕ → ℕ → List Label
-listAt m i n = labelsBetween m LOG i (m BOUNDS i n) (m BOUNDS i (n + 1))
-
--- a message to the controller
-unfoldable pub messageOf : Mem → ℕ → ℕ → Message
-messageOf m i c = cond (leb LISTMARK c) (list (listAt m i (c - LISTMARK))) (reply (record { 0 = c }))
-
-unfoldable pub viewWork : System → Mem → ℕ → List Label
-viewWork sys m k = cond (isWorker sys k) (labelsBetween m WORK (k - 1) (m WORKERS (k - 1) HEAD) (m WORKERS (k - 1) TAIL)) []
-
-unfoldable pub viewSend : System → Mem → ℕ → List Label
-viewSend sys m k =
-    cond (isWorker sys k)
-    (labelsBetween m LOG (k - 1) (m BOUNDS (k - 1) (m WORKERS (k - 1) SENDS)) (m WORKERS (k - 1) LOGEND))
-    []
-
-unfoldable pub pollAt : Mem → ℕ → Poll
-pollAt m n = pollOf n (m WANTED 0 n)
-
-unfoldable pub viewHeld : System → Mem → ℕ → Option Poll
-viewHeld sys m k =
-    cond (isWorker sys k && not (eqb (m WORKERS (k - 1) HELD) 0)) (some (pollAt m (m WORKERS (k - 1) HELD))) none
-
-unfoldable pub viewLists : System → Mem → Tally → ℕ → ℕ
-viewLists sys m t k = cond (eqb k 0) (t .lists .0) (cond (isWorker sys k) (m WORKERS (k - 1) LISTS) 0)
-
--- between workers: the sender's list messages that the reader has not read
-unfoldable pub viewListMessages : Mem → ℕ → ℕ → List Message
-viewListMessages m i k = listBetween (m CURSORS i k) (m WORKERS i SENDS) (λ n. list (listAt m i n))
-
--- from the controller: the polls not read
-unfoldable pub viewPolls : Mem → Tally → ℕ → List Message
-viewPolls m t i = listBetween (m WORKERS i POLLS + 1) (t .timestamp .0 + 1) (λ n. poll (pollAt m n))
-
--- to the controller: the messages not read
-unfoldable pub viewOut : Mem → ℕ → List Message
-viewOut m i = listBetween (m WORKERS i OUTREAD) (m WORKERS i OUTEND) (λ e. messageOf m i (m OUT i e))
-
-unfoldable pub viewChannel : System → Mem → Tally → ℕ → ℕ → List Message
-viewChannel sys m t j k =
-    cond (isWorker sys j)
-    (cond (isWorker sys k) (cond (eqb j k) [] (viewListMessages m (j - 1) (k - 1))) (cond (eqb k 0) (viewOut m (j - 1)) []))
-    (cond (eqb j 0 && isWorker sys k) (viewPolls m t (k - 1)) [])
-
 -- the row of the counters of `x` against `y`
 unfoldable pub counterRow : Mem → ℕ → ℕ → ℕ
 counterRow m x y = 2 * m HEADS x y - 1 + one (ltb y x)
@@ -96,23 +42,119 @@ pub record Numbered (m : Mem) (x y : ℕ) : Type 0 where
   pub low : 0 < m HEADS x y
   pub high : m HEADS x y ≤ 128
 
+-- ---- queues in a row
+
+-- where a queue begins, where it ends, and what stands at each place
+pub record Queue (A : Type 0) : Type 0 where
+  pub start : ℕ
+  pub stop : ℕ
+  pub place : ℕ → A
+
+-- a queue by its parts
+abbrev pub queue : {A : Type 0} → ℕ → ℕ → (ℕ → A) → Queue A
+queue start stop place = record { start = start; stop = stop; place = place }
+
+-- what stands in it, oldest first
+unfoldable pub listed : {A : Type 0} → Queue A → List A
+listed q = listBelow (q .stop - q .start) (λ d. q .place (q .start + d))
+
+-- the labels of a row of WORK or LOG from one column to another
+unfoldable pub labelsBetween : Mem → ℕ → ℕ → ℕ → ℕ → List Label
+labelsBetween m r i from to = listed (queue from to (λ d. labelOf (m r i d)))
+
+-- the n-th list message of row `i`
+unfoldable pub listAt : Mem → ℕ → ℕ → List Label
+listAt m i n = labelsBetween m LOG i (m BOUNDS i n) (m BOUNDS i (n + 1))
+
+-- a message to the controller
+unfoldable pub messageOf : Mem → ℕ → ℕ → Message
+messageOf m i c = cond (leb LISTMARK c) (list (listAt m i (c - LISTMARK))) (reply (record { 0 = c }))
+
+-- a poll by its number
+unfoldable pub pollAt : Mem → ℕ → Poll
+pollAt m n = pollOf n (m WANTED 0 n)
+
+-- ---- what a worker's row stands for
+
+-- its work list
+abbrev pub workOf : Mem → ℕ → List Label
+workOf m i = labelsBetween m WORK i (m WORKERS i HEAD) (m WORKERS i TAIL)
+
+-- what it has to send: the labels behind its last list message
+abbrev pub sendOf : Mem → ℕ → List Label
+sendOf m i = labelsBetween m LOG i (m BOUNDS i (m WORKERS i SENDS)) (m WORKERS i LOGEND)
+
+-- the poll that it holds
+abbrev pub heldOf : Mem → ℕ → Option Poll
+heldOf m i = cond (eqb (m WORKERS i HELD) 0) none (some (pollAt m (m WORKERS i HELD)))
+
+-- the list messages of row `j` that row `i` has not read
+abbrev pub listMessagesQueue : Mem → ℕ → ℕ → Queue Message
+listMessagesQueue m j i = queue (m CURSORS j i) (m WORKERS j SENDS) (λ n. list (listAt m j n))
+
+-- its messages that the controller has not read
+abbrev pub outQueue : Mem → ℕ → Queue Message
+outQueue m i = queue (m WORKERS i OUTREAD) (m WORKERS i OUTEND) (λ e. messageOf m i (m OUT i e))
+
+-- the polls that it has not read
+abbrev pub pollsQueue : Mem → Tally → ℕ → Queue Message
+pollsQueue m t i = queue (m WORKERS i POLLS + 1) (t .timestamp .0 + 1) (λ n. poll (pollAt m n))
+
+-- ---- from rows to actors: worker `k`'s cells stand in row `k - 1`
+
+-- whether an actor is a worker
+abbrev pub isWorker : System → ℕ → Bool
+isWorker sys k = between 1 (sys .workers) k
+
+-- a worker's row, and `other` for everyone else
+abbrev pub atActor {ℓ} : {A : Type ℓ} → System → (ℕ → A) → A → ℕ → A
+atActor sys row other k = cond (isWorker sys k) (row (k - 1)) other
+
+-- the messages on their way: from a row to another, from a row to the controller, from the controller to a row
+pub record Rows : Type 0 where
+  pub listMessages : ℕ → ℕ → List Message
+  pub out : ℕ → List Message
+  pub polls : ℕ → List Message
+
+-- those that a memory and a tally stand for
+abbrev pub rowsOf : Mem → Tally → Rows
+rowsOf m t = record {
+  listMessages = λ j i. listed (listMessagesQueue m j i);
+  out = λ i. listed (outQueue m i);
+  polls = λ i. listed (pollsQueue m t i);
+}
+
+-- the channel from an actor to an actor
+abbrev pub atChannel : System → Rows → ℕ → ℕ → List Message
+atChannel sys r j k =
+    cond (isWorker sys j)
+    (cond (isWorker sys k) (cond (eqb j k) [] (r .listMessages (j - 1) (k - 1))) (cond (eqb k 0) (r .out (j - 1)) []))
+    (cond (eqb j 0 && isWorker sys k) (r .polls (k - 1)) [])
+
+-- ---- the state
+
+-- a label's counter against a variable that it shares a constraint with, and 0 for all others
 unfoldable pub viewCounter : System → Mem → ℕ → ℕ → ℕ → ℕ
 viewCounter sys m x v y = cond (loaded (sys .net) x v && sys .net .linked x y) (m COUNTERS (counterRow m x y) v) 0
+
+-- an actor's list counter: the controller's is in the tally
+unfoldable pub viewLists : System → Mem → Tally → ℕ → ℕ
+viewLists sys m t k = cond (eqb k 0) (t .lists .0) (atActor sys (λ i. m WORKERS i LISTS) 0 k)
 
 -- the state that the cells and the tally stand for
 unfoldable pub view : System → Mem → Tally → State
 view sys m t = record {
   domain = λ x v. eqb (m DOMAIN x v) LISTED;
   counter = viewCounter sys m;
-  workList = viewWork sys m;
-  toSend = viewSend sys m;
-  held = viewHeld sys m;
+  workList = atActor sys (workOf m) [];
+  toSend = atActor sys (sendOf m) [];
+  held = atActor sys (heldOf m) none;
   listCounter = viewLists sys m t;
-  channel = viewChannel sys m t;
+  channel = atChannel sys (rowsOf m t);
   controller = record {
     timestamp = t .timestamp .0;
     pollOpen = t .polling;
-    marked = λ k. isWorker sys k && bit (t .marks) (k - 1);
+    marked = atActor sys (bit (t .marks)) false;
     closed = t .closed;
   };
 }

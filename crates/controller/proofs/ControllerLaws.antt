@@ -1,37 +1,23 @@
 -- Laws by which the code of the controller meets its definitions: the row of marks, the tally, poll and read.
-use Prim.Native.Nat.{ℕ, zero, suc, _+_, _/_, _%_, _^_, _<_, _≤_}
+use Prim.Native.Nat.{ℕ, _+_, _^_, _<_, _≤_}
 use mathlib.Core.Bool.{Bool, true, false, not, _&&_}
 use mathlib.Core.List.{List}
 use mathlib.Core.Option.{Option, none, some}
 use mathlib.Core.Path.{_≡_, sym, _∙_}
-use native.Mathlib.Nat.{pow-zero, two-pow-succ}
 use native.Mathlib.Omega.{arith}
-use borrow.Author.Tests.{ltb-true, le-leb, lt-leb, eqb-false, eq-eqb, ne-eqb, not-true, not-false}
+use borrow.Author.Tests.{ltb-true, le-leb, lt-leb, eq-eqb, ne-eqb, not-true, not-false}
 use lib.Dec.{ltb, eqb}
 use Rattle.base.proofs.Bools.{and-left, and-right}
 use Rattle.base.proofs.Choice.{cond-true, cond-false}
-use Rattle.base.proofs.Row.{bit-zero, bit-suc}
 use Rattle.base.specs.Row.{bit}
 use Rattle.disac4.specs.System.{System}
 use Rattle.disac4.specs.declared.Tally.{Tally}
 use Rattle.cells.specs.Layout.{WORKERS, OUT, OUTEND, OUTREAD}
 use Rattle.cells.specs.Memory.{memOf, store}
+use Rattle.controller.proofs.Marks.{mark-small}
 use Rattle.controller.specs.Controller.{askedT, asksT, countedT, withMark, markedT, toldT, hasOut, outReadM, askM, Machine, machine, Hears, pollM, hearM}
 
 -- ---- the row of marks
-
--- a row has room for a bit that it lacks
-mark-room : (n r w : ℕ) → w < n → r < 2 ^ n → bit r w ≡ false → r + 2 ^ w < 2 ^ n
-mark-room zero r w h l e = absurd (omega arith)
-mark-room (suc n) r zero h l e =
-    omega (arith, pow-zero 2, two-pow-succ n, eqb-false (r % 2) 1 (sym (bit-zero r) ∙ e))
-mark-room (suc n) r (suc w) h l e =
-    omega (
-      arith,
-      two-pow-succ n,
-      two-pow-succ w,
-      mark-room n (r / 2) w (omega arith) (omega (arith, two-pow-succ n)) (sym (bit-suc r w) ∙ e),
-    )
 
 module _ (marks i : ℕ) (small : marks < 256) {held : Bool} (q : held ≡ bit marks i) where
   pub mark-stays : held ≡ true → (marks ≡ withMark marks i) × (marks < 256)
@@ -40,7 +26,9 @@ module _ (marks i : ℕ) (small : marks < 256) {held : Bool} (q : held ≡ bit m
 
   pub mark-joins : {r : ℕ} → r ≡ 2 ^ i → i < 8 → held ≡ false → (marks + r ≡ withMark marks i) × (marks + r < 256)
   unfolding withMark
-  mark-joins e l h = (rw (← q, h, e), rw e (mark-room 8 marks i l small (sym q ∙ h)))
+  mark-joins {r} e l h =
+      let joined : marks + r ≡ withMark marks i = rw (← q, h, e) in
+      (joined, omega (arith, joined, mark-small 8 marks small i l))
 
 -- ---- the tally
 

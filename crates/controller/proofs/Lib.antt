@@ -1,1 +1,2 @@
 pub mod ControllerLaws
+pub mod Marks

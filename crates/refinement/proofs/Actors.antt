@@ -1,19 +1,20 @@
 -- From rows to actors: what a function of rows says of a worker, and what changes at one worker.
 use Prim.Native.Nat.{ℕ, suc, _+_, _-_, _<_, _≤_}
-use mathlib.Core.Bool.{true, cond}
+use mathlib.Core.Bool.{true, false, cond}
 use mathlib.Core.Path.{_≡_, refl, sym, _∙_, ap}
 use native.Mathlib.Decide.{ℕ-discrete}
 use native.Mathlib.Omega.{arith}
 use borrow.Author.Tests.{ne-eqb}
 use lib.Dec.{eqb}
-use Rattle.base.proofs.Choice.{cond-true, cond-false, cond-ext, update-same, update-other, between-intro, between-low, between-high}
+use Rattle.base.proofs.Choice.{cond-true, cond-false, cond-same, cond-ext, update-same, update-other, between-intro, between-low, between-high}
+use Rattle.base.proofs.Row.{bit-past}
 use Rattle.base.specs.Choice.{update}
+use Rattle.base.specs.Row.{bit}
 use Rattle.disac4.specs.System.{System}
-use Rattle.cells.specs.View.{isWorker}
-
--- row `i` for worker `i + 1`, and `none` for all others
-abbrev pub atActor {ℓ} : {A : Type ℓ} → System → (ℕ → A) → A → ℕ → A
-atActor sys f none k = cond (isWorker sys k) (f (k - 1)) none
+use Rattle.disac4.specs.declared.Tally.{Tally}
+use Rattle.cells.specs.Layout.{WORKERS, LISTS}
+use Rattle.cells.specs.Memory.{Mem}
+use Rattle.cells.specs.View.{isWorker, atActor, viewLists}
 
 -- worker `i + 1` is a worker
 pub worker-row : (sys : System) (i : ℕ) → i < sys .workers → isWorker sys (suc i) ≡ true
@@ -38,6 +39,10 @@ module _ {ℓ} {A : Type ℓ} (sys : System) where
       → atActor sys g none k ≡ atActor sys f none k
   actors-same f g none h k = cond-ext (isWorker sys k) _ _ _ _ (λ p. h (k - 1) (row-of sys k p .0)) (λ p. refl)
 
+  -- rows in which nothing stands
+  pub actors-none : (f : ℕ → A) (none : A) → ((i : ℕ) → f i ≡ none) → (k : ℕ) → atActor sys f none k ≡ none
+  actors-none f none h k = cond-same (isWorker sys k) (f (k - 1)) none none (h (k - 1)) refl
+
   -- one row changes
   pub actors-update : (f g : ℕ → A) (none : A) (i : ℕ) (a : A) → i < sys .workers → g i ≡ a
       → ((j : ℕ) → j < sys .workers → (j ≡ i → ⊥) → g j ≡ f j) → (k : ℕ)
@@ -53,24 +58,30 @@ module _ {ℓ} {A : Type ℓ} (sys : System) where
             ∙ sym (update-other (atActor sys f none) (suc i) a k n)
       ]
 
--- row `i`'s counter, beside the controller's
-pub counter-worker : (sys : System) (f : ℕ → ℕ) (c i : ℕ) → i < sys .workers
-    → cond (eqb (suc i) 0) c (atActor sys f 0 (suc i)) ≡ f i
-counter-worker sys f c i h =
-    cond-false c (atActor sys f 0 (suc i)) (ne-eqb (suc i) 0 (λ q. omega arith)) ∙ at-worker sys f 0 i h
+-- the empty row of marks marks nobody
+pub no-marks : (sys : System) (k : ℕ) → atActor sys (bit 0) false k ≡ false
+no-marks sys = actors-none sys (bit 0) false (λ i. bit-past 0 0 i (omega arith) (omega arith))
 
--- one list more on row `i`'s counter, beside the controller's
-pub counters-more : (sys : System) (f g : ℕ → ℕ) (c i : ℕ) → i < sys .workers → g i ≡ f i + 1
-    → ((j : ℕ) → j < sys .workers → (j ≡ i → ⊥) → g j ≡ f j) → (k : ℕ)
-    → cond (eqb k 0) c (atActor sys g 0 k)
-    ≡ update (λ k. cond (eqb k 0) c (atActor sys f 0 k)) (suc i) (suc (cond (eqb (suc i) 0) c (atActor sys f 0 (suc i)))) k
-counters-more sys f g c i h e r k =
+-- a worker's list counter is its row's
+pub counter-worker : (sys : System) (m : Mem) (t : Tally) (i : ℕ) → i < sys .workers → viewLists sys m t (suc i) ≡ m WORKERS i LISTS
+unfolding viewLists
+counter-worker sys m t i h =
+    cond-false (t .lists .0) _ (ne-eqb (suc i) 0 (λ q. omega arith)) ∙ at-worker sys (λ j. m WORKERS j LISTS) 0 i h
+
+-- row `i` counts one list more
+pub counters-more : (sys : System) (m m′ : Mem) (t : Tally) (i : ℕ) → i < sys .workers
+    → m′ WORKERS i LISTS ≡ m WORKERS i LISTS + 1
+    → ((j : ℕ) → j < sys .workers → (j ≡ i → ⊥) → m′ WORKERS j LISTS ≡ m WORKERS j LISTS) → (k : ℕ)
+    → viewLists sys m′ t k ≡ update (viewLists sys m t) (suc i) (suc (viewLists sys m t (suc i))) k
+unfolding viewLists
+counters-more sys m m′ t i h e r k =
     elim (ℕ-discrete k 0) [
-      | yes z ↦ rw z (sym (update-other lists (suc i) (suc (lists (suc i))) 0 (λ q. omega arith)))
-      | no n ↦ cond-false c (atActor sys g 0 k) (ne-eqb k 0 n)
-          ∙ actors-update sys f g 0 i (suc (lists (suc i))) h (omega (arith, counter-worker sys f c i h)) r k
-          ∙ ap (λ (x : ℕ). cond (eqb k (suc i)) (suc (lists (suc i))) x) (sym (cond-false c (atActor sys f 0 k) (ne-eqb k 0 n)))
+      | yes z ↦ rw z (sym (update-other (viewLists sys m t) (suc i) more 0 (λ q. omega arith)))
+      | no n ↦ cond-false (t .lists .0) _ (ne-eqb k 0 n)
+          ∙ actors-update sys (λ j. m WORKERS j LISTS) (λ j. m′ WORKERS j LISTS) 0 i more h
+          (omega (arith, counter-worker sys m t i h)) r k
+          ∙ ap (λ (x : ℕ). cond (eqb k (suc i)) more x) (sym (cond-false (t .lists .0) _ (ne-eqb k 0 n)))
     ]
   where
-    lists : ℕ → ℕ
-    lists k = cond (eqb k 0) c (atActor sys f 0 k)
+    more : ℕ
+    more = suc (viewLists sys m t (suc i))

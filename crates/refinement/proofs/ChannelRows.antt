@@ -14,21 +14,8 @@ use Rattle.disac4.proofs.Channels.{broadcast-to, broadcast-sender}
 use Rattle.disac4.specs.Action.{broadcast}
 use Rattle.disac4.specs.State.{Message}
 use Rattle.disac4.specs.System.{System}
-use Rattle.cells.specs.View.{isWorker}
+use Rattle.cells.specs.View.{isWorker, Rows, atChannel}
 use Rattle.refinement.proofs.Actors.{worker-row}
-
--- the messages on their way: from a row to another, from a row to the controller, from the controller to a row
-pub record Rows : Type 0 where
-  pub listMessages : ℕ → ℕ → List Message
-  pub out : ℕ → List Message
-  pub polls : ℕ → List Message
-
--- the channel from an actor to an actor
-abbrev pub atChannel : System → Rows → ℕ → ℕ → List Message
-atChannel sys r j k =
-    cond (isWorker sys j)
-    (cond (isWorker sys k) (cond (eqb j k) [] (r .listMessages (j - 1) (k - 1))) (cond (eqb k 0) (r .out (j - 1)) []))
-    (cond (eqb j 0 && isWorker sys k) (r .polls (k - 1)) [])
 
 -- a channel leads from a worker to another, to the controller or from it, or it is none
 pub by-channel : (sys : System) (P : ℕ → ℕ → Type 0)

@@ -17,7 +17,7 @@ use Rattle.cells.specs.View.{counterRow}
 use Rattle.counting.specs.Count.{countPairM, countAgainstM, countBothM, countVariableM, countM}
 use Rattle.index.proofs.Kept.{row-heads}
 use Rattle.index.specs.Index.{Paired}
-use Rattle.refinement.proofs.Frame.{SameHeads}
+use Rattle.refinement.proofs.InvKept.{SameHeads}
 use Rattle.refinement.proofs.Labelwise.{own-row}
 use Rattle.refinement.proofs.Walking.{loop, is-loop, loop-keeps, loop-at}
 use Rattle.refinement.specs.Inv.{Small}

@@ -15,8 +15,8 @@ use Rattle.cells.proofs.Stores.{store-same, store-other, store-apart}
 use Rattle.cells.specs.Layout.{WORKERS, LOG, WORK, DOMAIN, COUNTERS, HEADS, TAIL, LOGEND}
 use Rattle.cells.specs.Memory.{Mem, store}
 use Rattle.cells.specs.View.{LISTED, counterRow}
-use Rattle.refinement.proofs.Frames.{Apart, deleteIf, delete-if-apart}
-use Rattle.refinement.proofs.Growing.{Both, both-none, Appends, appends-if}
+use Rattle.refinement.proofs.DeleteApart.{Apart, deleteIf, delete-if-apart}
+use Rattle.refinement.proofs.LongerLists.{Both, both-none, Appends, appends-if}
 use Rattle.refinement.specs.Inv.{Small}
 use Rattle.refinement.proofs.Labelwise.{Shows, both-other, shows-if}
 

@@ -20,9 +20,9 @@ use Rattle.cells.specs.Layout.{WORKERS, LOG, WORK, DOMAIN, COUNTERS, HEADS, TAI
 use Rattle.cells.specs.Memory.{Mem}
 use Rattle.cells.specs.View.{counterRow}
 use Rattle.index.proofs.Kept.{row-heads}
-use Rattle.refinement.proofs.Frame.{SameHeads}
-use Rattle.refinement.proofs.Frames.{Apart, domain-apart, deleteIf, delete-apart, delete-domain, delete-counter}
-use Rattle.refinement.proofs.Growing.{Both, both-none, both-more, Appends}
+use Rattle.refinement.proofs.InvKept.{SameHeads}
+use Rattle.refinement.proofs.DeleteApart.{Apart, domain-apart, deleteIf, delete-apart, delete-domain, delete-counter}
+use Rattle.refinement.proofs.LongerLists.{Both, both-none, both-more, Appends}
 use Rattle.refinement.specs.Inv.{Small}
 use Rattle.index.specs.Index.{Paired}
 use Rattle.refinement.proofs.Walking.{walk, gathered, Others, walk-keeps, walk-at, walk-gather}

@@ -22,7 +22,7 @@ use Rattle.index.proofs.Kept.{row-heads}
 use Rattle.index.specs.Index.{Paired}
 use Rattle.loading.specs.Load.{suits, suitedRow, listLabelM, listValuesM, listVariableM, listM, loadM}
 use Rattle.refinement.proofs.Counting.{count-else, counted-at}
-use Rattle.refinement.proofs.Frames.{deleteIf, delete-counter}
+use Rattle.refinement.proofs.DeleteApart.{deleteIf, delete-counter}
 use Rattle.refinement.proofs.LabelLoad.{listStep, list-apart}
 use Rattle.refinement.proofs.Walking.{loop, loop-keeps, walk}
 use Rattle.refinement.specs.Inv.{Small}

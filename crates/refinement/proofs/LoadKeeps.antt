@@ -18,8 +18,8 @@ use Rattle.loading.specs.Load.{loadM}
 use Rattle.cells.specs.Memory.{Mem}
 use Rattle.refinement.specs.Inv.{Small, Row, Totals, Inv, listsOut}
 use Rattle.index.specs.Index.{Paired}
-use Rattle.refinement.proofs.Frame.{paired-kept}
-use Rattle.refinement.proofs.Loading.{Blank, startTally, loaded-both, loaded-unmoved, column-loaded, domain-loaded, heads-loaded}
+use Rattle.refinement.proofs.InvKept.{paired-kept}
+use Rattle.refinement.proofs.LoadRefines.{Blank, startTally, loaded-both, loaded-unmoved, column-loaded, domain-loaded, heads-loaded}
 use Rattle.refinement.proofs.Unmoved.{row-longer}
 
 module _ (sys : System) (small : Small sys) (z : Mem) (paired : Paired sys z) (blank : Blank z) where

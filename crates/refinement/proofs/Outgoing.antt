@@ -1,15 +1,16 @@
 -- A message put for the controller: what it does to the messages there are and to the counts of list messages among them.
 use Prim.Native.Nat.{ℕ, _+_, _-_, _<_, _≤_}
-use mathlib.Core.Path.{_≡_, sym, _∙_, ap}
+use mathlib.Core.Path.{_≡_, refl, sym, _∙_, ap}
 use native.Mathlib.Omega.{arith}
 use lib.Dec.{leb}
 use Rattle.base.proofs.Below.{up-to}
 use Rattle.base.proofs.Choice.{everywhere}
 use Rattle.base.specs.Below.{sumBelow, one}
+use Rattle.cells.proofs.Stores.{store-same, store-other}
 use Rattle.cells.specs.Layout.{WORKERS, OUT, SENDS, OUTEND, OUTREAD}
-use Rattle.cells.specs.Memory.{Mem}
+use Rattle.cells.specs.Memory.{Mem, store}
 use Rattle.cells.specs.View.{LISTMARK}
-use Rattle.refinement.proofs.Frame.{lists-out-kept, lists-out-more, heard-kept}
+use Rattle.refinement.proofs.InvKept.{lists-out-kept, lists-out-more, heard-kept}
 use Rattle.refinement.specs.Inv.{listsOut}
 
 -- row `i` has put the message `c`
@@ -19,6 +20,17 @@ pub record Put (i c : ℕ) (m m′ : Mem) : Type 0 where
   pub read : (k : ℕ) → m′ WORKERS k OUTREAD ≡ m WORKERS k OUTREAD
   pub new : m′ OUT i (m WORKERS i OUTEND) ≡ c
   pub old : (k e : ℕ) → (k ≡ i → e ≡ m WORKERS i OUTEND → ⊥) → m′ OUT k e ≡ m OUT k e
+
+-- it is stored behind the others, and their end moves on
+pub put-out : (i c : ℕ) (m : Mem)
+    → Put i c m (store (store m OUT i (m WORKERS i OUTEND) c) WORKERS i OUTEND (m WORKERS i OUTEND + 1))
+put-out i c m = record {
+  more = store-same m WORKERS i OUTEND (m WORKERS i OUTEND + 1);
+  others = λ k n. store-other m WORKERS i OUTEND (m WORKERS i OUTEND + 1) WORKERS k OUTEND (λ p q r. n q);
+  read = λ k. refl;
+  new = store-same m OUT i (m WORKERS i OUTEND) c;
+  old = λ k e n. store-other m OUT i (m WORKERS i OUTEND) c OUT k e (λ p. n);
+}
 
 module _ (i c : ℕ) (m m′ : Mem) (g : Put i c m m′) where
   -- the list messages among them are still the row's own

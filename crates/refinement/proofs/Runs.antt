@@ -9,7 +9,7 @@ use Rattle.base.specs.Below.{one}
 use Rattle.disac4.specs.State.{State}
 use Rattle.disac4.specs.System.{System}
 use Rattle.disac4.specs.Turn.{Turn, isSome, step, after, play, changes, changesWhere}
-use Rattle.refinement.proofs.Seen.{mapO}
+use Rattle.refinement.proofs.ViewParts.{mapO}
 use Rattle.refinement.specs.Inv.{Inv}
 use Rattle.refinement.specs.Run.{viewOf, playM, countM}
 use Rattle.controller.specs.Controller.{Machine}

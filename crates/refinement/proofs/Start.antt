@@ -7,14 +7,14 @@ use mathlib.Core.Path.{_≡_, _∙_}
 use native.Mathlib.Omega.{arith}
 use borrow.Author.Tests.{lt-ltb}
 use Rattle.base.proofs.Choice.{cond-true}
+use Rattle.disac4.proofs.Demands.{plan-sound}
 use Rattle.disac4.specs.Loading.{load}
 use Rattle.disac4.specs.Outcome.{systemAt}
 use Rattle.disac4.specs.System.{systemOf}
 use Rattle.index.proofs.Chains.{indexed, index-keeps, indexed-kept}
 use Rattle.refinement.proofs.LoadKeeps.{load-starts}
-use Rattle.refinement.proofs.Loaded.{small}
 use Rattle.index.proofs.Pairing.{paired}
-use Rattle.refinement.proofs.Loading.{Blank, load-refines}
+use Rattle.refinement.proofs.LoadRefines.{Blank, load-refines}
 use Rattle.index.specs.Index.{Indexed, indexM}
 use Rattle.refinement.specs.Inv.{Small, Inv}
 use Rattle.cells.specs.Layout.{HEADS, FIRST, BEHIND}
@@ -23,13 +23,24 @@ use Rattle.cells.specs.Memory.{clearedM, Mem}
 use Rattle.loading.specs.Load.{loadM}
 use Rattle.refinement.specs.Run.{viewOf, startM}
 use Rattle.plan.proofs.Faults.{decoded}
+use Rattle.plan.proofs.Links.{linked-in-range}
+use Rattle.plan.proofs.WellFormed.{well-formed, few-labels}
 use Rattle.plan.specs.Decode.{planFault, planOf}
+use Rattle.plan.specs.Network.{networkOf}
+use Rattle.plan.specs.WellFormed.{WellFormed}
 
 module _ (b : List ℕ) (sound : planFault b ≡ none) where
   -- its system fits the regions
   pub fits-regions : Small (systemAt b)
-  unfolding systemAt
-  fits-regions = small b (planOf b) (decoded b sound)
+  unfolding systemAt systemOf networkOf
+  fits-regions =
+      let fits : WellFormed (planOf b) = well-formed b (planOf b) (decoded b sound) in
+      record {
+        sound = plan-sound (planOf b) fits;
+        few-values = λ x h. fits .each-variable x h .few-values;
+        few-labels = few-labels (planOf b) fits;
+        links-inside = linked-in-range (planOf b) fits;
+      }
 
   module _ (m : Mem) where
     -- the memory in which the plan is loaded: its index, and 0 elsewhere

@@ -6,16 +6,16 @@ use mathlib.Core.Option.{Option, none, some, Option·getD}
 use mathlib.Core.Path.{_≡_, refl, _∙_}
 use native.Mathlib.Omega.{arith}
 use borrow.Author.Tests.{ne-eqb}
-use lib.Dec.{leb, ltb, eqb}
+use lib.Dec.{ltb, eqb}
 use Rattle.disac4.specs.System.{System}
-use Rattle.disac4.specs.Turn.{Turn, treatNumber, sendNumber, answerNumber, pollNumber, allowed}
+use Rattle.disac4.specs.Turn.{Turn, pollNumber, allowed}
 use Rattle.disac4.specs.declared.Tally.{Tally}
 use Rattle.cells.proofs.Stores.{store-apart, copy-other}
-use Rattle.cells.specs.Layout.{WORKERS, CURSORS, BOUNDS, WORK, OUT, WANTED, HEADS, HEAD, TAIL, LOGEND, SENDS, LISTS, HELD, POLLS, OUTEND, OUTREAD}
+use Rattle.cells.specs.Layout.{WORKERS, CURSORS, BOUNDS, WORK, OUT, WANTED, HEADS, HEAD, TAIL, POLLS, OUTREAD}
 use Rattle.cells.specs.Memory.{Mem, store}
 use Rattle.sends.specs.Sends.{sentM, sendM}
 use Rattle.reads.specs.Reads.{listEnd, listStart, takenM, readListM, readPollM}
-use Rattle.answers.specs.Answers.{answeredM, emptyM, answerM}
+use Rattle.answers.specs.Answers.{answeredM, answerM}
 use Rattle.controller.specs.Controller.{askM, askedT, asksT, hasOut, outReadM, toldT, Machine, hearM, pollM}
 use Rattle.refinement.specs.Run.{playM}
 use Rattle.refinement.specs.Step.{withMem, readM, workerM, stepM, afterM}
@@ -40,29 +40,17 @@ module _ (r a b : ℕ) (h : HEADS ≤ r) where
   send-kept : (i : ℕ) (m : Mem) → Kept m (sendM i m)
   unfolding sendM sentM
   send-kept i m =
-      kept-if (ltb (m WORKERS i SENDS) 519)
-      (kept-if (eqb (m BOUNDS i (m WORKERS i SENDS)) (m WORKERS i LOGEND)) idle
-      (kept-if (ltb (m WORKERS i OUTEND) 520)
-      (kept-if (ltb (m WORKERS i LISTS) 65535)
-      (agrees (rw (far WORKERS (omega arith), far OUT (omega arith), far BOUNDS (omega arith))))
-      idle)
-      idle))
-      idle
+      let stays : sentM i m r a b ≡ m r a b =
+      rw (far WORKERS (omega arith), far OUT (omega arith), far BOUNDS (omega arith)) in
+      search (kept-if, idle, agrees)
 
   list-kept : (j i : ℕ) (m : Mem) → Kept m (readListM j i m)
   unfolding readListM takenM
   list-kept j i m =
-      kept-if (ltb (m CURSORS j i) (m WORKERS j SENDS))
-      (kept-if (ltb (m CURSORS j i) 519)
-      (kept-if (leb (listEnd j i m) 512)
-      (kept-if (ltb (m WORKERS i LISTS) 65535)
-      (agrees
-      (rw (far WORKERS (omega arith), far CURSORS (omega arith))
-      (copy-other j i (listStart j i m) (listEnd j i m - listStart j i m) m r a b (omega arith))))
-      idle)
-      idle)
-      idle)
-      idle
+      let stays : takenM j i m r a b ≡ m r a b =
+      rw (far WORKERS (omega arith), far CURSORS (omega arith))
+      (copy-other j i (listStart j i m) (listEnd j i m - listStart j i m) m r a b (omega arith)) in
+      search (kept-if, idle, agrees)
 
   poll-kept : (i n : ℕ) (m : Mem) → Kept m (readPollM i n m)
   unfolding readPollM
@@ -71,14 +59,8 @@ module _ (r a b : ℕ) (h : HEADS ≤ r) where
   answer-kept : (i : ℕ) (m : Mem) → Kept m (answerM i m)
   unfolding answerM answeredM
   answer-kept i m =
-      kept-if (eqb (m WORKERS i HELD) 0) idle
-      (kept-if (ltb (m WORKERS i HELD) 520)
-      (kept-if (emptyM i m)
-      (kept-if (eqb (m WORKERS i LISTS) (m WANTED 0 (m WORKERS i HELD)))
-      (kept-if (ltb (m WORKERS i OUTEND) 520) (agrees (rw (far WORKERS (omega arith), far OUT (omega arith)))) idle)
-      idle)
-      idle)
-      idle)
+      let stays : answeredM i m r a b ≡ m r a b = rw (far WORKERS (omega arith), far OUT (omega arith)) in
+      search (kept-if, idle, agrees) depth 6
 
   treat-kept : (sys : System) (i : ℕ) (m : Mem) → Kept m (treatM sys i m)
   unfolding treatM
@@ -94,11 +76,7 @@ module _ (r a b : ℕ) (h : HEADS ≤ r) where
 
   worker-kept : (sys : System) (i d : ℕ) (s : Machine) → Kept (s .mem) (workerM sys i d s)
   unfolding workerM readM
-  worker-kept sys i d s =
-      kept-if (eqb d treatNumber) (treat-kept sys i (s .mem))
-      (kept-if (eqb d sendNumber) (send-kept i (s .mem))
-      (kept-if (eqb d answerNumber) (answer-kept i (s .mem))
-      (kept-if (eqb d 0) (poll-kept i (s .tally .timestamp .0) (s .mem)) (list-kept (d - 1) i (s .mem)))))
+  worker-kept sys i d s = search (kept-if, treat-kept, send-kept, answer-kept, poll-kept, list-kept)
 
   -- ---- turns
 

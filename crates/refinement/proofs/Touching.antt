@@ -21,8 +21,8 @@ use Rattle.cells.specs.Memory.{Mem, store}
 use Rattle.index.proofs.Kept.{row-heads}
 use Rattle.treating.specs.Treat.{loseM, touchM, touchValuesM, touchVariableM, touchVariablesM}
 use Rattle.cells.specs.View.{LISTED, counterRow, viewCounter, view}
-use Rattle.refinement.proofs.Frames.{Apart, deleteIf, delete-if-apart}
-use Rattle.refinement.proofs.Growing.{both-none, Appends, appends-if}
+use Rattle.refinement.proofs.DeleteApart.{Apart, deleteIf, delete-if-apart}
+use Rattle.refinement.proofs.LongerLists.{both-none, Appends, appends-if}
 use Rattle.refinement.specs.Inv.{Small}
 use Rattle.index.specs.Index.{Paired}
 use Rattle.refinement.proofs.Labelwise.{own-row, Shows, As, shows-if}

@@ -21,12 +21,13 @@ use Rattle.network.specs.Network.{Label, domainSize}
 use Rattle.cells.specs.Layout.{WORKERS, LOG, WORK, DOMAIN, HEAD, TAIL, LOGEND, SENDS, LISTS, OUTEND, OUTREAD}
 use Rattle.cells.specs.Memory.{Mem, store}
 use Rattle.controller.specs.Controller.{Machine}
+use Rattle.treating.proofs.TreatLaws.{no-work}
 use Rattle.treating.specs.Treat.{treatM}
 use Rattle.cells.specs.View.{LISTED, labelOf, view}
-use Rattle.refinement.proofs.Frame.{OnlyRow, Answered, worker-action, totals-kept}
-use Rattle.refinement.proofs.Growing.{Both, both-none, both-more}
+use Rattle.refinement.proofs.InvKept.{OnlyRow, Answered, worker-action, totals-kept}
+use Rattle.refinement.proofs.LongerLists.{Both, both-none, both-more}
 use Rattle.refinement.specs.Inv.{Small, Inv, Row, Totals}
-use Rattle.refinement.proofs.Treating.{treatedM, treated-apart, treated-both, treated-unmoved, head-after, other-row, domain-after, heads-after, treat-busy, treat-idle}
+use Rattle.refinement.proofs.TreatRefines.{treatedM, treated-apart, treated-both, treated-unmoved, head-after, other-row, domain-after, heads-after, treat-busy}
 use Rattle.refinement.proofs.Unmoved.{Unmoved, row-longer}
 
 module _ (sys : System) (small : Small sys) (s : Machine) (inv : Inv sys s) (i : ℕ) (h : i < sys .workers)
@@ -132,5 +133,5 @@ treat-keeps sys small s inv i h m′ e =
           subst (λ n. Inv sys (record { mem = n; tally = s .tally }))
           (Option·some-injective _ _ (sym (treat-busy sys small s inv i h busy) ∙ e))
           (inv-after sys small s inv i h busy)
-      | no idle ↦ absurd (Option·none-ne-some m′ (sym (treat-idle sys (s .mem) i (omega arith)) ∙ e))
+      | no idle ↦ absurd (Option·none-ne-some m′ (sym (no-work sys i _ _ (s .mem) refl refl (omega arith)) ∙ e))
     ]

@@ -2,6 +2,7 @@
 use Prim.Native.Nat.{ℕ, _-_, _<_, _≤_}
 use mathlib.Core.Bool.{cond}
 use mathlib.Core.List.{List}
+use mathlib.Core.Option.{none}
 use mathlib.Core.Path.{_≡_, refl, _∙_, ap}
 use native.Mathlib.Omega.{arith}
 use lib.Dec.{eqb}
@@ -10,15 +11,14 @@ use Rattle.disac4.specs.System.{System}
 use Rattle.disac4.specs.declared.Tally.{Tally}
 use Rattle.cells.specs.Layout.{WORKERS, CURSORS, BOUNDS, LOG, OUT, WANTED, HEAD, TAIL, LOGEND, SENDS, LISTS, HELD, POLLS, OUTEND, OUTREAD}
 use Rattle.cells.specs.Memory.{Mem}
-use Rattle.cells.specs.View.{isWorker, viewHeld, viewLists, viewChannel}
+use Rattle.cells.specs.View.{isWorker, viewLists, heldOf, atActor, rowsOf, atChannel}
 use Rattle.controller.specs.Controller.{Machine}
 use Rattle.refinement.specs.Inv.{Small, Row, Inv}
 use Rattle.refinement.proofs.ChannelRows.{channels-stay}
-use Rattle.refinement.proofs.Frame.{row-grown}
-use Rattle.refinement.proofs.Growing.{Both}
-use Rattle.refinement.proofs.Grown.{channels-kept}
-use Rattle.refinement.proofs.HeldPoll.{held-same, held-row}
-use Rattle.refinement.proofs.Seen.{rowsOf}
+use Rattle.refinement.proofs.InvKept.{row-grown}
+use Rattle.refinement.proofs.LongerLists.{Both}
+use Rattle.refinement.proofs.ChannelsKept.{channels-kept, held-row}
+use Rattle.refinement.proofs.Actors.{actors-same}
 
 -- a column that deletions don't touch
 abbrev pub Steady : ℕ → Type 0
@@ -35,8 +35,8 @@ pub record Unmoved (m n : Mem) : Type 0 where
 
 module _ (sys : System) (m n : Mem) (t : Tally) (u : Unmoved m n) where
   -- the polls that workers hold
-  pub held-kept : (k : ℕ) → viewHeld sys n k ≡ viewHeld sys m k
-  held-kept = held-same sys m n (λ i h. held-row m n i (u .column i HELD (omega arith)) (u .wanted 0 (m WORKERS i HELD)))
+  pub held-kept : (k : ℕ) → atActor sys (heldOf n) none k ≡ atActor sys (heldOf m) none k
+  held-kept = actors-same sys (heldOf m) (heldOf n) none (λ i h. held-row m n i (u .column i HELD (omega arith)) (u .wanted 0 (m WORKERS i HELD)))
 
   -- the counts of lists
   pub lists-kept : (k : ℕ) → viewLists sys n t k ≡ viewLists sys m t k
@@ -67,8 +67,7 @@ module _ (sys : System) (m n : Mem) (t : Tally) (u : Unmoved m n) where
 
 -- the channels
 pub channel-kept : (sys : System) → Small sys → (s : Machine) → Inv sys s → (n : Mem) → Unmoved (s .mem) n → (j k : ℕ)
-    → viewChannel sys n (s .tally) j k ≡ viewChannel sys (s .mem) (s .tally) j k
-unfolding viewChannel
+    → atChannel sys (rowsOf n (s .tally)) j k ≡ atChannel sys (rowsOf (s .mem) (s .tally)) j k
 channel-kept sys small s inv n u j k =
     channels-stay sys (λ j k. Unit) (rowsOf (s .mem) (s .tally)) (rowsOf n (s .tally))
     (channels-kept sys small s inv n

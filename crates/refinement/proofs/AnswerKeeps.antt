@@ -13,15 +13,15 @@ use Rattle.base.proofs.Choice.{if-some, unless-some, some-same}
 use Rattle.base.specs.Below.{one}
 use Rattle.disac4.specs.System.{System}
 use Rattle.disac4.specs.declared.Tally.{Tally}
-use Rattle.cells.proofs.Stores.{store-same, store-other}
+use Rattle.cells.proofs.Stores.{store-same}
 use Rattle.cells.specs.Layout.{WORKERS, BOUNDS, OUT, WANTED, HEAD, TAIL, LOGEND, SENDS, LISTS, HELD, OUTEND}
 use Rattle.cells.specs.Memory.{Mem}
 use Rattle.answers.specs.Answers.{answerM, answeredM, emptyM}
 use Rattle.cells.specs.View.{LISTMARK}
 use Rattle.refinement.proofs.Capacity.{risen}
-use Rattle.refinement.proofs.Frame.{OnlyRow, Answered, worker-action}
+use Rattle.refinement.proofs.InvKept.{OnlyRow, only-store, only-same, Answered, worker-action}
 use Rattle.refinement.specs.Inv.{Row, Polled, Replied, Totals, Inv}
-use Rattle.refinement.proofs.Outgoing.{Put, put-lists, put-counted, put-heard}
+use Rattle.refinement.proofs.Outgoing.{Put, put-out, put-lists, put-counted, put-heard}
 
 -- wanted counts rise from poll to poll
 wanted-later : (m : Mem) (t : Tally) → Polled m t → (n n′ : ℕ) → 0 < n → n ≤ n′ → n′ ≤ t .timestamp .0
@@ -31,38 +31,27 @@ wanted-later m t p n n′ h l b = risen (m WANTED 0) n n′ l (λ k x y. p .rise
 -- ---- what the stores changed
 
 module _ (i : ℕ) (m : Mem) where
-  other-rows : (k c : ℕ) → (k ≡ i → ⊥) → answeredM i m WORKERS k c ≡ m WORKERS k c
+  -- no other worker's row
+  pub other-rows : (k c : ℕ) → (k ≡ i → ⊥) → answeredM i m WORKERS k c ≡ m WORKERS k c
   unfolding answeredM
   other-rows k c n = simp (ne-eqb k i n, and-never)
 
-  none-held : answeredM i m WORKERS i HELD ≡ 0
+  -- no poll is held any more
+  pub none-held : answeredM i m WORKERS i HELD ≡ 0
   unfolding answeredM
   none-held = store-same m WORKERS i HELD 0
 
-  put : Put i (m WORKERS i HELD) m (answeredM i m)
+  -- the reply is put for the controller
+  pub put : Put i (m WORKERS i HELD) m (answeredM i m)
   unfolding answeredM
-  put = record {
-    more = store-same m WORKERS i OUTEND (m WORKERS i OUTEND + 1);
-    others = λ k n. other-rows k OUTEND n;
-    read = λ k. refl;
-    new = store-same m OUT i (m WORKERS i OUTEND) (m WORKERS i HELD);
-    old = λ k e n. store-other m OUT i (m WORKERS i OUTEND) (m WORKERS i HELD) OUT k e (λ p. n);
-  }
+  put = search (put-out i (m WORKERS i HELD) m)
 
+  -- of the rows, only the replying one is changed
   only-row : OnlyRow m (answeredM i m) i
   unfolding answeredM
-  only-row = record {
-    others = λ k n. record {
-      workers = λ c. other-rows k c n;
-      bounds = λ c. refl;
-      log = λ c. refl;
-      work = λ c. refl;
-      out = λ c. put .old k c (λ p q. n p);
-    };
-    wanted = λ n. refl;
-    heads = λ x y. refl;
-    listed = λ x v e. e;
-  }
+  only-row =
+      only-store WORKERS HELD _ (omega arith)
+      (only-store WORKERS OUTEND _ (omega arith) (only-store OUT _ _ (omega arith) (only-same m i)))
 
 -- what an answer asks: a poll is held, both lists are empty, and the list counter equals the wanted count
 record Ready (i : ℕ) (m : Mem) : Type 0 where
@@ -78,22 +67,13 @@ module _ (sys : System) (m : Mem) (t : Tally) (i : ℕ) (inv : Inv sys (record {
     (ready : Ready i m) where
   row : Row sys (answeredM i m) t i
   unfolding answeredM
-  row =
-      let r = inv .rows i h in
-      record {
-        queue = r .queue;
-        first-bound = r .first-bound;
-        bounds-rise = r .bounds-rise;
-        last-bound = r .last-bound;
-        out-read = omega (arith, put i m .more, r .out-read);
-        out-list =
-            put-lists i (m WORKERS i HELD) m (answeredM i m) (put i m) (omega arith) (λ l. omega (arith, ready .low))
-            (r .out-list);
-        polls-read = r .polls-read;
-        held-read = omega (arith, none-held i m);
-        log-labels = r .log-labels;
-        work-labels = r .work-labels;
-      }
+  row = let r = inv .rows i h in search (arith, put i m .more, none-held i m, out-list)
+    where
+      out-list : (e : ℕ) → e < answeredM i m WORKERS i OUTEND → LISTMARK ≤ answeredM i m OUT i e
+          → answeredM i m OUT i e - LISTMARK < m WORKERS i SENDS
+      out-list =
+          put-lists i (m WORKERS i HELD) m (answeredM i m) (put i m) (omega arith) (λ l. omega (arith, ready .low))
+          (inv .rows i h .out-list)
 
   totals : Totals sys (answeredM i m) t
   unfolding answeredM

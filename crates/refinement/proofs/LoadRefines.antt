@@ -5,16 +5,14 @@ use mathlib.Core.List.{List, [], _∷_, _++_}
 use mathlib.Core.Option.{none}
 use mathlib.Core.Path.{_≡_, refl, sym, _∙_, ap}
 use native.Mathlib.Omega.{arith}
-use borrow.Author.Tests.{eqb-true}
+use borrow.Author.Tests.{eqb-true, eq-eqb}
 use lib.Dec.{eqb}
 use lib.ListN.{length}
 use Rattle.base.proofs.Below.{gather-none}
-use Rattle.base.proofs.Bools.{clash, refuted, and-false-left, and-false-right}
-use Rattle.base.proofs.Choice.{cond-false, cond-same, between-intro}
-use Rattle.base.proofs.Row.{bit-past}
+use Rattle.base.proofs.Bools.{clash, refuted, and-false-left}
+use Rattle.base.proofs.Choice.{cond-true, cond-false, cond-same, between-intro}
 use Rattle.base.proofs.Sums.{sum-part, sum-zero}
 use Rattle.base.specs.Below.{one}
-use Rattle.base.specs.Row.{bit}
 use Rattle.disac4.proofs.DomainSize.{load-size, deletions-loaded}
 use Rattle.disac4.specs.Loading.{loadedCounter, unsupported, loadedDeletions, load}
 use Rattle.disac4.specs.System.{System}
@@ -28,15 +26,14 @@ use Rattle.index.proofs.Kept.{row-heads}
 use Rattle.loading.specs.Load.{loadM}
 use Rattle.cells.specs.Memory.{Mem}
 pub use Rattle.refinement.specs.Run.{freshTally as startTally}
-use Rattle.cells.specs.View.{LISTED, isWorker, labelsBetween, counterRow, viewCounter, viewWork, viewSend, viewHeld, viewLists, viewListMessages, viewPolls, viewOut, viewChannel, view}
-use Rattle.refinement.proofs.Actors.{atActor, row-of}
-use Rattle.refinement.proofs.Frames.{Apart}
-use Rattle.refinement.proofs.Growing.{Longer, Both, both-none, both-more}
+use Rattle.cells.specs.View.{LISTED, isWorker, labelsBetween, counterRow, viewCounter, viewLists, view, listed, heldOf, listMessagesQueue, outQueue, pollsQueue, atActor, rowsOf, atChannel}
+use Rattle.refinement.proofs.Actors.{actors-none, no-marks, row-of}
+use Rattle.refinement.proofs.DeleteApart.{Apart}
+use Rattle.refinement.proofs.LongerLists.{Longer, Both, both-none, both-more}
 use Rattle.refinement.specs.Inv.{Small}
 use Rattle.index.specs.Index.{Paired}
-use Rattle.refinement.proofs.Grown.{listMessagesQueue, outQueue, pollsQueue}
 use Rattle.refinement.proofs.Counting.{count-else, counted-at}
-use Rattle.refinement.proofs.Frame.{paired-kept}
+use Rattle.refinement.proofs.InvKept.{paired-kept}
 use Rattle.refinement.proofs.LabelLoad.{listStep, list-apart, list-shows, list-both}
 use Rattle.refinement.proofs.Labelwise.{unloaded-apart, Shows, walk-apart, walk-shows, walk-both, Local}
 use Rattle.refinement.proofs.Listing.{load-walk}
@@ -208,45 +205,35 @@ module _ (sys : System) (small : Small sys) (z : Mem) (paired : Paired sys z) (b
   pub column-loaded : (i b : ℕ) → (b ≡ TAIL → ⊥) × (b ≡ LOGEND → ⊥) → n WORKERS i b ≡ 0
   column-loaded i b p = loaded-apart WORKERS i b (omega arith) (λ x v k l. omega arith) ∙ blank WORKERS i b (omega arith)
 
-  held-loaded : (k : ℕ) → viewHeld sys n k ≡ none
-  unfolding viewHeld
-  held-loaded k =
-      cond-false _ none
-      (and-false-right (isWorker sys k)
-      (ap (λ (c : ℕ). not (eqb c 0)) (column-loaded (k - 1) HELD (omega arith))))
+  held-loaded : (k : ℕ) → atActor sys (heldOf n) none k ≡ none
+  held-loaded =
+      actors-none sys (heldOf n) none (λ i. cond-true none _ (eq-eqb (n WORKERS i HELD) 0 (column-loaded i HELD (omega arith))))
 
   lists-loaded : (k : ℕ) → viewLists sys n startTally k ≡ 0
   unfolding viewLists
   lists-loaded k =
       cond-same (eqb k 0) _ _ 0 refl
-      (cond-same (isWorker sys k) _ _ 0 (column-loaded (k - 1) LISTS (omega arith)) refl)
+      (actors-none sys (λ i. n WORKERS i LISTS) 0 (λ i. column-loaded i LISTS (omega arith)) k)
 
-  no-list-messages : (i k : ℕ) → viewListMessages n i k ≡ []
-  unfolding viewListMessages
+  no-list-messages : (i k : ℕ) → listed (listMessagesQueue n i k) ≡ []
   no-list-messages i k = queue-none (listMessagesQueue n i k) (omega (arith, column-loaded i SENDS (omega arith)))
 
-  no-out : (i : ℕ) → viewOut n i ≡ []
-  unfolding viewOut
+  no-out : (i : ℕ) → listed (outQueue n i) ≡ []
   no-out i = queue-none (outQueue n i) (omega (arith, column-loaded i OUTEND (omega arith)))
 
-  no-polls : (i : ℕ) → viewPolls n startTally i ≡ []
-  unfolding viewPolls
+  no-polls : (i : ℕ) → listed (pollsQueue n startTally i) ≡ []
   no-polls i = queue-none (pollsQueue n startTally i) (omega arith)
 
-  channel-loaded : (j k : ℕ) → viewChannel sys n startTally j k ≡ []
-  unfolding viewChannel
+  channel-loaded : (j k : ℕ) → atChannel sys (rowsOf n startTally) j k ≡ []
   channel-loaded j k =
       cond-same (isWorker sys j) _ _ []
       (cond-same (isWorker sys k) _ _ [] (cond-same (eqb j k) _ _ [] refl (no-list-messages (j - 1) (k - 1)))
       (cond-same (eqb k 0) _ _ [] (no-out (j - 1)) refl))
       (cond-same (eqb j 0 && isWorker sys k) _ _ [] (no-polls (k - 1)) refl)
 
-  no-mark : (k : ℕ) → isWorker sys k && bit 0 (k - 1) ≡ false
-  no-mark k = and-false-right (isWorker sys k) (bit-past 0 0 (k - 1) (omega arith) (omega arith))
-
   -- loading in memory is loading
   pub load-refines : view sys (loadM sys z) startTally ≡ load sys
-  unfolding view load viewWork viewSend
+  unfolding view load
   load-refines = λ ι. record {
     domain = λ x v. domain-loaded x v ι;
     counter = λ x v y. counter-loaded x v y ι;
@@ -259,5 +246,5 @@ module _ (sys : System) (small : Small sys) (z : Mem) (paired : Paired sys z) (b
     held = λ k. held-loaded k ι;
     listCounter = λ k. lists-loaded k ι;
     channel = λ j k. channel-loaded j k ι;
-    controller = record { timestamp = 0; pollOpen = false; marked = λ k. no-mark k ι; closed = false };
+    controller = record { timestamp = 0; pollOpen = false; marked = λ k. no-marks sys k ι; closed = false };
   }

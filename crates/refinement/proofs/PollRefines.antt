@@ -1,5 +1,5 @@
 -- Poll in memory is poll.
-use Prim.Native.Nat.{ℕ, zero, suc, _+_, _-_, _<_, _≤_}
+use Prim.Native.Nat.{ℕ, zero, suc, _+_, _<_, _≤_}
 use mathlib.Core.Bool.{Bool, true, false, cond, _&&_, not}
 use mathlib.Core.List.{List, [], _∷_, _++_}
 use mathlib.Core.Option.{none, some}
@@ -7,25 +7,22 @@ use mathlib.Core.Path.{_≡_, refl, sym, _∙_, ap, ap₂}
 use native.Mathlib.Numerals.{add-one}
 use native.Mathlib.Omega.{arith}
 use borrow.Author.Tests.{lt-ltb}
-use Rattle.base.proofs.Bools.{and-false-right}
-use Rattle.base.proofs.Choice.{update₂-same}
-use Rattle.base.proofs.Row.{bit-past}
 use Rattle.disac4.specs.Action.{pollOf, afterAsk, ask}
 use Rattle.disac4.specs.State.{Poll, Message, poll}
 use Rattle.disac4.specs.System.{System}
 use Rattle.disac4.specs.declared.Tally.{Tally}
 use Rattle.cells.proofs.Queue.{queue-put}
-use Rattle.cells.proofs.Stores.{store-other}
-use Rattle.cells.specs.Layout.{WORKERS, WANTED, HELD}
+use Rattle.cells.specs.Layout.{WORKERS, HELD}
 use Rattle.cells.specs.Memory.{Mem}
 use Rattle.controller.specs.Controller.{askM, askedT, asksT, Machine, pollM}
-use Rattle.cells.specs.View.{isWorker, pollAt, viewLists, viewPolls, view}
+use Rattle.cells.specs.View.{pollAt, viewLists, view, heldOf, pollsQueue, rowsOf, atChannel}
 use Rattle.refinement.proofs.Capacity.{held-few, timestamp-few}
-use Rattle.refinement.proofs.ChannelRows.{atChannel, at-polls, Stays, channels-broadcast}
-use Rattle.refinement.proofs.Grown.{Grown, pollsQueue, polls-kept, channels-kept}
-use Rattle.refinement.proofs.HeldPoll.{heldAt, held-same, held-row}
+use Rattle.refinement.proofs.ChannelRows.{at-polls, Stays, channels-broadcast}
+use Rattle.refinement.proofs.ChannelsKept.{Grown, polls-kept, channels-kept, held-row}
 use Rattle.refinement.specs.Inv.{Small, Inv}
-use Rattle.refinement.proofs.Seen.{mapO, viewOf, view-parts, rowsOf, same-state, mapO-cond}
+use Rattle.refinement.proofs.PollKeeps.{new-wanted, old-wanted}
+use Rattle.refinement.proofs.ViewParts.{mapO, viewOf, view-parts, same-state, mapO-cond}
+use Rattle.refinement.proofs.Actors.{no-marks, actors-same}
 
 module _ (sys : System) (small : Small sys) (s : Machine) (inv : Inv sys s) where
   abbrev m : Mem
@@ -45,38 +42,32 @@ module _ (sys : System) (small : Small sys) (s : Machine) (inv : Inv sys s) wher
 
   asked-grown : Grown sys m t m′
   unfolding askM
-  asked-grown = record {
-    logs = λ j hj d l. refl;
-    bounds = λ j hj n l. refl;
-    outs = λ j hj n l. refl;
-    wanted = λ n l. store-other m WANTED 0 (t .timestamp .0 + 1) (t .lists .0) WANTED 0 n (λ r e f. omega arith);
-  }
+  asked-grown = search (old-wanted t m)
 
   -- the new poll
   asked : pollAt m′ (t .timestamp .0 + 1) ≡ pollOf (suc (t .timestamp .0)) (t .lists .0)
-  unfolding pollAt askM
-  asked =
-      ap₂ pollOf (add-one (t .timestamp .0)) (update₂-same (λ n j. m WANTED j n) (t .timestamp .0 + 1) 0 (t .lists .0))
+  unfolding pollAt
+  asked = ap₂ pollOf (add-one (t .timestamp .0)) (new-wanted t m)
 
   asked-view : view sys m′ t′ ≡ afterAsk sys (view sys m t)
-  unfolding view-parts viewPolls askM askedT afterAsk
+  unfolding view-parts askM askedT afterAsk
   asked-view = same-state _ _ (record {
     domain = λ x v. refl;
     counter = λ x v y. refl;
     workList = λ k. refl;
     toSend = λ k. refl;
-    held = held-same sys m m′ kept;
+    held = actors-same sys (heldOf m) (heldOf m′) none kept;
     listCounter = λ k. refl;
     channel = channels-broadcast sys (rowsOf m t) (rowsOf m′ t′) 0 _ (omega arith) to stays;
     controller = λ ι. record {
       timestamp = add-one (t .timestamp .0) ι;
       pollOpen = true;
-      marked = λ k. and-false-right (isWorker sys k) (bit-past 0 0 (k - 1) (omega arith) (omega arith)) ι;
+      marked = λ k. no-marks sys k ι;
       closed = t .closed;
     };
   })
     where
-      kept : (i : ℕ) → i < sys .workers → heldAt m′ i ≡ heldAt m i
+      kept : (i : ℕ) → i < sys .workers → heldOf m′ i ≡ heldOf m i
       kept i h = held-row m m′ i refl (asked-grown .wanted (m WORKERS i HELD) (held-few sys small s inv i h))
 
       to : (k : ℕ) → k ≤ sys .workers → (k ≡ 0 → ⊥)

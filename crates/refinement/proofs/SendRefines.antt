@@ -1,5 +1,5 @@
 -- Send in memory is send.
-use Prim.Native.Nat.{ℕ, zero, suc, _+_, _<_, _≤_}
+use Prim.Native.Nat.{ℕ, zero, suc, _<_, _≤_}
 use mathlib.Core.Bool.{Bool, cond}
 use mathlib.Core.List.{List, [], _∷_, _++_}
 use mathlib.Core.Option.{none, some}
@@ -8,24 +8,24 @@ use native.Mathlib.Nat.{le-refl}
 use native.Mathlib.Omega.{arith}
 use borrow.Author.Tests.{lt-ltb}
 use lib.Dec.{eqb}
-use Rattle.base.proofs.Choice.{update-same, update-other, update₂-same}
 use Rattle.disac4.specs.Action.{isEmpty, afterSend, send}
 use Rattle.disac4.specs.State.{Message, list}
+use Rattle.network.specs.Network.{Label}
 use Rattle.disac4.specs.System.{System}
 use Rattle.disac4.specs.declared.Tally.{Tally}
 use Rattle.cells.proofs.Queue.{labels-same, labels-none, labels-empty, queue-put}
-use Rattle.cells.proofs.Stores.{store-same, store-other}
 use Rattle.cells.specs.Layout.{WORKERS, BOUNDS, LOG, OUT, LOGEND, SENDS, LISTS, OUTEND}
 use Rattle.cells.specs.Memory.{Mem}
 use Rattle.sends.specs.Sends.{sentM, sendM}
 use Rattle.controller.specs.Controller.{Machine}
-use Rattle.cells.specs.View.{LISTMARK, listAt, messageOf, viewSend, viewListMessages, viewOut, view}
+use Rattle.cells.specs.View.{listAt, messageOf, view, sendOf, listMessagesQueue, outQueue, atActor, rowsOf, atChannel}
 use Rattle.refinement.proofs.Actors.{at-worker, actors-update, counters-more}
 use Rattle.refinement.proofs.Capacity.{sends-few, outend-few, lists-few}
-use Rattle.refinement.proofs.ChannelRows.{atChannel, at-list-messages, at-out, Stays, channels-broadcast}
-use Rattle.refinement.proofs.Grown.{Grown, send-kept, listMessagesQueue, list-messages-kept, outQueue, out-kept, channels-kept}
+use Rattle.refinement.proofs.ChannelRows.{at-list-messages, at-out, Stays, channels-broadcast}
+use Rattle.refinement.proofs.ChannelsKept.{Grown, send-kept, list-messages-kept, out-kept, channels-kept}
 use Rattle.refinement.specs.Inv.{Small, Inv}
-use Rattle.refinement.proofs.Seen.{mapO, viewOf, view-parts, rowsOf, list-code, same-state, sendOf, mapO-cond}
+use Rattle.refinement.proofs.SendKeeps.{other-rows, old-bound, new-bound, more-sends, more-lists, put}
+use Rattle.refinement.proofs.ViewParts.{mapO, viewOf, view-parts, list-code, same-state, mapO-cond}
 
 module _ (sys : System) (small : Small sys) (s : Machine) (inv : Inv sys s) (i : ℕ) (h : i < sys .workers) where
   abbrev m : Mem
@@ -34,65 +34,55 @@ module _ (sys : System) (small : Small sys) (s : Machine) (inv : Inv sys s) (i :
   abbrev t : Tally
   t = s .tally
 
+  -- what the worker has to send
+  abbrev unsent : List Label
+  unsent = atActor sys (sendOf m) [] (suc i)
+
   sent-grown : Grown sys m t (sentM i m)
   unfolding sentM
   sent-grown = record {
     logs = λ j hj d l. refl;
-    bounds = λ j hj n l. store-other m BOUNDS i (m WORKERS i SENDS + 1) (m WORKERS i LOGEND) BOUNDS j n
-        (λ r e f. omega (arith, ap (λ (k : ℕ). m WORKERS k SENDS) e));
-    outs = λ j hj n l. store-other m OUT i (m WORKERS i OUTEND) (LISTMARK + m WORKERS i SENDS) OUT j n
-        (λ r e f. omega (arith, ap (λ (k : ℕ). m WORKERS k OUTEND) e));
+    bounds = λ j hj n l. old-bound i m j n (λ e f. omega (arith, ap (λ (k : ℕ). m WORKERS k SENDS) e));
+    outs = λ j hj n l. put i m .old j n (λ e f. omega (arith, ap (λ (k : ℕ). m WORKERS k OUTEND) e));
     wanted = λ n l. refl;
   }
 
   -- what is to be sent becomes the newest list message
-  newest : listAt (sentM i m) i (m WORKERS i SENDS) ≡ viewSend sys m (suc i)
-  unfolding sentM listAt viewSend
+  newest : listAt (sentM i m) i (m WORKERS i SENDS) ≡ unsent
+  unfolding sentM listAt
   newest =
       labels-same m (sentM i m) LOG i (m BOUNDS i (m WORKERS i SENDS)) (m WORKERS i LOGEND)
-      (sent-grown .bounds i h (m WORKERS i SENDS) (le-refl _))
-      (store-same m BOUNDS i (m WORKERS i SENDS + 1) (m WORKERS i LOGEND)) (λ d p q. refl)
+      (sent-grown .bounds i h (m WORKERS i SENDS) (le-refl _)) (new-bound i m) (λ d p q. refl)
       ∙ sym (at-worker sys (sendOf m) [] i h)
 
-  newest-out : messageOf (sentM i m) i (sentM i m OUT i (m WORKERS i OUTEND)) ≡ list (viewSend sys m (suc i))
-  newest-out = list-code (sentM i m) i _ (m WORKERS i SENDS) put ∙ ap list newest
-    where
-      put : sentM i m OUT i (m WORKERS i OUTEND) ≡ LISTMARK + m WORKERS i SENDS
-      put = unfold sentM in update₂-same (λ n j. m OUT j n) (m WORKERS i OUTEND) i (LISTMARK + m WORKERS i SENDS)
+  newest-out : messageOf (sentM i m) i (sentM i m OUT i (m WORKERS i OUTEND)) ≡ list (unsent)
+  newest-out = list-code (sentM i m) i _ (m WORKERS i SENDS) (put i m .new) ∙ ap list newest
 
   -- every other actor is sent it
   sent-to : (k : ℕ) → k ≤ sys .workers → (k ≡ suc i → ⊥)
       → atChannel sys (rowsOf (sentM i m) t) (suc i) k
-      ≡ atChannel sys (rowsOf m t) (suc i) k ++ (list (viewSend sys m (suc i)) ∷ [])
-  unfolding sentM viewListMessages viewOut
+      ≡ atChannel sys (rowsOf m t) (suc i) k ++ (list (unsent) ∷ [])
+  unfolding sentM
   sent-to zero l n =
       at-out sys (rowsOf (sentM i m) t) i h
       ∙ queue-put (outQueue m i) (outQueue (sentM i m) i) (out-kept sys small s inv (sentM i m) sent-grown i h)
-      (inv .rows i h .out-read) refl (update-same (λ j. m WORKERS j OUTEND) i (m WORKERS i OUTEND + 1))
+      (inv .rows i h .out-read) refl (put i m .more)
       ∙ ap₂ (λ (l : List Message) (a : Message). l ++ (a ∷ [])) (sym (at-out sys (rowsOf m t) i h)) newest-out
   sent-to (suc k) l n =
       let d : i ≡ k → ⊥ = λ e. n (ap suc (sym e)) in
       at-list-messages sys (rowsOf (sentM i m) t) i k h l d
       ∙ queue-put (listMessagesQueue m i k) (listMessagesQueue (sentM i m) i k)
       (list-messages-kept sys small s inv (sentM i m) sent-grown i k h)
-      (inv .totals .cursor i k h l) refl (update-same (λ j. m WORKERS j SENDS) i (m WORKERS i SENDS + 1))
+      (inv .totals .cursor i k h l) refl (more-sends i m)
       ∙ ap₂ (λ (l : List Message) (a : Message). l ++ (a ∷ [])) (sym (at-list-messages sys (rowsOf m t) i k h l d)) (ap list newest)
 
   -- nobody else sends
   not-sent : Stays sys (λ j k. j ≡ suc i → ⊥) (rowsOf m t) (rowsOf (sentM i m) t)
   unfolding sentM
-  not-sent = channels-kept sys small s inv (sentM i m) sent-grown t (λ j k. j ≡ suc i → ⊥) (record {
-    cursors = λ j k hj hk n. refl;
-    sends = λ j k hj hk n. other SENDS j n;
-    out-read = λ j hj n. refl;
-    out-end = λ j hj n. other OUTEND j n;
-    polls = λ k hk n. refl;
-    timestamp = λ k hk n. refl;
-  })
-    where
-      other : (c : ℕ) (j : ℕ) → (suc j ≡ suc i → ⊥)
-          → cond (eqb j i) (m WORKERS i c + 1) (m WORKERS j c) ≡ m WORKERS j c
-      other c j n = update-other (λ j. m WORKERS j c) i (m WORKERS i c + 1) j (λ e. n (ap suc e))
+  not-sent =
+      let ends : (c j : ℕ) → (suc j ≡ suc i → ⊥) → sentM i m WORKERS j c ≡ m WORKERS j c =
+      λ c j n. other-rows i m j c (λ e. n (ap suc e)) in
+      channels-kept sys small s inv (sentM i m) sent-grown t (λ j k. j ≡ suc i → ⊥) (search)
 
   sent-view : view sys (sentM i m) t ≡ afterSend sys (suc i) (view sys m t)
   unfolding view-parts sentM afterSend
@@ -101,13 +91,10 @@ module _ (sys : System) (small : Small sys) (s : Machine) (inv : Inv sys s) (i :
     counter = λ x v y. refl;
     workList = λ k. refl;
     toSend = actors-update sys (sendOf m) (sendOf (sentM i m)) [] i [] h all-sent
-        (λ j hj n. send-kept sys small s inv (sentM i m) sent-grown j hj
-        (update-other (λ j. m WORKERS j SENDS) i (m WORKERS i SENDS + 1) j n) refl);
+        (λ j hj n. send-kept sys small s inv (sentM i m) sent-grown j hj (other-rows i m j SENDS n) refl);
     held = λ k. refl;
-    listCounter = counters-more sys (λ j. m WORKERS j LISTS) (λ j. sentM i m WORKERS j LISTS) (t .lists .0) i h
-        (update-same (λ j. m WORKERS j LISTS) i (m WORKERS i LISTS + 1))
-        (λ j hj n. update-other (λ j. m WORKERS j LISTS) i (m WORKERS i LISTS + 1) j n);
-    channel = channels-broadcast sys (rowsOf m t) (rowsOf (sentM i m) t) (suc i) (list (viewSend sys m (suc i))) h
+    listCounter = counters-more sys m (sentM i m) t i h (more-lists i m) (λ j hj. other-rows i m j LISTS);
+    channel = channels-broadcast sys (rowsOf m t) (rowsOf (sentM i m) t) (suc i) (list (unsent)) h
         sent-to not-sent;
     controller = refl;
   })
@@ -115,11 +102,7 @@ module _ (sys : System) (small : Small sys) (s : Machine) (inv : Inv sys s) (i :
       all-sent : sendOf (sentM i m) i ≡ []
       all-sent =
           labels-none (sentM i m) LOG i (sentM i m BOUNDS i (sentM i m WORKERS i SENDS)) (m WORKERS i LOGEND)
-          (omega (
-            arith,
-            ap (sentM i m BOUNDS i) (update-same (λ j. m WORKERS j SENDS) i (m WORKERS i SENDS + 1)),
-            store-same m BOUNDS i (m WORKERS i SENDS + 1) (m WORKERS i LOGEND),
-          ))
+          (omega (arith, ap (sentM i m BOUNDS i) (more-sends i m), new-bound i m))
 
   -- there is room for every list message
   send-room : sendM i m ≡ cond (eqb (m BOUNDS i (m WORKERS i SENDS)) (m WORKERS i LOGEND)) none (some (sentM i m))
@@ -132,8 +115,7 @@ module _ (sys : System) (small : Small sys) (s : Machine) (inv : Inv sys s) (i :
       )
 
   -- nothing is to be sent exactly if the last list message ends where the log does
-  pub nothing-to-send : isEmpty (viewSend sys m (suc i)) ≡ eqb (m BOUNDS i (m WORKERS i SENDS)) (m WORKERS i LOGEND)
-  unfolding viewSend
+  pub nothing-to-send : isEmpty unsent ≡ eqb (m BOUNDS i (m WORKERS i SENDS)) (m WORKERS i LOGEND)
   nothing-to-send =
       ap isEmpty (at-worker sys (sendOf m) [] i h)
       ∙ labels-empty m LOG i (m BOUNDS i (m WORKERS i SENDS)) (m WORKERS i LOGEND) (inv .rows i h .last-bound)

@@ -2,7 +2,7 @@
 use Prim.Native.Nat.{ℕ, _+_, _<_, _≤_}
 use mathlib.Core.Logic.{inl, ⊎-elim}
 use mathlib.Core.Option.{some}
-use mathlib.Core.Path.{_≡_, refl, sym, _∙_, ap}
+use mathlib.Core.Path.{_≡_, sym, _∙_, ap}
 use native.Mathlib.Omega.{arith}
 use borrow.Author.Tests.{eqb-false, le-leb, ne-eqb}
 use lib.Dec.{ltb, eqb}
@@ -18,58 +18,51 @@ use Rattle.cells.specs.Layout.{WORKERS, CURSORS, BOUNDS, OUT, LOGEND, SENDS, LI
 use Rattle.cells.specs.Memory.{Mem}
 use Rattle.sends.specs.Sends.{sendM, sentM}
 use Rattle.cells.specs.View.{LISTMARK}
-use Rattle.refinement.proofs.Frame.{OnlyRow, Answered, worker-action}
+use Rattle.refinement.proofs.InvKept.{OnlyRow, only-store, only-same, Answered, worker-action}
 use Rattle.refinement.specs.Inv.{Row, Totals, Inv}
-use Rattle.refinement.proofs.Outgoing.{Put, put-lists, put-counted, put-heard}
+use Rattle.refinement.proofs.Outgoing.{Put, put-out, put-lists, put-counted, put-heard}
 
 -- ---- what the stores changed
 
 module _ (i : ℕ) (m : Mem) where
-  other-rows : (k c : ℕ) → (k ≡ i → ⊥) → sentM i m WORKERS k c ≡ m WORKERS k c
+  -- no other worker's row
+  pub other-rows : (k c : ℕ) → (k ≡ i → ⊥) → sentM i m WORKERS k c ≡ m WORKERS k c
   unfolding sentM
   other-rows k c n = simp (ne-eqb k i n, and-never)
 
-  old-bound : (k n : ℕ) → (k ≡ i → n ≡ m WORKERS i SENDS + 1 → ⊥) → sentM i m BOUNDS k n ≡ m BOUNDS k n
+  -- no bound but the next
+  pub old-bound : (k n : ℕ) → (k ≡ i → n ≡ m WORKERS i SENDS + 1 → ⊥) → sentM i m BOUNDS k n ≡ m BOUNDS k n
   unfolding sentM
-  old-bound k n h =
-      store-other m BOUNDS i (m WORKERS i SENDS + 1) (m WORKERS i LOGEND) BOUNDS k n (λ p. h)
+  old-bound k n h = store-other m BOUNDS i (m WORKERS i SENDS + 1) (m WORKERS i LOGEND) BOUNDS k n (λ p. h)
 
-  new-bound : sentM i m BOUNDS i (m WORKERS i SENDS + 1) ≡ m WORKERS i LOGEND
+  -- the new list message ends where the log does
+  pub new-bound : sentM i m BOUNDS i (m WORKERS i SENDS + 1) ≡ m WORKERS i LOGEND
   unfolding sentM
   new-bound = store-same m BOUNDS i (m WORKERS i SENDS + 1) (m WORKERS i LOGEND)
 
-  more-sends : sentM i m WORKERS i SENDS ≡ m WORKERS i SENDS + 1
+  -- it is sent
+  pub more-sends : sentM i m WORKERS i SENDS ≡ m WORKERS i SENDS + 1
   unfolding sentM
   more-sends = store-same m WORKERS i SENDS (m WORKERS i SENDS + 1)
 
-  more-lists : sentM i m WORKERS i LISTS ≡ m WORKERS i LISTS + 1
+  -- its sender counts it
+  pub more-lists : sentM i m WORKERS i LISTS ≡ m WORKERS i LISTS + 1
   unfolding sentM
   more-lists = store-same m WORKERS i LISTS (m WORKERS i LISTS + 1)
 
-  put : Put i (LISTMARK + m WORKERS i SENDS) m (sentM i m)
+  -- and puts it for the controller
+  pub put : Put i (LISTMARK + m WORKERS i SENDS) m (sentM i m)
   unfolding sentM
-  put = record {
-    more = store-same m WORKERS i OUTEND (m WORKERS i OUTEND + 1);
-    others = λ k n. other-rows k OUTEND n;
-    read = λ k. refl;
-    new = store-same m OUT i (m WORKERS i OUTEND) (LISTMARK + m WORKERS i SENDS);
-    old = λ k e n. store-other m OUT i (m WORKERS i OUTEND) (LISTMARK + m WORKERS i SENDS) OUT k e (λ p. n);
-  }
+  put = search (put-out i (LISTMARK + m WORKERS i SENDS) m)
 
+  -- of the rows, only the sender's is changed
   only-row : OnlyRow m (sentM i m) i
   unfolding sentM
-  only-row = record {
-    others = λ k n. record {
-      workers = λ c. other-rows k c n;
-      bounds = λ c. old-bound k c (λ p q. n p);
-      log = λ c. refl;
-      work = λ c. refl;
-      out = λ c. put .old k c (λ p q. n p);
-    };
-    wanted = λ n. refl;
-    heads = λ x y. refl;
-    listed = λ x v e. e;
-  }
+  only-row =
+      only-store WORKERS LISTS _ (omega arith)
+      (only-store WORKERS OUTEND _ (omega arith)
+      (only-store WORKERS SENDS _ (omega arith)
+      (only-store OUT _ _ (omega arith) (only-store BOUNDS _ _ (omega arith) (only-same m i)))))
 
 -- ---- the parts of the invariant
 

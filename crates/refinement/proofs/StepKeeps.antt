@@ -1,4 +1,4 @@
--- Every turn keeps the invariant, if treating a label does.
+-- Every turn keeps the invariant: what holds of each action, put together.
 use Prim.Native.Nat.{ℕ, suc, _-_, _<_}
 use mathlib.Core.Bool.{true, _||_, not}
 use mathlib.Core.Option.{Option, none, some}
@@ -14,23 +14,23 @@ use Rattle.disac4.specs.Turn.{Turn, treatNumber, sendNumber, answerNumber, poll
 use Rattle.cells.specs.Memory.{Mem}
 use Rattle.controller.specs.Controller.{Machine}
 use Rattle.refinement.specs.Step.{withMem, readM, workerM, stepM}
-use Rattle.treating.specs.Treat.{treatM}
-use Rattle.refinement.proofs.Answering.{answer-keeps}
-use Rattle.refinement.proofs.Hearing.{hear-keeps}
+use Rattle.refinement.proofs.AnswerKeeps.{answer-keeps}
+use Rattle.refinement.proofs.ControllerReadKeeps.{hear-keeps}
 use Rattle.refinement.specs.Inv.{Small, Inv}
-use Rattle.refinement.proofs.Polling.{poll-keeps, read-poll-keeps}
-use Rattle.refinement.proofs.Reading.{read-list-keeps}
-use Rattle.refinement.proofs.Sending.{send-keeps}
+use Rattle.refinement.proofs.PollKeeps.{poll-keeps}
+use Rattle.refinement.proofs.PollReadKeeps.{read-poll-keeps}
+use Rattle.refinement.proofs.ListReadKeeps.{read-list-keeps}
+use Rattle.refinement.proofs.SendKeeps.{send-keeps}
+use Rattle.refinement.proofs.TreatKeeps.{treat-keeps}
 
-module _ (sys : System) (small : Small sys) (s : Machine) (inv : Inv sys s)
-    (treat-keeps : (i : ℕ) (m′ : Mem) → i < sys .workers → treatM sys i (s .mem) ≡ some m′
-    → Inv sys (record { mem = m′; tally = s .tally })) where
+module _ (sys : System) (small : Small sys) (s : Machine) (inv : Inv sys s) where
+  -- a worker acts
   worker-keeps : (i d : ℕ) (m′ : Mem) → i < sys .workers → workerMay (sys .workers) (suc i) d ≡ true
       → workerM sys i d s ≡ some m′
       → Inv sys (record { mem = m′; tally = s .tally })
   unfolding workerM readM
   worker-keeps i d m′ h may e =
-      by-test (eqb d treatNumber) e (λ p. treat-keeps i m′ h) (λ n₁ e₁.
+      by-test (eqb d treatNumber) e (λ p. treat-keeps sys small s inv i h m′) (λ n₁ e₁.
       by-test (eqb d sendNumber) e₁ (λ p. send-keeps sys (s .mem) m′ (s .tally) i inv h) (λ n₂ e₂.
       by-test (eqb d answerNumber) e₂ (λ p. answer-keeps sys (s .mem) m′ (s .tally) i inv h) (λ n₃ e₃.
       by-test (eqb d 0) e₃ (λ p. read-poll-keeps sys (s .mem) m′ (s .tally) i inv h) (λ n₄ e₄.

@@ -1,20 +1,20 @@
 -- The marks as a row of bits: one more mark, and all of them.
-use Prim.Native.Nat.{ℕ, zero, suc, _+_, _^_, _<_}
+use Prim.Native.Nat.{ℕ, _+_, _^_, _<_}
 use mathlib.Core.Bool.{Bool, true, false, cond}
 use mathlib.Core.Path.{_≡_, refl, sym, _∙_, ap, subst}
-use native.Mathlib.Nat.{two-pow-succ}
 use native.Mathlib.Omega.{arith}
 use borrow.Author.Tests.{eqb-true, eq-eqb}
 use lib.Dec.{eqb}
+use lib.Pow.{pow-pos}
 use Rattle.base.proofs.Below.{all-below, every-below}
 use Rattle.base.proofs.Bools.{bool-ext}
 use Rattle.base.proofs.Choice.{update-same, update-other}
-use Rattle.base.proofs.Row.{row-bit, row-small, row-ext, row-of-bits}
+use Rattle.base.proofs.Row.{row-bit, row-small, row-ext, row-of-bits, row-full}
 use Rattle.base.proofs.Sums.{sum-change}
 use Rattle.base.specs.Below.{allBelow}
 use Rattle.base.specs.Choice.{update}
 use Rattle.base.specs.Row.{bit, rowOf}
 use Rattle.controller.specs.Controller.{withMark}
 
 module _ (p marks : ℕ) (small : marks < 2 ^ p) where
   -- the marks with that of row `i` are the row of a test changed at `i`
@@ -54,21 +54,13 @@ module _ (p marks : ℕ) (small : marks < 2 ^ p) where
   pub mark-bit : (i : ℕ) → i < p → (w : ℕ) → w < p → bit (withMark marks i) w ≡ update (bit marks) i true w
   mark-bit i h w l = ap (λ (r : ℕ). bit r w) (mark-row i h) ∙ row-bit p (update (bit marks) i true) w l
 
-  full : rowOf p (λ w. true) + 1 ≡ 2 ^ p
-  unfolding rowOf
-  full = go p
-    where
-      go : (p : ℕ) → rowOf p (λ w. true) + 1 ≡ 2 ^ p
-      go zero = refl
-      go (suc p) = omega (arith, go p, two-pow-succ p)
-
   -- all are there exactly if the row is one less than the next power of two
   pub marks-full : eqb (marks + 1) (2 ^ p) ≡ allBelow p (bit marks)
   marks-full =
       bool-ext (eqb (marks + 1) (2 ^ p)) (allBelow p (bit marks))
       (λ e.
-      let r : marks ≡ rowOf p (λ w. true) = omega (arith, eqb-true (marks + 1) (2 ^ p) e, full) in
+      let r : marks ≡ rowOf p (λ w. true) = omega (arith, eqb-true (marks + 1) (2 ^ p) e, row-full p) in
       every-below p (bit marks) (λ w l. ap (λ (k : ℕ). bit k w) r ∙ row-bit p (λ w. true) w l))
       (λ e.
       eq-eqb (marks + 1) (2 ^ p)
-      (omega (arith, full, row-of-bits p marks small, row-ext p (bit marks) (λ w. true) (all-below p (bit marks) e))))
+      (omega (arith, row-full p, pow-pos p, row-of-bits p marks small, row-ext p (bit marks) (λ w. true) (all-below p (bit marks) e))))

@@ -10,7 +10,7 @@ use lib.Dec.{leb, ltb, eqb}
 use Rattle.base.proofs.Bools.{decided, and-left}
 use Rattle.base.proofs.Choice.{if-some, some-same}
 use Rattle.base.proofs.Sums.{sum-change}
-use Rattle.base.specs.Below.{one}
+use Rattle.base.specs.Below.{sumBelow, one}
 use Rattle.disac4.specs.System.{System}
 use Rattle.disac4.specs.declared.Tally.{Tally}
 use Rattle.cells.proofs.Stores.{store-same, store-other}
@@ -18,8 +18,8 @@ use Rattle.cells.specs.Layout.{WORKERS, OUT, OUTEND, OUTREAD}
 use Rattle.cells.specs.Memory.{Mem}
 use Rattle.controller.specs.Controller.{countedT, markedT, toldT, hasOut, outReadM, Machine, hearM}
 use Rattle.cells.specs.View.{LISTMARK}
-use Rattle.refinement.proofs.Frame.{OnlyRow, Answered, Follows, row-action, replied-kept, follows-itself, lists-out-kept, lists-out-more}
-use Rattle.refinement.proofs.Marks.{mark-small}
+use Rattle.refinement.proofs.InvKept.{OnlyRow, only-store, only-same, Answered, Follows, row-action, replied-kept, follows-itself, lists-out-kept, lists-out-more}
+use Rattle.controller.proofs.Marks.{mark-small}
 use Rattle.refinement.specs.Inv.{Row, Polled, Totals, Inv, listsOut}
 
 -- ---- what a message makes of the tally
@@ -35,104 +35,57 @@ counted-follows m t p = record {
     wanted-ended = λ e l.
         ⊎-elim (λ x. omega (arith, p .wanted-open x .1)) (λ x. omega (arith, p .wanted-ended x l)) (decided (t .polling));
   };
-  replied = λ i r. record {
-    one-more = r .one-more;
-    no-work = r .no-work;
-    no-send = r .no-send;
-    held-later = r .held-later;
-    polls-later = r .polls-later;
-    ended-later = λ e. omega (arith, r .count-low);
-    count-low = omega (arith, r .count-low);
-  };
+  replied = λ i r. search (arith, r .count-low);
 }
 
 -- a mark changes neither count nor poll
 marked-follows : (m : Mem) (t : Tally) (p i : ℕ) → Polled m t → Follows m t (markedT p i t)
 unfolding markedT
-marked-follows m t p i q = record {
-  later = omega arith;
-  polled = record { rises = q .rises; wanted-open = q .wanted-open; wanted-ended = q .wanted-ended };
-  replied = λ k r. record {
-    one-more = r .one-more;
-    no-work = r .no-work;
-    no-send = r .no-send;
-    held-later = r .held-later;
-    polls-later = r .polls-later;
-    ended-later = r .ended-later;
-    count-low = r .count-low;
-  };
-}
+marked-follows m t p i q = record { later = omega arith; polled = search; replied = λ k r. search }
 
 -- ---- one message more is read
+
+module _ (i : ℕ) (m : Mem) where
+  -- the message is read
+  pub more-read : outReadM i m WORKERS i OUTREAD ≡ m WORKERS i OUTREAD + 1
+  unfolding outReadM
+  more-read = store-same m WORKERS i OUTREAD (m WORKERS i OUTREAD + 1)
+
+  -- nothing else of the workers' rows changes
+  pub others : (k c : ℕ) → (k ≡ i → c ≡ OUTREAD → ⊥) → outReadM i m WORKERS k c ≡ m WORKERS k c
+  unfolding outReadM
+  others k c n = store-other m WORKERS i OUTREAD (m WORKERS i OUTREAD + 1) WORKERS k c (λ p. n)
 
 module _ (sys : System) (m : Mem) (t t′ : Tally) (i : ℕ) (inv : Inv sys (record { mem = m; tally = t }))
     (h : i < sys .workers) (unread : m WORKERS i OUTREAD < m WORKERS i OUTEND) (next : Follows m t t′)
     (count : t′ .lists .0 ≡ t .lists .0 + one (leb LISTMARK (m OUT i (m WORKERS i OUTREAD))))
     (marks : t′ .marks < 2 ^ sys .workers) where
-  more-read : outReadM i m WORKERS i OUTREAD ≡ m WORKERS i OUTREAD + 1
-  unfolding outReadM
-  more-read = store-same m WORKERS i OUTREAD (m WORKERS i OUTREAD + 1)
-
-  other-rows : (k c : ℕ) → (k ≡ i → ⊥) → outReadM i m WORKERS k c ≡ m WORKERS k c
-  unfolding outReadM
-  other-rows k c n = store-other m WORKERS i OUTREAD (m WORKERS i OUTREAD + 1) WORKERS k c (λ p q x. n q)
-
+  -- of the rows, only the sender's is changed
   only-row : OnlyRow m (outReadM i m) i
   unfolding outReadM
-  only-row = record {
-    others = λ k n. record {
-      workers = λ c. other-rows k c n;
-      bounds = λ c. refl;
-      log = λ c. refl;
-      work = λ c. refl;
-      out = λ c. refl;
-    };
-    wanted = λ n. refl;
-    heads = λ x y. refl;
-    listed = λ x v e. e;
-  }
+  only-row = only-store WORKERS OUTREAD _ (omega arith) (only-same m i)
 
   row : Row sys (outReadM i m) t′ i
   unfolding outReadM
-  row =
-      let r = inv .rows i h in
-      record {
-        queue = r .queue;
-        first-bound = r .first-bound;
-        bounds-rise = r .bounds-rise;
-        last-bound = r .last-bound;
-        out-read = omega (arith, more-read);
-        out-list = r .out-list;
-        polls-read = omega (arith, r .polls-read, next .later);
-        held-read = r .held-read;
-        log-labels = r .log-labels;
-        work-labels = r .work-labels;
-      }
+  row = let r = inv .rows i h in search (arith, more-read i m, next .later)
 
   totals : Totals sys (outReadM i m) t′
   unfolding outReadM
-  totals =
-      let u = inv .totals in
-      record {
-        own-cursor = u .own-cursor;
-        cursor = u .cursor;
-        pushed = u .pushed;
-        counted = u .counted;
-        logged = u .logged;
-        all-out = u .all-out;
-        heard =
-            omega (
-              arith,
-              count,
-              u .heard,
-              lists-out-more m (outReadM i m) i (m WORKERS i OUTREAD) (outReadM i m WORKERS i OUTREAD) more-read (λ e l. refl),
-              sum-change (sys .workers) (λ k. listsOut m k (m WORKERS k OUTREAD))
-                  (λ k. listsOut (outReadM i m) k (outReadM i m WORKERS k OUTREAD)) i h (λ k p n.
-                  sym
-                  (lists-out-kept m (outReadM i m) k (m WORKERS k OUTREAD) (outReadM i m WORKERS k OUTREAD)
-                  (other-rows k OUTREAD n) (λ e l. refl))),
-            );
-      }
+  totals = let u = inv .totals in search heard
+    where
+      heard : t′ .lists .0 ≡ sumBelow (sys .workers) (λ k. listsOut (outReadM i m) k (outReadM i m WORKERS k OUTREAD))
+      heard =
+          omega (
+            arith,
+            count,
+            inv .totals .heard,
+            lists-out-more m (outReadM i m) i (m WORKERS i OUTREAD) (outReadM i m WORKERS i OUTREAD) (more-read i m) (λ e l. refl),
+            sum-change (sys .workers) (λ k. listsOut m k (m WORKERS k OUTREAD))
+                (λ k. listsOut (outReadM i m) k (outReadM i m WORKERS k OUTREAD)) i h (λ k p n.
+                sym
+                (lists-out-kept m (outReadM i m) k (m WORKERS k OUTREAD) (outReadM i m WORKERS k OUTREAD)
+                (others i m k OUTREAD (λ p q. n p)) (λ e l. refl))),
+          )
 
   answered : Answered (outReadM i m) t′ i
   unfolding outReadM
@@ -140,10 +93,7 @@ module _ (sys : System) (m : Mem) (t t′ : Tally) (i : ℕ) (inv : Inv sys (rec
       ⊎-elim inl
       (λ r.
       inr
-      (replied-kept m (outReadM i m) t′ i
-      (λ c n.
-      store-other m WORKERS i OUTREAD (m WORKERS i OUTREAD + 1) WORKERS i c (λ p x e. n e))
-      (λ n. refl) (λ n. refl) (next .replied i r)))
+      (replied-kept m (outReadM i m) t′ i (λ c n. others i m i c (λ p. n)) (λ n. refl) (λ n. refl) (next .replied i r)))
       (inv .replied i h)
 
   told-keeps : Inv sys (record { mem = outReadM i m; tally = t′ })

@@ -6,7 +6,7 @@ use mathlib.Core.Option.{none, some}
 use mathlib.Core.Path.{_≡_, refl, sym, _∙_, ap}
 use native.Mathlib.Numerals.{add-one}
 use native.Mathlib.Omega.{arith}
-use borrow.Author.Tests.{lt-ltb, ltb-true, ltb-false}
+use borrow.Author.Tests.{lt-ltb, le-ltb}
 use lib.Dec.{leb, ltb, eqb}
 use Rattle.base.proofs.Below.{all-ext}
 use Rattle.base.proofs.Bools.{and-true}
@@ -17,18 +17,19 @@ use Rattle.disac4.specs.Action.{afterCount, afterMark, afterDrop, allMarked, cu
 use Rattle.disac4.specs.State.{State, Controller, list, reply}
 use Rattle.disac4.specs.System.{System}
 use Rattle.disac4.specs.declared.Tally.{Tally}
-use Rattle.cells.proofs.Queue.{queue-taken, queue-none}
+use Rattle.cells.proofs.Queue.{read-queue}
 use Rattle.cells.specs.Layout.{WORKERS, OUT, LISTS, OUTEND, OUTREAD}
 use Rattle.cells.specs.Memory.{Mem}
 use Rattle.controller.specs.Controller.{countedT, markedT, toldT, withMark, hasOut, outReadM, Machine, hearM}
-use Rattle.cells.specs.View.{LISTMARK, isWorker, listAt, messageOf, viewLists, viewOut, view}
-use Rattle.refinement.proofs.Actors.{atActor, at-worker, actors-update}
+use Rattle.cells.specs.View.{LISTMARK, listAt, messageOf, viewLists, view, listed, outQueue, atActor, rowsOf}
+use Rattle.refinement.proofs.Actors.{at-worker, actors-update}
 use Rattle.refinement.proofs.Capacity.{heard-few, outend-few}
 use Rattle.refinement.proofs.ChannelRows.{at-out, Stays, Beside, channels-update}
-use Rattle.refinement.proofs.Grown.{Grown, outQueue, out-kept, channels-kept}
+use Rattle.refinement.proofs.ChannelsKept.{Grown, out-kept, channels-kept}
+use Rattle.refinement.proofs.ControllerReadKeeps.{more-read, others}
 use Rattle.refinement.specs.Inv.{Small, Inv}
-use Rattle.refinement.proofs.Marks.{mark-small, mark-bit, marks-full}
-use Rattle.refinement.proofs.Seen.{mapO, viewOf, view-parts, rowsOf, channel-rows, same-state}
+use Rattle.controller.proofs.Marks.{mark-small, mark-bit, marks-full}
+use Rattle.refinement.proofs.ViewParts.{mapO, viewOf, view-parts, same-state}
 
 module _ (sys : System) (small : Small sys) (s : Machine) (inv : Inv sys s) (i : ℕ) (h : i < sys .workers) where
   abbrev m : Mem
@@ -42,24 +43,15 @@ module _ (sys : System) (small : Small sys) (s : Machine) (inv : Inv sys s) (i :
 
   heard-grown : Grown sys m t m′
   unfolding outReadM
-  heard-grown = record {
-    logs = λ j hj d l. refl;
-    bounds = λ j hj n l. refl;
-    outs = λ j hj n l. refl;
-    wanted = λ n l. refl;
-  }
+  heard-grown = search
 
   -- the channel from worker `i + 1` loses its oldest message, whatever the tally makes of that
   other-channels : (t′ : Tally) → t′ .timestamp .0 ≡ t .timestamp .0 → Stays sys (Beside (suc i) 0) (rowsOf m t) (rowsOf m′ t′)
   unfolding outReadM
-  other-channels t′ e = channels-kept sys small s inv m′ heard-grown t′ (Beside (suc i) 0) (record {
-    cursors = λ j k hj hk n. refl;
-    sends = λ j k hj hk n. refl;
-    out-read = λ j hj n. update-other (λ j. m WORKERS j OUTREAD) i (m WORKERS i OUTREAD + 1) j (λ e. n (ap suc e) refl);
-    out-end = λ j hj n. refl;
-    polls = λ k hk n. refl;
-    timestamp = λ k hk n. e;
-  })
+  other-channels t′ e =
+      let read : (j : ℕ) → j < sys .workers → Beside (suc i) 0 (suc j) 0 → m′ WORKERS j OUTREAD ≡ m WORKERS j OUTREAD =
+      λ j hj n. others i m j OUTREAD (λ e q. n (ap suc e) refl) in
+      channels-kept sys small s inv m′ heard-grown t′ (Beside (suc i) 0) (search)
 
   -- what the controller makes of the message: its count and the rest of its part
   record Told (t′ : Tally) (lists : ℕ → ℕ) (c : Controller) : Type 0 where
@@ -75,7 +67,7 @@ module _ (sys : System) (small : Small sys) (s : Machine) (inv : Inv sys s) (i :
     toSend = viewOf sys s .toSend;
     held = viewOf sys s .held;
     listCounter = lists;
-    channel = update₂ (viewOf sys s .channel) (suc i) 0 (viewOut m′ i);
+    channel = update₂ (viewOf sys s .channel) (suc i) 0 (listed (outQueue m′ i));
     controller = c;
   }
 
@@ -88,13 +80,13 @@ module _ (sys : System) (small : Small sys) (s : Machine) (inv : Inv sys s) (i :
     toSend = λ k. refl;
     held = λ k. refl;
     listCounter = told .listCounter;
-    channel = channels-update sys (rowsOf m t) (rowsOf m′ t′) (suc i) 0 (viewOut m′ i)
+    channel = channels-update sys (rowsOf m t) (rowsOf m′ t′) (suc i) 0 (listed (outQueue m′ i))
         (at-out sys (rowsOf m′ t′) i h) (other-channels t′ (told .timestamp));
     controller = told .controller;
   })
 
   -- a list message
-  counted-view : view sys m′ (countedT t) ≡ afterCount (suc i) (viewOut m′ i) (view sys m t)
+  counted-view : view sys m′ (countedT t) ≡ afterCount (suc i) (listed (outQueue m′ i)) (view sys m t)
   unfolding view viewLists countedT afterCount
   counted-view =
       heard-view (countedT t) _ _ (record {
@@ -109,7 +101,7 @@ module _ (sys : System) (small : Small sys) (s : Machine) (inv : Inv sys s) (i :
       one-more false n = refl
 
   -- a reply to another poll
-  dropped-view : view sys m′ t ≡ afterDrop (suc i) 0 (viewOut m′ i) (view sys m t)
+  dropped-view : view sys m′ t ≡ afterDrop (suc i) 0 (listed (outQueue m′ i)) (view sys m t)
   unfolding view afterDrop
   dropped-view =
       heard-view t _ _ (record {
@@ -120,36 +112,23 @@ module _ (sys : System) (small : Small sys) (s : Machine) (inv : Inv sys s) (i :
 
   -- the workers marked by a row of bits
   abbrev marks : ℕ → ℕ → Bool
-  marks r k = isWorker sys k && bit r (k - 1)
-
-  marks-actor : (r k : ℕ) → marks r k ≡ atActor sys (bit r) false k
-  marks-actor r k = go (isWorker sys k) (bit r (k - 1))
-    where
-      go : (a b : Bool) → a && b ≡ cond a b false
-      go true b = refl
-      go false b = refl
+  marks r = atActor sys (bit r) false
 
   marked-more : (k : ℕ) → marks (withMark (t .marks) i) k ≡ update (marks (t .marks)) (suc i) true k
-  marked-more k =
-      marks-actor (withMark (t .marks) i) k
-      ∙ actors-update sys (bit (t .marks)) (bit (withMark (t .marks) i)) false i true h
+  marked-more =
+      actors-update sys (bit (t .marks)) (bit (withMark (t .marks) i)) false i true h
       (mark-bit (sys .workers) (t .marks) (inv .marks) i h i h ∙ update-same (bit (t .marks)) i true)
-      (λ j l n. mark-bit (sys .workers) (t .marks) (inv .marks) i h j l ∙ update-other (bit (t .marks)) i true j n) k
-      ∙ ap (λ (b : Bool). cond (eqb k (suc i)) true b) (sym (marks-actor (t .marks) k))
+      (λ j l n. mark-bit (sys .workers) (t .marks) (inv .marks) i h j l ∙ update-other (bit (t .marks)) i true j n)
 
   closed-full : eqb (withMark (t .marks) i + 1) (2 ^ sys .workers) ≡ allMarked sys (update (marks (t .marks)) (suc i) true)
   unfolding allMarked
   closed-full =
       marks-full (sys .workers) (withMark (t .marks) i) (mark-small (sys .workers) (t .marks) (inv .marks) i h)
       ∙ all-ext (sys .workers) (bit (withMark (t .marks) i)) (λ j. update (marks (t .marks)) (suc i) true (suc j))
-      (λ j l.
-      sym
-      (at-worker sys (bit (withMark (t .marks) i)) false j l)
-      ∙ sym (marks-actor (withMark (t .marks) i) (suc j))
-      ∙ marked-more (suc j))
+      (λ j l. sym (at-worker sys (bit (withMark (t .marks) i)) false j l) ∙ marked-more (suc j))
 
   -- a reply to the open poll
-  marked-view : view sys m′ (markedT (sys .workers) i t) ≡ afterMark sys (suc i) (viewOut m′ i) (view sys m t)
+  marked-view : view sys m′ (markedT (sys .workers) i t) ≡ afterMark sys (suc i) (listed (outQueue m′ i)) (view sys m t)
   unfolding view viewLists markedT afterMark
   marked-view =
       heard-view (markedT (sys .workers) i t) _ _ (record {
@@ -170,14 +149,14 @@ module _ (sys : System) (small : Small sys) (s : Machine) (inv : Inv sys s) (i :
   -- the tally that it leaves
   told-view : (c : ℕ)
       → some (view sys m′ (toldT (sys .workers) i c t))
-      ≡ controllerFrom sys (suc i) (viewOf sys s) (messageOf m i c ∷ viewOut m′ i)
+      ≡ controllerFrom sys (suc i) (viewOf sys s) (messageOf m i c ∷ listed (outQueue m′ i))
   unfolding toldT messageOf
   told-view c = go (leb LISTMARK c) (t .polling) (eqb c (t .timestamp .0)) (unfold view current in refl)
     where
       go : (a b d : Bool) → current (record { 0 = c }) (viewOf sys s) ≡ b && d
           → some (view sys m′ (cond a (countedT t) (cond b (cond d (markedT (sys .workers) i t) t) t)))
           ≡ controllerFrom sys (suc i) (viewOf sys s)
-          (cond a (list (listAt m i (c - LISTMARK))) (reply (record { 0 = c })) ∷ viewOut m′ i)
+          (cond a (list (listAt m i (c - LISTMARK))) (reply (record { 0 = c })) ∷ listed (outQueue m′ i))
       go true b d e = ap some counted-view
       go false true true e = ap some (marked-view ∙ sym (cond-true _ _ e))
       go false true false e = ap some (dropped-view ∙ sym (cond-false _ _ e))
@@ -202,26 +181,13 @@ module _ (sys : System) (small : Small sys) (s : Machine) (inv : Inv sys s) (i :
 
   -- the controller's read in memory is its read
   pub hear-refines : mapO (viewOf sys) (hearM sys i s) ≡ readController sys (suc i) (viewOf sys s)
-  unfolding hearM readController viewOut outReadM
+  unfolding view hearM readController outReadM
   hear-refines =
       ap (λ (b : Bool). mapO (viewOf sys) (cond b (some heard) none)) hear-room
-      ∙ go (ltb (m WORKERS i OUTREAD) (m WORKERS i OUTEND)) refl
-    where
-      channel : viewOf sys s .channel (suc i) 0 ≡ viewOut m i
-      channel = channel-rows sys s (suc i) 0 ∙ at-out sys (rowsOf m t) i h
-
-      go : (b : Bool) → ltb (m WORKERS i OUTREAD) (m WORKERS i OUTEND) ≡ b
-          → mapO (viewOf sys) (cond b (some heard) none)
-          ≡ controllerFrom sys (suc i) (viewOf sys s) (viewOf sys s .channel (suc i) 0)
-      go true p =
-          told-view oldest
-          ∙ sym
-          (ap (controllerFrom sys (suc i) (viewOf sys s))
-          (channel
-          ∙ queue-taken (outQueue m i) (outQueue m′ i) (out-kept sys small s inv m′ heard-grown i h)
-          (ltb-true (m WORKERS i OUTREAD) (m WORKERS i OUTEND) p)
-          (update-same (λ j. m WORKERS j OUTREAD) i (m WORKERS i OUTREAD + 1)) refl))
-      go false p =
-          sym
-          (ap (controllerFrom sys (suc i) (viewOf sys s))
-          (channel ∙ queue-none (outQueue m i) (ltb-false (m WORKERS i OUTREAD) (m WORKERS i OUTEND) p)))
+      ∙ read-queue (controllerFrom sys (suc i) (viewOf sys s)) (outQueue m i) (outQueue m′ i) _
+      (out-kept sys small s inv m′ heard-grown i h) (more-read i m) refl
+      (λ l.
+      ap (mapO (viewOf sys)) (cond-true (some heard) none (lt-ltb (m WORKERS i OUTREAD) (m WORKERS i OUTEND) l))
+      ∙ told-view oldest)
+      (λ l. ap (mapO (viewOf sys)) (cond-false (some heard) none (le-ltb (m WORKERS i OUTREAD) (m WORKERS i OUTEND) l)))
+      ∙ ap (controllerFrom sys (suc i) (viewOf sys s)) (sym (at-out sys (rowsOf m t) i h))

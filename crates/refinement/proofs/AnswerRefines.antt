@@ -1,5 +1,5 @@
 -- Answer in memory is answer.
-use Prim.Native.Nat.{ℕ, suc, _+_, _<_}
+use Prim.Native.Nat.{ℕ, suc, _<_}
 use mathlib.Core.Bool.{Bool, true, false, cond, _&&_}
 use mathlib.Core.List.{List, [], _∷_, _++_}
 use mathlib.Core.Option.{none, some}
@@ -7,26 +7,24 @@ use mathlib.Core.Path.{_≡_, refl, sym, _∙_, ap, ap₂}
 use native.Mathlib.Omega.{arith}
 use borrow.Author.Tests.{lt-ltb}
 use lib.Dec.{eqb}
-use Rattle.base.proofs.Choice.{update-same, update-other, update₂-same}
 use Rattle.disac4.specs.Action.{isEmpty, pollOf, afterAnswer, ready, answerTo, answer}
 use Rattle.disac4.specs.State.{Poll, Message, reply}
 use Rattle.disac4.specs.System.{System}
 use Rattle.disac4.specs.declared.Tally.{Tally}
-use Rattle.cells.proofs.Queue.{labels-empty, queue, queue-put}
-use Rattle.cells.proofs.Stores.{store-other}
-use Rattle.cells.specs.Layout.{WORKERS, BOUNDS, WORK, OUT, WANTED, HEAD, TAIL, LOGEND, SENDS, LISTS, HELD, OUTEND}
+use Rattle.cells.proofs.Queue.{labels-empty, queue-put}
+use Rattle.cells.specs.Layout.{WORKERS, BOUNDS, WORK, WANTED, HEAD, TAIL, LOGEND, SENDS, LISTS, HELD, OUTEND}
 use Rattle.cells.specs.Memory.{Mem}
 use Rattle.answers.specs.Answers.{answeredM, emptyM, answerM}
 use Rattle.controller.specs.Controller.{Machine}
-use Rattle.cells.specs.View.{messageOf, pollAt, viewWork, viewLists, viewOut, view}
-use Rattle.refinement.proofs.Actors.{at-worker, counter-worker}
+use Rattle.cells.specs.View.{messageOf, pollAt, view, listed, workOf, heldOf, outQueue, atActor, rowsOf}
+use Rattle.refinement.proofs.AnswerKeeps.{other-rows, none-held, put}
+use Rattle.refinement.proofs.Actors.{at-worker, counter-worker, actors-update}
 use Rattle.refinement.proofs.Capacity.{sends-few, outend-few, held-few, timestamp-few}
 use Rattle.refinement.proofs.ChannelRows.{at-out, Stays, Beside, channels-update}
-use Rattle.refinement.proofs.Grown.{Grown, outQueue, out-kept, channels-kept}
-use Rattle.refinement.proofs.HeldPoll.{heldAt, held-worker, held-update, held-row}
+use Rattle.refinement.proofs.ChannelsKept.{Grown, out-kept, channels-kept, held-row}
 use Rattle.refinement.specs.Inv.{Small, Inv}
-use Rattle.refinement.proofs.Seen.{mapO, mapO-cond, viewOf, view-parts, rowsOf, reply-code, same-state, workOf}
-use Rattle.refinement.proofs.Sent.{nothing-to-send}
+use Rattle.refinement.proofs.ViewParts.{mapO, mapO-cond, viewOf, view-parts, reply-code, same-state}
+use Rattle.refinement.proofs.SendRefines.{nothing-to-send}
 
 -- the tests of both lists and of the count are one test
 nested : {A : Type 0} (a b c : Bool) (x y : A) → cond (a && true && b) (cond c x y) y ≡ cond (a && b && c) x y
@@ -55,30 +53,25 @@ module _ (sys : System) (small : Small sys) (s : Machine) (inv : Inv sys s) (i :
   answer-grown = record {
     logs = λ j hj d l. refl;
     bounds = λ j hj n l. refl;
-    outs = λ j hj n l. store-other m OUT i (m WORKERS i OUTEND) (m WORKERS i HELD) OUT j n
-        (λ r e f. omega (arith, ap (λ (k : ℕ). m WORKERS k OUTEND) e));
+    outs = λ j hj n l. put i m .old j n (λ e f. omega (arith, ap (λ (k : ℕ). m WORKERS k OUTEND) e));
     wanted = λ n l. refl;
   }
 
   other-channels : Stays sys (Beside (suc i) 0) (rowsOf m t) (rowsOf m′ t)
   unfolding answeredM
-  other-channels = channels-kept sys small s inv m′ answer-grown t (Beside (suc i) 0) (record {
-    cursors = λ j k hj hk n. refl;
-    sends = λ j k hj hk n. refl;
-    out-read = λ j hj n. refl;
-    out-end = λ j hj n. update-other (λ j. m WORKERS j OUTEND) i (m WORKERS i OUTEND + 1) j (λ e. n (ap suc e) refl);
-    polls = λ k hk n. refl;
-    timestamp = λ k hk n. refl;
-  })
+  other-channels =
+      let ends : (j : ℕ) → j < sys .workers → Beside (suc i) 0 (suc j) 0 → m′ WORKERS j OUTEND ≡ m WORKERS j OUTEND =
+      λ j hj n. other-rows i m j OUTEND (λ e. n (ap suc e) refl) in
+      channels-kept sys small s inv m′ answer-grown t (Beside (suc i) 0) (search)
 
   -- the reply is the newest message to the controller
-  replied : viewOut m′ i ≡ viewOut m i ++ (reply (held .number) ∷ [])
-  unfolding answeredM held pollAt pollOf viewOut
+  replied : listed (outQueue m′ i) ≡ listed (outQueue m i) ++ (reply (held .number) ∷ [])
+  unfolding answeredM held pollAt pollOf
   replied =
       queue-put (outQueue m i) (outQueue m′ i) (out-kept sys small s inv m′ answer-grown i h) (inv .rows i h .out-read) refl
-      (update-same (λ j. m WORKERS j OUTEND) i (m WORKERS i OUTEND + 1))
-      ∙ ap (λ (a : Message). viewOut m i ++ (a ∷ []))
-      (ap (messageOf m′ i) (update₂-same (λ n j. m OUT j n) (m WORKERS i OUTEND) i (m WORKERS i HELD))
+      (put i m .more)
+      ∙ ap (λ (a : Message). listed (outQueue m i) ++ (a ∷ []))
+      (ap (messageOf m′ i) (put i m .new)
       ∙ reply-code m′ i (m WORKERS i HELD) (omega (arith, held-small)))
 
   answer-view : view sys m′ t ≡ afterAnswer (suc i) held (view sys m t)
@@ -88,7 +81,7 @@ module _ (sys : System) (small : Small sys) (s : Machine) (inv : Inv sys s) (i :
     counter = λ x v y. refl;
     workList = λ k. refl;
     toSend = λ k. refl;
-    held = held-update sys m m′ i none h here there;
+    held = actors-update sys (heldOf m) (heldOf m′) none i none h here there;
     listCounter = λ k. refl;
     channel = channels-update sys (rowsOf m t) (rowsOf m′ t) (suc i) 0 _
         (at-out sys (rowsOf m′ t) i h
@@ -98,12 +91,11 @@ module _ (sys : System) (small : Small sys) (s : Machine) (inv : Inv sys s) (i :
     controller = refl;
   })
     where
-      here : heldAt m′ i ≡ none
-      here =
-          ap (λ (n : ℕ). cond (eqb n 0) none (some (pollAt m n))) (update-same (λ j. m WORKERS j HELD) i 0)
+      here : heldOf m′ i ≡ none
+      here = ap (λ (n : ℕ). cond (eqb n 0) none (some (pollAt m n))) (none-held i m)
 
-      there : (j : ℕ) → j < sys .workers → (j ≡ i → ⊥) → heldAt m′ j ≡ heldAt m j
-      there j hj n = held-row m m′ j (update-other (λ j. m WORKERS j HELD) i 0 j n) refl
+      there : (j : ℕ) → j < sys .workers → (j ≡ i → ⊥) → heldOf m′ j ≡ heldOf m j
+      there j hj n = held-row m m′ j (other-rows i m j HELD n) refl
 
   -- both lists are empty, and the list counter equals the wanted count
   abbrev isReady : Bool
@@ -117,16 +109,12 @@ module _ (sys : System) (small : Small sys) (s : Machine) (inv : Inv sys s) (i :
   ready-row =
       ap₂ (λ (a b : Bool). a && b)
       (ap₂ (λ (a b : Bool). a && b) no-work (nothing-to-send sys small s inv i h))
-      (ap (λ (n : ℕ). eqb n (m WANTED 0 (m WORKERS i HELD))) count)
+      (ap (λ (n : ℕ). eqb n (m WANTED 0 (m WORKERS i HELD))) (counter-worker sys m t i h))
     where
-      no-work : isEmpty (viewWork sys m (suc i)) ≡ eqb (m WORKERS i HEAD) (m WORKERS i TAIL)
+      no-work : isEmpty (atActor sys (workOf m) [] (suc i)) ≡ eqb (m WORKERS i HEAD) (m WORKERS i TAIL)
       no-work =
-          unfold viewWork in
           ap isEmpty (at-worker sys (workOf m) [] i h)
           ∙ labels-empty m WORK i (m WORKERS i HEAD) (m WORKERS i TAIL) (inv .rows i h .queue)
-
-      count : viewLists sys m t (suc i) ≡ m WORKERS i LISTS
-      count = unfold viewLists in counter-worker sys (λ j. m WORKERS j LISTS) (t .lists .0) i h
 
   -- there is room for every reply
   answer-room : answerM i m ≡ cond (eqb (m WORKERS i HELD) 0) none (cond isReady (some m′) none)
@@ -150,7 +138,7 @@ module _ (sys : System) (small : Small sys) (s : Machine) (inv : Inv sys s) (i :
       ∙ ap (answerTo (suc i) (viewOf sys s)) (sym holds)
     where
       holds : viewOf sys s .held (suc i) ≡ cond (eqb (m WORKERS i HELD) 0) none (some held)
-      holds = unfold view held in held-worker sys m i h
+      holds = unfold view held in at-worker sys (heldOf m) none i h
 
       go : (b : Bool)
           → mapO (λ m′. view sys m′ t) (cond b none (cond isReady (some m′) none))

@@ -2,7 +2,7 @@
 use Prim.Native.Nat.{ℕ, _+_, _^_, _<_, _≤_}
 use mathlib.Core.Bool.{true}
 use mathlib.Core.Logic.{_⊎_, inl, inr, ⊎-elim}
-use mathlib.Core.Path.{_≡_, refl, sym, _∙_, ap, ap₂, fun-ext}
+use mathlib.Core.Path.{_≡_, refl, sym, _∙_, ap, ap₂, subst, fun-ext}
 use native.Mathlib.Numerals.{add-one}
 use native.Mathlib.Omega.{arith}
 use lib.Dec.{leb, eqb}
@@ -11,8 +11,9 @@ use Rattle.base.proofs.Sums.{sum-ext, count-ext}
 use Rattle.base.specs.Below.{sumBelow, one}
 use Rattle.disac4.specs.System.{System}
 use Rattle.disac4.specs.declared.Tally.{Tally}
+use Rattle.cells.proofs.Stores.{store-other, store-apart}
 use Rattle.cells.specs.Layout.{WORKERS, CURSORS, BOUNDS, LOG, WORK, OUT, WANTED, DOMAIN, HEADS, HEAD, TAIL, LOGEND, SENDS, LISTS, HELD, POLLS, OUTEND, OUTREAD}
-use Rattle.cells.specs.Memory.{Mem}
+use Rattle.cells.specs.Memory.{Mem, store}
 use Rattle.controller.specs.Controller.{Machine}
 use Rattle.cells.specs.View.{LISTED, LISTMARK}
 use Rattle.refinement.specs.Inv.{LabelNumber, Row, Polled, Replied, Inv, Totals, listsOut}
@@ -203,6 +204,34 @@ pub record OnlyRow (m m′ : Mem) (i : ℕ) : Type 0 where
   pub wanted : SameWanted m m′
   pub heads : SameHeads m m′
   pub listed : (x v : ℕ) → eqb (m′ DOMAIN x v) LISTED ≡ true → eqb (m DOMAIN x v) LISTED ≡ true
+
+module _ {m m′ : Mem} {i : ℕ} where
+  -- a store into row `i` of a region with a row for each worker keeps that
+  pub only-store : (r c v : ℕ) → r < WANTED → OnlyRow m m′ i → OnlyRow m (store m′ r i c v) i
+  only-store r c v low only = record {
+    others = λ k n.
+        let o = only .others k n in
+        record {
+          workers = λ d. beside WORKERS k d n ∙ o .workers d;
+          bounds = λ d. beside BOUNDS k d n ∙ o .bounds d;
+          log = λ d. beside LOG k d n ∙ o .log d;
+          work = λ d. beside WORK k d n ∙ o .work d;
+          out = λ d. beside OUT k d n ∙ o .out d;
+        };
+    wanted = λ n. above WANTED 0 n (omega arith) ∙ only .wanted n;
+    heads = λ x y. above HEADS x y (omega arith) ∙ only .heads x y;
+    listed = λ x v e. only .listed x v (subst (λ (c : ℕ). eqb c LISTED ≡ true) (above DOMAIN x v (omega arith)) e);
+  }
+    where
+      beside : (s k d : ℕ) → (k ≡ i → ⊥) → store m′ r i c v s k d ≡ m′ s k d
+      beside s k d n = store-other m′ r i c v s k d (λ e f g. n f)
+
+      above : (s k d : ℕ) → WANTED ≤ s → store m′ r i c v s k d ≡ m′ s k d
+      above s k d h = store-apart m′ r i c v s k d (λ e. omega arith)
+
+-- where nothing is stored it holds
+pub only-same : (m : Mem) (i : ℕ) → OnlyRow m m i
+only-same m i = search
 
 -- a row has put as many messages for the controller as its count says, or one more where it has replied
 abbrev pub Answered : Mem → Tally → ℕ → Type 0

@@ -15,7 +15,7 @@ use Rattle.cells.specs.Lists.{pushM, deleteM, copyM}
 use Rattle.cells.specs.Memory.{Mem, store}
 use Rattle.cells.specs.View.{labelNumber, labelOf, labelsBetween}
 use Rattle.refinement.specs.Inv.{LabelNumber}
-use Rattle.refinement.proofs.Frames.{deleteIf}
+use Rattle.refinement.proofs.DeleteApart.{deleteIf}
 
 -- the code of a loaded label
 pub loaded-code : (sys : System) (x v : ℕ) → v < 16 → x < sys .net .variables → v < sys .net .size x

@@ -1,32 +1,31 @@
 -- Reading a list message in memory is reading from a worker.
-use Prim.Native.Nat.{ℕ, suc, _+_, _<_}
-use mathlib.Core.Bool.{Bool, true, false, cond, _&&_}
+use Prim.Native.Nat.{ℕ, suc, _+_, _<_, _≤_}
+use mathlib.Core.Bool.{cond, _&&_}
 use mathlib.Core.List.{List, [], _++_}
 use mathlib.Core.Option.{none, some}
 use mathlib.Core.Path.{_≡_, refl, sym, _∙_, ap}
 use native.Mathlib.Omega.{arith}
-use borrow.Author.Tests.{ltb-true, ltb-false, lt-ltb, le-leb}
-use lib.Dec.{ltb, eqb}
+use borrow.Author.Tests.{lt-ltb, le-ltb, le-leb}
+use lib.Dec.{eqb}
 use Rattle.base.proofs.Choice.{cond-false}
 use Rattle.disac4.specs.Action.{afterList, readFrom, readWorker}
 use Rattle.disac4.specs.System.{System}
 use Rattle.disac4.specs.declared.Tally.{Tally}
 use Rattle.network.specs.Network.{Label, loaded}
-use Rattle.cells.proofs.Queue.{labels-same, queue, queue-taken, queue-none}
+use Rattle.cells.proofs.Queue.{labels-same, read-queue}
 use Rattle.cells.specs.Layout.{WORKERS, CURSORS, BOUNDS, LOG, WORK, OUT, WANTED, DOMAIN, COUNTERS, HEADS, HEAD, TAIL, LOGEND, SENDS, LISTS, HELD, POLLS, OUTEND, OUTREAD}
 use Rattle.cells.specs.Memory.{Mem}
 use Rattle.reads.specs.Reads.{listEnd, takenM, readListM}
 use Rattle.controller.specs.Controller.{Machine}
-use Rattle.cells.specs.View.{LISTED, labelsBetween, listAt, counterRow, viewCounter, viewWork, viewSend, viewLists, viewListMessages, viewChannel, view}
+use Rattle.cells.specs.View.{LISTED, labelsBetween, listAt, counterRow, viewCounter, viewLists, view, listed, workOf, sendOf, heldOf, listMessagesQueue, rowsOf}
 use Rattle.index.proofs.Kept.{row-heads}
 use Rattle.refinement.proofs.Actors.{at-worker, actors-update, counters-more, actors-same}
 use Rattle.refinement.proofs.Capacity.{bound-logged, logend-small, sends-few, lists-few}
 use Rattle.refinement.proofs.ChannelRows.{at-list-messages, Stays, Beside, channels-update}
-use Rattle.refinement.proofs.Grown.{Grown, listMessagesQueue, list-messages-kept, channels-kept, send-kept}
+use Rattle.refinement.proofs.ChannelsKept.{Grown, list-messages-kept, channels-kept, send-kept, held-row}
 use Rattle.refinement.specs.Inv.{Small, Inv}
-use Rattle.refinement.proofs.HeldPoll.{held-same, held-row}
-use Rattle.refinement.proofs.Reading.{region, column, other-work, more-lists, new-cursor, old-cursor, taken-list}
-use Rattle.refinement.proofs.Seen.{mapO, viewOf, rowsOf, channel-rows, same-state, workOf, sendOf}
+use Rattle.refinement.proofs.ListReadKeeps.{region, column, other-work, more-lists, new-cursor, old-cursor, taken-list}
+use Rattle.refinement.proofs.ViewParts.{mapO, viewOf, same-state}
 
 module _ (sys : System) (small : Small sys) (s : Machine) (inv : Inv sys s) (j i : ℕ) (hj : j < sys .workers)
     (hi : i < sys .workers) (apart : j ≡ i → ⊥) where
@@ -80,8 +79,8 @@ module _ (sys : System) (small : Small sys) (s : Machine) (inv : Inv sys s) (j i
         labels-same m m′ WORK k (m WORKERS k HEAD) (m WORKERS k TAIL) (steady k HEAD (omega arith))
         (column j i m k TAIL (λ e x. n e) (omega arith)) (λ d p q. other-work j i m k d n)
 
-    taken-view : view sys m′ t ≡ afterList (suc j) (suc i) (listAt m j (m CURSORS j i)) (viewListMessages m′ j i) (view sys m t)
-    unfolding view viewWork viewSend viewLists viewChannel afterList
+    taken-view : view sys m′ t ≡ afterList (suc j) (suc i) (listAt m j (m CURSORS j i)) (listed (listMessagesQueue m′ j i)) (view sys m t)
+    unfolding view viewLists afterList
     taken-view = same-state _ _ (record {
       domain = λ x v. ap (λ (c : ℕ). eqb c LISTED) (region j i m DOMAIN (omega arith) x v);
       counter = counter-kept;
@@ -90,11 +89,11 @@ module _ (sys : System) (small : Small sys) (s : Machine) (inv : Inv sys s) (j i
           ∙ ap (λ (x : List Label). x ++ listAt m j (m CURSORS j i)) (sym (at-worker sys (workOf m) [] i hi))) work-there;
       toSend = actors-same sys (sendOf m) (sendOf m′) [] (λ k hk.
           send-kept sys small s inv m′ taken-grown k hk (steady k SENDS (omega arith)) (steady k LOGEND (omega arith)));
-      held = held-same sys m m′ (λ k hk.
+      held = actors-same sys (heldOf m) (heldOf m′) none (λ k hk.
           held-row m m′ k (steady k HELD (omega arith)) (region j i m WANTED (omega arith) 0 (m WORKERS k HELD)));
-      listCounter = counters-more sys (λ k. m WORKERS k LISTS) (λ k. m′ WORKERS k LISTS) (t .lists .0) i hi (more-lists j i m)
+      listCounter = counters-more sys m m′ t i hi (more-lists j i m)
           (λ k hk n. column j i m k LISTS (omega arith) (λ e x. n e));
-      channel = channels-update sys (rowsOf m t) (rowsOf m′ t) (suc j) (suc i) (viewListMessages m′ j i)
+      channel = channels-update sys (rowsOf m t) (rowsOf m′ t) (suc j) (suc i) (listed (listMessagesQueue m′ j i))
           (at-list-messages sys (rowsOf m′ t) j i hj hi apart) other-channels;
       controller = refl;
     })
@@ -117,29 +116,13 @@ module _ (sys : System) (small : Small sys) (s : Machine) (inv : Inv sys s) (j i
 
   -- reading a list message in memory is reading from a worker
   pub list-refines : mapO (λ m′. view sys m′ t) (readListM j i m) ≡ readWorker (suc j) (suc i) (viewOf sys s)
-  unfolding readWorker viewListMessages
-  list-refines = go (ltb (m CURSORS j i) (m WORKERS j SENDS)) refl
+  unfolding view readWorker
+  list-refines =
+      read-queue (readFrom (suc j) (suc i) (viewOf sys s)) (listMessagesQueue m j i) (listMessagesQueue m′ j i) _
+      (list-messages-kept sys small s inv m′ taken-grown j i hj) (new-cursor j i m) (steady j SENDS (omega arith))
+      (λ l. ap (mapO (λ m′. view sys m′ t)) (read-room l) ∙ ap some (taken-view l))
+      (λ l. ap (mapO (λ m′. view sys m′ t)) (idle l))
+      ∙ ap (readFrom (suc j) (suc i) (viewOf sys s)) (sym (at-list-messages sys (rowsOf m t) j i hj hi apart))
     where
-      channel : viewOf sys s .channel (suc j) (suc i) ≡ viewListMessages m j i
-      channel = channel-rows sys s (suc j) (suc i) ∙ at-list-messages sys (rowsOf m t) j i hj hi apart
-
-      idle : ltb (m CURSORS j i) (m WORKERS j SENDS) ≡ false → readListM j i m ≡ none
-      idle p = unfold readListM in cond-false _ none p
-
-      go : (b : Bool) → ltb (m CURSORS j i) (m WORKERS j SENDS) ≡ b
-          → mapO (λ m′. view sys m′ t) (readListM j i m)
-          ≡ readFrom (suc j) (suc i) (viewOf sys s) (viewOf sys s .channel (suc j) (suc i))
-      go true p =
-          let l : m CURSORS j i < m WORKERS j SENDS = ltb-true (m CURSORS j i) (m WORKERS j SENDS) p in
-          ap (mapO (λ m′. view sys m′ t)) (read-room l)
-          ∙ ap some (taken-view l)
-          ∙ sym
-          (ap (readFrom (suc j) (suc i) (viewOf sys s))
-          (channel
-          ∙ queue-taken (listMessagesQueue m j i) (listMessagesQueue m′ j i) (list-messages-kept sys small s inv m′ taken-grown j i hj) l
-          (new-cursor j i m) (steady j SENDS (omega arith))))
-      go false p =
-          ap (mapO (λ m′. view sys m′ t)) (idle p)
-          ∙ sym
-          (ap (readFrom (suc j) (suc i) (viewOf sys s))
-          (channel ∙ queue-none (listMessagesQueue m j i) (ltb-false (m CURSORS j i) (m WORKERS j SENDS) p)))
+      idle : m WORKERS j SENDS ≤ m CURSORS j i → readListM j i m ≡ none
+      idle l = unfold readListM in cond-false _ none (le-ltb (m CURSORS j i) (m WORKERS j SENDS) l)

@@ -22,8 +22,8 @@ use Rattle.cells.specs.View.{LISTED, labelsBetween, listAt}
 use Rattle.reads.specs.Reads.{listStart, listEnd, takenM, readListM}
 use Rattle.controller.specs.Controller.{Machine}
 use Rattle.refinement.proofs.Capacity.{list-room, bound-logged}
-use Rattle.refinement.proofs.Frame.{OnlyRow, Answered, row-grown, lists-out-kept, logged-kept, heard-kept, worker-action}
-use Rattle.refinement.proofs.Growing.{Longer, longer-copy}
+use Rattle.refinement.proofs.InvKept.{OnlyRow, Answered, row-grown, lists-out-kept, logged-kept, heard-kept, worker-action}
+use Rattle.refinement.proofs.LongerLists.{Longer, longer-copy}
 use Rattle.refinement.specs.Inv.{Row, Totals, Inv, Small}
 
 -- how many labels the next list message of row `j` for row `i` has
@@ -77,6 +77,7 @@ module _ (j i : ℕ) (m : Mem) where
   old-cursor l k n =
       store-other (copied j i m) CURSORS j i (m CURSORS j i + 1) CURSORS l k (λ p. n) ∙ uncopied CURSORS l k (omega arith)
 
+  -- of the rows, only the reader's is changed
   only-row : OnlyRow m (takenM j i m) i
   only-row = record {
     others = λ k n. record {

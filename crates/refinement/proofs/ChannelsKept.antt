@@ -1,5 +1,5 @@
--- What only grows: logs, bounds, messages to the controller and wanted counts keep what they hold, so a message once sent
--- stays the same, and a channel changes only at its ends.
+-- Logs, bounds, messages to the controller and wanted counts keep what they hold, so a message once sent stays the same,
+-- and a channel changes only at its ends.
 use Prim.Native.Nat.{ℕ, suc, _+_, _-_, _<_, _≤_}
 use mathlib.Core.Path.{_≡_, refl, _∙_, ap}
 use native.Mathlib.Nat.{le-refl}
@@ -7,18 +7,17 @@ use native.Mathlib.Omega.{arith}
 use borrow.Author.Tests.{leb-true}
 use lib.Dec.{leb}
 use Rattle.base.proofs.Choice.{cond-ext}
-use Rattle.disac4.specs.State.{Message, list, poll}
+use Rattle.disac4.specs.State.{list, poll}
 use Rattle.disac4.specs.System.{System}
 use Rattle.disac4.specs.declared.Tally.{Tally}
-use Rattle.cells.proofs.Queue.{labels-same, Queue, Kept, queue, queue-same}
-use Rattle.cells.specs.Layout.{WORKERS, CURSORS, BOUNDS, LOG, OUT, WANTED, LOGEND, SENDS, POLLS, OUTEND, OUTREAD}
+use Rattle.cells.proofs.Queue.{labels-same, Kept, queue-same}
+use Rattle.cells.specs.Layout.{WORKERS, CURSORS, BOUNDS, LOG, OUT, WANTED, LOGEND, SENDS, HELD, POLLS, OUTEND, OUTREAD}
 use Rattle.cells.specs.Memory.{Mem}
 use Rattle.controller.specs.Controller.{Machine}
-use Rattle.cells.specs.View.{LISTMARK, listAt, messageOf, pollAt, viewListMessages, viewPolls, viewOut}
+use Rattle.cells.specs.View.{LISTMARK, listAt, messageOf, pollAt, sendOf, heldOf, listMessagesQueue, outQueue, pollsQueue, rowsOf}
 use Rattle.refinement.proofs.Capacity.{bound-logged}
 use Rattle.refinement.proofs.ChannelRows.{Stays}
 use Rattle.refinement.specs.Inv.{Small, Inv}
-use Rattle.refinement.proofs.Seen.{rowsOf, sendOf}
 
 -- the memory after keeps what stands in the memory before
 pub record Grown (sys : System) (m : Mem) (t : Tally) (m′ : Mem) : Type 0 where
@@ -26,20 +25,6 @@ pub record Grown (sys : System) (m : Mem) (t : Tally) (m′ : Mem) : Type 0 wher
   pub bounds : (i : ℕ) → i < sys .workers → (n : ℕ) → n ≤ m WORKERS i SENDS → m′ BOUNDS i n ≡ m BOUNDS i n
   pub outs : (i : ℕ) → i < sys .workers → (e : ℕ) → e < m WORKERS i OUTEND → m′ OUT i e ≡ m OUT i e
   pub wanted : (n : ℕ) → n ≤ t .timestamp .0 → m′ WANTED 0 n ≡ m WANTED 0 n
-
--- ---- the three kinds of channels as queues
-
--- list messages of row `j` that row `i` has not read
-abbrev pub listMessagesQueue : Mem → ℕ → ℕ → Queue Message
-listMessagesQueue m j i = queue (m CURSORS j i) (m WORKERS j SENDS) (λ n. list (listAt m j n))
-
--- messages of row `i` that the controller has not read
-abbrev pub outQueue : Mem → ℕ → Queue Message
-outQueue m i = queue (m WORKERS i OUTREAD) (m WORKERS i OUTEND) (λ e. messageOf m i (m OUT i e))
-
--- polls that row `i` has not read
-abbrev pub pollsQueue : Mem → Tally → ℕ → Queue Message
-pollsQueue m t i = queue (m WORKERS i POLLS + 1) (t .timestamp .0 + 1) (λ n. poll (pollAt m n))
 
 -- where the channels of `N` begin and end stays
 pub record Ends (sys : System) (m : Mem) (t : Tally) (m′ : Mem) (t′ : Tally) (N : ℕ → ℕ → Type 0) : Type 0 where
@@ -56,6 +41,12 @@ pub record Ends (sys : System) (m : Mem) (t : Tally) (m′ : Mem) (t′ : Tally)
 pub poll-kept : (m m′ : Mem) (n : ℕ) → m′ WANTED 0 n ≡ m WANTED 0 n → pollAt m′ n ≡ pollAt m n
 unfolding pollAt
 poll-kept m m′ n e = rw e
+
+-- the poll that a row holds
+pub held-row : (m m′ : Mem) (i : ℕ) → m′ WORKERS i HELD ≡ m WORKERS i HELD
+    → m′ WANTED 0 (m WORKERS i HELD) ≡ m WANTED 0 (m WORKERS i HELD) → heldOf m′ i ≡ heldOf m i
+unfolding pollAt
+held-row m m′ i e w = rw (e, w)
 
 module _ (sys : System) (small : Small sys) (s : Machine) (inv : Inv sys s) (m′ : Mem)
     (grown : Grown sys (s .mem) (s .tally) m′) where
@@ -103,7 +94,6 @@ module _ (sys : System) (small : Small sys) (s : Machine) (inv : Inv sys s) (m�
   -- channels whose ends stay are the same
   pub channels-kept : (t′ : Tally) (N : ℕ → ℕ → Type 0) → Ends sys m (s .tally) m′ t′ N
       → Stays sys N (rowsOf m (s .tally)) (rowsOf m′ t′)
-  unfolding viewListMessages viewOut viewPolls
   channels-kept t′ N ends = record {
     listMessages = λ j i hj hi n. queue-same (listMessagesQueue m j i) (listMessagesQueue m′ j i) (list-messages-kept j i hj)
         (ends .cursors j i hj hi n) (ends .sends j i hj hi n);

@@ -1,46 +1,21 @@
 -- A machine as the state that it stands for, and a state by its parts.
 use Prim.Native.Nat.{ℕ, _+_, _-_, _<_}
 use mathlib.Core.Bool.{Bool, true, false, cond}
-use mathlib.Core.List.{List}
 use mathlib.Core.Option.{Option}
 pub use mathlib.Core.Option.{Option·map as mapO}
 use mathlib.Core.Path.{_≡_, refl, _∙_, ap, fun-ext}
 use native.Mathlib.Omega.{arith}
 use borrow.Author.Tests.{le-leb, lt-leb}
 use Rattle.base.proofs.Choice.{cond-true, cond-false}
-use Rattle.network.specs.Network.{Label}
 use Rattle.disac4.specs.State.{State, list, reply}
-use Rattle.disac4.specs.System.{System}
-use Rattle.disac4.specs.declared.Tally.{Tally}
-use Rattle.cells.specs.Layout.{WORKERS, BOUNDS, LOG, WORK, HEAD, TAIL, LOGEND, SENDS}
 use Rattle.cells.specs.Memory.{Mem}
 pub use Rattle.refinement.specs.Run.{viewOf}
-use Rattle.controller.specs.Controller.{Machine}
-use Rattle.cells.specs.View.{LISTMARK, labelsBetween, listAt, messageOf, pollAt, counterRow, viewCounter, viewWork, viewSend, viewHeld, viewLists, viewListMessages, viewPolls, viewOut, viewChannel, view}
-use Rattle.refinement.proofs.ChannelRows.{Rows, atChannel}
+use Rattle.cells.specs.View.{LISTMARK, labelsBetween, listAt, messageOf, pollAt, counterRow, viewCounter, viewLists, view}
 
 -- Named on an `unfolding` line, this opens the view down to the channels' contents.
 unfoldable pub view-parts : Unit {0}
-unfolding view labelsBetween pollAt counterRow viewWork viewSend viewHeld viewLists viewChannel viewCounter
+unfolding view labelsBetween pollAt counterRow viewLists viewCounter
 view-parts = tt
-
--- the work list of a row
-abbrev pub workOf : Mem → ℕ → List Label
-workOf m i = labelsBetween m WORK i (m WORKERS i HEAD) (m WORKERS i TAIL)
-
--- what it has to send
-abbrev pub sendOf : Mem → ℕ → List Label
-sendOf m i = labelsBetween m LOG i (m BOUNDS i (m WORKERS i SENDS)) (m WORKERS i LOGEND)
-
--- the channels that a memory and a tally stand for
-abbrev pub rowsOf : Mem → Tally → Rows
-rowsOf m t = record { listMessages = viewListMessages m; out = viewOut m; polls = viewPolls m t }
-
--- the channels of the state, by rows
-pub channel-rows : (sys : System) (s : Machine) (j k : ℕ)
-    → viewOf sys s .channel j k ≡ atChannel sys (rowsOf (s .mem) (s .tally)) j k
-unfolding view viewChannel
-channel-rows sys s j k = refl
 
 -- two states that agree in every part
 pub record Same (s s′ : State) : Type 0 where

@@ -2,15 +2,14 @@
 use Prim.Native.Nat.{ℕ, suc, _+_, _-_, _<_, _≤_}
 use mathlib.Core.Bool.{Bool, true, false, cond, _&&_, not}
 use mathlib.Core.List.{List, [], _∷_, _++_}
-use mathlib.Core.Option.{none, some, Option·map}
+use mathlib.Core.Option.{some, Option·map}
 use mathlib.Core.Path.{_≡_, refl, sym, _∙_, ap, subst}
-use native.Mathlib.Decide.{ℕ-discrete, decLt}
+use native.Mathlib.Decide.{ℕ-discrete}
 use native.Mathlib.Omega.{arith}
-use borrow.Author.Tests.{lt-ltb, le-ltb}
 use lib.Dec.{eqb}
 use lib.ListN.{length}
 use Rattle.base.proofs.Bools.{clash, refuted, and-left, and-right, and-false-left, and-true, and-never}
-use Rattle.base.proofs.Choice.{cond-true, cond-false}
+use Rattle.base.proofs.Choice.{cond-false}
 use Rattle.base.specs.Choice.{update}
 use Rattle.disac4.proofs.DomainSize.{treat-size}
 use Rattle.disac4.specs.Action.{loses, lowered, deletes, deletions, afterTreat, treat, treatFrom}
@@ -19,23 +18,23 @@ use Rattle.disac4.specs.System.{System}
 use Rattle.disac4.specs.declared.Tally.{Tally}
 use Rattle.network.proofs.Loaded.{loaded-variable, loaded-value}
 use Rattle.network.specs.Network.{Label, label, loaded, labelsWhere, domainSize}
-use Rattle.cells.proofs.Queue.{labels-first, labels-none, labels-same}
+use Rattle.cells.proofs.Queue.{labels-same, read-queue, labelQueue}
 use Rattle.cells.proofs.Stores.{store-same, store-other}
 use Rattle.cells.specs.Layout.{WORKERS, CURSORS, BOUNDS, LOG, WORK, OUT, WANTED, DOMAIN, COUNTERS, HEADS, HEAD, TAIL, LOGEND, SENDS}
 use Rattle.cells.specs.Memory.{Mem, store}
 use Rattle.controller.specs.Controller.{Machine}
 use Rattle.index.proofs.Kept.{row-heads}
+use Rattle.treating.proofs.TreatLaws.{treated, no-work}
 use Rattle.treating.specs.Treat.{touchVariablesM, treatM}
-use Rattle.cells.specs.View.{LISTED, labelOf, labelsBetween, counterRow, viewCounter, viewWork, viewSend, view}
+use Rattle.cells.specs.View.{LISTED, labelOf, labelsBetween, counterRow, viewCounter, view, workOf, sendOf}
 use Rattle.refinement.proofs.Actors.{at-worker, actors-update}
 use Rattle.refinement.proofs.Capacity.{log-room, tail-room, tail-small}
-use Rattle.refinement.proofs.Frame.{paired-kept}
-use Rattle.refinement.proofs.Frames.{Apart}
-use Rattle.refinement.proofs.Growing.{Both}
+use Rattle.refinement.proofs.InvKept.{paired-kept}
+use Rattle.refinement.proofs.DeleteApart.{Apart}
+use Rattle.refinement.proofs.LongerLists.{Both}
 use Rattle.refinement.specs.Inv.{Small, Inv}
 use Rattle.index.specs.Index.{Paired}
 use Rattle.refinement.proofs.Labelwise.{unloaded-apart, Shows, walk-apart, walk-shows, walk-both, Local}
-use Rattle.refinement.proofs.Seen.{workOf, sendOf}
 use Rattle.refinement.proofs.Touching.{touchLabelM, touch-walk, touch-apart, touch-shows, touch-both}
 use Rattle.refinement.proofs.Unmoved.{Unmoved, held-kept, lists-kept, channel-kept, same-bound}
 use Rattle.refinement.proofs.Walking.{walk}
@@ -195,8 +194,8 @@ module _ (sys : System) (small : Small sys) (s : Machine) (inv : Inv sys s) (i :
       treated-apart WORKERS j b (λ x v k l. omega arith)
       ∙ store-other m WORKERS i HEAD (head + 1) WORKERS j b (λ e f g. n f)
 
-  work-after : (k : ℕ) → viewWork sys treatedM k ≡ update (viewWork sys m) (suc i) (rest ++ deletions sys (suc i) a st) k
-  unfolding viewWork
+  work-after : (k : ℕ) → view sys treatedM t .workList k ≡ update (st .workList) (suc i) (rest ++ deletions sys (suc i) a st) k
+  unfolding view
   work-after =
       actors-update sys (workOf m) (workOf treatedM) [] i (rest ++ deletions sys (suc i) a st) h
       (ap (λ (b : ℕ). labelsBetween treatedM WORK i b (treatedM WORKERS i TAIL)) head-after
@@ -208,10 +207,10 @@ module _ (sys : System) (small : Small sys) (s : Machine) (inv : Inv sys s) (i :
       (λ d p q. treated-apart WORK j d (λ x v k l. omega arith)))
 
   send-after : (k : ℕ)
-      → viewSend sys treatedM k ≡ update (viewSend sys m) (suc i) (viewSend sys m (suc i) ++ deletions sys (suc i) a st) k
-  unfolding viewSend
+      → view sys treatedM t .toSend k ≡ update (st .toSend) (suc i) (st .toSend (suc i) ++ deletions sys (suc i) a st) k
+  unfolding view
   send-after =
-      actors-update sys (sendOf m) (sendOf treatedM) [] i (viewSend sys m (suc i) ++ deletions sys (suc i) a st) h
+      actors-update sys (sendOf m) (sendOf treatedM) [] i (st .toSend (suc i) ++ deletions sys (suc i) a st) h
       (ap (λ (b : ℕ). labelsBetween treatedM LOG i b (treatedM WORKERS i LOGEND)) (same-bound sys m treatedM t treated-unmoved i)
       ∙ treated-both .log .new (m BOUNDS i (m WORKERS i SENDS)) (inv .rows i h .last-bound)
       ∙ ap (λ (l : List Label). l ++ deletions sys (suc i) a st)
@@ -238,37 +237,27 @@ module _ (sys : System) (small : Small sys) (s : Machine) (inv : Inv sys s) (i :
 
   -- the turn is not idle
   pub treat-busy : treatM sys i (s .mem) ≡ some treatedM
-  unfolding treatM
   treat-busy =
-      cond-true _ none (lt-ltb head (m WORKERS i TAIL) busy)
-      ∙ cond-true (some treatedM) none
-      (lt-ltb head 512 (omega (arith, tail-small sys small s inv i h)))
-
--- a row whose work list is empty is idle
-pub treat-idle : (sys : System) (m : Mem) (i : ℕ) → m WORKERS i TAIL ≤ m WORKERS i HEAD → treatM sys i m ≡ none
-unfolding treatM
-treat-idle sys m i h = cond-false _ none (le-ltb (m WORKERS i HEAD) (m WORKERS i TAIL) h)
-
--- the work list of a row
-work-list : (sys : System) (m : Mem) (t : Tally) (i : ℕ) → i < sys .workers → view sys m t .workList (suc i) ≡ workOf m i
-unfolding view viewWork
-work-list sys m t i h = at-worker sys (workOf m) [] i h
+      treated sys i head (m WORKERS i TAIL) m refl refl (m WORK i head) busy (omega (arith, tail-small sys small s inv i h)) refl
 
 -- treating in memory is treating
 pub treat-refines : (sys : System) → Small sys → (s : Machine) → Inv sys s → (i : ℕ) → i < sys .workers
     → Option·map (λ m′. view sys m′ (s .tally)) (treatM sys i (s .mem)) ≡ treat sys (suc i) (view sys (s .mem) (s .tally))
-unfolding treat
+unfolding view treat labelsBetween
 treat-refines sys small s inv i h =
-    elim (decLt (s .mem WORKERS i HEAD) (s .mem WORKERS i TAIL)) [
-      | yes busy ↦
-          ap (Option·map (λ m′. view sys m′ (s .tally))) (treat-busy sys small s inv i h busy)
-          ∙ ap some (treated-view sys small s inv i h busy)
-          ∙ ap (treatFrom sys (suc i) (view sys (s .mem) (s .tally)))
-          (sym (work-list sys (s .mem) (s .tally) i h
-          ∙ labels-first (s .mem) WORK i (s .mem WORKERS i HEAD) (s .mem WORKERS i TAIL) busy))
-      | no idle ↦
-          ap (Option·map (λ m′. view sys m′ (s .tally))) (treat-idle sys (s .mem) i (omega arith))
-          ∙ ap (treatFrom sys (suc i) (view sys (s .mem) (s .tally)))
-          (sym (work-list sys (s .mem) (s .tally) i h
-          ∙ labels-none (s .mem) WORK i (s .mem WORKERS i HEAD) (s .mem WORKERS i TAIL) (omega arith)))
-    ]
+    read-queue (treatFrom sys (suc i) (view sys m (s .tally))) (labelQueue m WORK i head tail)
+    (labelQueue m WORK i (head + 1) tail) _ (λ n p q. refl) refl refl
+    (λ busy.
+    ap (Option·map (λ m′. view sys m′ (s .tally))) (treat-busy sys small s inv i h busy)
+    ∙ ap some (treated-view sys small s inv i h busy))
+    (λ idle. ap (Option·map (λ m′. view sys m′ (s .tally))) (no-work sys i head tail m refl refl idle))
+    ∙ ap (treatFrom sys (suc i) (view sys m (s .tally))) (sym (at-worker sys (workOf m) [] i h))
+  where
+    m : Mem
+    m = s .mem
+
+    head : ℕ
+    head = m WORKERS i HEAD
+
+    tail : ℕ
+    tail = m WORKERS i TAIL
