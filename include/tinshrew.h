@@ -6,6 +6,8 @@
  *   tinshrew_run_turns    plays a list of turns on a plan
  *   tinshrew_run_round    plays rounds on a plan until it is closed
  *
+ * docs/FORMAT.md has the bytes of a plan and of a turn list, what each turn does, and the round.
+ *
  * Every call ends, whatever the bytes are. The library allocates nothing and keeps nothing between calls, so
  * calls on different buffers may run at the same time.
  *
@@ -42,7 +44,14 @@ enum {
 };
 
 /* Why a call is declined, and the place that goes with it. A section starts at its first length byte. The plan
- * check never gives 9 to 12, and a round run never gives 11 or 12. */
+ * check never gives 9 to 12, and a round run never gives 11 or 12.
+ *
+ * Where several apply, the first in this order is given: 9, 10, 11; 1 for an empty plan; 2; the sections in turn; 8; 12.
+ * In each section 1 comes first, then
+ *   head  3, 4
+ *   slot  3 (length under 2), 4, 3, 5, 6
+ *   rule  3 (length under 3), 7 (kind), 5, 3, 7 (bits)
+ */
 enum {
     TINSHREW_TRUNCATED = 1,      /* plan empty (place 0), or a section or its length is cut off (section start) */
     TINSHREW_BAD_VERSION = 2,    /* version byte is not 1 (0) */
@@ -50,7 +59,7 @@ enum {
     TINSHREW_BAD_COUNT = 4,      /* kitchens, slots, rules or a dish count out of range (section start) */
     TINSHREW_BAD_NUMBER = 5,     /* kitchen or slot number out of range, or first slot not below second (section start) */
     TINSHREW_REPEATED_CODE = 6,  /* a code stands twice in a slot (section start) */
-    TINSHREW_BAD_RULE = 7,       /* kind above 1, or a table bit past the second slot's count (section start) */
+    TINSHREW_BAD_RULE = 7,       /* kind above 1, or a table bit at or past the second slot's count (section start) */
     TINSHREW_TRAILING_BYTES = 8, /* bytes after the last rule (first such byte) */
     TINSHREW_SHORT_WORK = 9,     /* fewer than TINSHREW_WORK_CELLS work cells (0) */
     TINSHREW_SHORT_LISTS = 10,   /* fewer than TINSHREW_LIST_CELLS list cells (0) */

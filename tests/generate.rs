@@ -143,15 +143,25 @@ fn tabled(first: usize, second: usize, rows: Vec<u16>) -> Constraint {
     Constraint { first, second, relation: Relation::Table(rows) }
 }
 
-/// A chain or ring of relations that deletes its values one after the other,
-/// from worker to worker.
-pub fn chain_plan(rng: &mut Rng, workers: usize, n: usize, values: usize) -> Plan {
-    let variables: Vec<Variable> = (0..n)
+/// Variables of equal size, mostly owned by one worker after the other.
+fn even_variables(rng: &mut Rng, workers: usize, n: usize, values: usize) -> Vec<Variable> {
+    (0..n)
         .map(|s| {
             let owner = if rng.chance(1, 8) { rng.between(1, workers) } else { s % workers + 1 };
             variable(rng, owner, values, 1_000)
         })
-        .collect();
+        .collect()
+}
+
+/// The variables of a full plan.
+fn full_variables(rng: &mut Rng) -> Vec<Variable> {
+    even_variables(rng, FULL.workers, FULL.variables, FULL.values)
+}
+
+/// A chain or ring of relations that deletes its values one after the other,
+/// from worker to worker.
+pub fn chain_plan(rng: &mut Rng, workers: usize, n: usize, values: usize) -> Plan {
+    let variables = even_variables(rng, workers, n, values);
     let mut constraints = Vec::new();
     let mask = ((1u32 << values) - 1) as u16;
     // Mostly strictly less; sometimes at most, or less by at most two.
@@ -183,47 +193,46 @@ pub fn chain_plan(rng: &mut Rng, workers: usize, n: usize, values: usize) -> Pla
 /// constraints, and a chain through all variables that deletes hundreds of
 /// labels.
 pub fn full_plan(rng: &mut Rng, strictly: bool) -> Plan {
-    let mut plan = chain_plan(rng, 8, 32, 16);
-    plan.constraints.clear();
-    for first in 1..32 {
+    let mut variables = full_variables(rng);
+    for value in variables.iter_mut().flat_map(|variable| &mut variable.values) {
+        if value.sodium != NOT_RECORDED {
+            value.sodium /= 4;
+        }
+    }
+    let at_most = |a: usize| (0xFFFFu32 << a) as u16;
+    let mut constraints = Vec::new();
+    for first in 1..FULL.variables {
         // Strictly less along 32 variables of 16 values deletes all labels;
         // otherwise every fourth step is strict and a core stays.
-        let strict = strictly || first % 4 == 0;
-        let rows = (0..16).map(|a| (0xFFFFu32 << (a + usize::from(strict))) as u16).collect();
-        plan.constraints.push(tabled(first, first + 1, rows));
+        let strict = usize::from(strictly || first % 4 == 0);
+        let rows = (0..FULL.values).map(|a| at_most(a + strict)).collect();
+        constraints.push(tabled(first, first + 1, rows));
     }
-    while plan.constraints.len() < 128 {
-        let (first, second) = pair(rng, 32);
+    while constraints.len() < FULL.constraints {
+        let (first, second) = pair(rng, FULL.variables);
         let relation = if rng.chance(1, 3) {
             Relation::Sodium(65_535)
         } else {
             // At most as large, which the chain implies already.
-            Relation::Table((0..16).map(|a| (0xFFFFu32 << a) as u16).collect())
+            Relation::Table((0..FULL.values).map(at_most).collect())
         };
-        plan.constraints.push(Constraint { first, second, relation });
+        constraints.push(Constraint { first, second, relation });
     }
-    for variable in &mut plan.variables {
-        for value in &mut variable.values {
-            if value.sodium != NOT_RECORDED {
-                value.sodium /= 4;
-            }
-        }
-    }
-    plan
+    Plan { workers: FULL.workers, variables, constraints }
 }
 
 /// A full plan with 128 tables of even density, `part` of 256 pairs allowed,
 /// on pairs of variables drawn evenly. Below about 90 it mostly loses every
 /// label, above about 100 only some.
 pub fn scattered_plan(rng: &mut Rng, part: usize) -> Plan {
-    let mut plan = chain_plan(rng, 8, 32, 16);
-    plan.constraints.clear();
-    for _ in 0..128 {
-        let (first, second) = pair(rng, 32);
-        let rows = (0..16).map(|_| row(rng, 16, part, 256)).collect();
-        plan.constraints.push(tabled(first, second, rows));
-    }
-    plan
+    let variables = full_variables(rng);
+    let scattered = |_| {
+        let (first, second) = pair(rng, FULL.variables);
+        let rows = (0..FULL.values).map(|_| row(rng, FULL.values, part, 256)).collect();
+        tabled(first, second, rows)
+    };
+    let constraints = (0..FULL.constraints).map(scattered).collect();
+    Plan { workers: FULL.workers, variables, constraints }
 }
 
 /// Allowed turns drawn evenly.

@@ -1,27 +1,11 @@
-//! Links libtinshrew.a: the one that TINSHREW_LIB names, or the one that `rt staticlib tinshrew` wrote.
+//! Links the library by its own file name, whatever that is.
 
-use std::env;
-use std::path::{Path, PathBuf};
-
-fn archive() -> PathBuf {
-    match env::var_os("TINSHREW_LIB") {
-        Some(path) => PathBuf::from(path),
-        None => {
-            let here = env::var_os("CARGO_MANIFEST_DIR").expect("cargo names the package's folder");
-            Path::new(&here).join("../target/staticlib/libtinshrew.a")
-        }
-    }
-}
+mod archive;
 
 fn main() {
-    println!("cargo:rerun-if-env-changed=TINSHREW_LIB");
-    let archive = archive();
-    println!("cargo:rerun-if-changed={}", archive.display());
-    let folder = archive
-        .canonicalize()
-        .ok()
-        .and_then(|path| path.parent().map(Path::to_path_buf))
-        .unwrap_or_else(|| panic!("{} is not there: run `rt staticlib tinshrew`", archive.display()));
+    let archive = archive::archive().expect("the library is not there: run `rt staticlib tinshrew`");
+    let (folder, name) = (archive.parent(), archive.file_name());
+    let (folder, name) = folder.zip(name).expect("a file has a folder and a name");
     println!("cargo:rustc-link-search=native={}", folder.display());
-    println!("cargo:rustc-link-lib=static=tinshrew");
+    println!("cargo:rustc-link-lib=static:+verbatim={}", name.display());
 }

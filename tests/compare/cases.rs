@@ -193,6 +193,8 @@ const KINDS: &[(&str, usize, Draw)] = &[
     ("medium, round-like turns", 120, played),
     ("chain, guided turns", 200, played),
     ("chain, starving turns", 80, played),
+    ("large, guided turns", 250, played),
+    ("large, round-like turns", 80, played),
     ("full, guided turns", 6, played),
     ("full, round-like turns", 4, played),
     ("full chain, guided turns", 6, played),
@@ -218,7 +220,10 @@ fn some_plan(rng: &mut Rng) -> Plan {
     match rng.below(12) {
         0 => random_plan(rng, MEDIUM, false),
         1 => chain_plan(rng, 3, 6, 5),
-        2 if rng.chance(1, 25) => random_plan(rng, FULL, true),
+        2 if rng.chance(1, 25) => {
+            let exactly = rng.chance(1, 2);
+            random_plan(rng, FULL, exactly)
+        }
         _ => random_plan(rng, SMALL, false),
     }
 }
@@ -273,20 +278,23 @@ fn sort_of_plan(sort: &str, rng: &mut Rng) -> Plan {
         "plan P" => decode(&plan_p()).expect("plan P is valid"),
         "medium" => random_plan(rng, MEDIUM, false),
         "chain" => chain(rng),
+        "large" => random_plan(rng, FULL, false),
         "full" if rng.chance(1, 4) => random_plan(rng, FULL, true),
         "full" => {
             let part = rng.between(50, 130);
             scattered_plan(rng, part)
         }
-        _ => full_chain(rng),
+        "full chain" => full_chain(rng),
+        other => panic!("no sort of plan is called {other}"),
     }
 }
 
 fn sort_of_turns(sort: &str, manner: &str, plan: &Plan, rng: &mut Rng) -> Vec<u8> {
     let most = match sort {
         "small" | "plan P" => rng.between(1, 160),
-        "medium" | "chain" => rng.between(1, 1_500),
-        _ => rng.between(500, 12_000),
+        "medium" | "chain" | "large" => rng.between(1, 1_500),
+        "full" | "full chain" => rng.between(500, 12_000),
+        other => panic!("no number of turns for {other}"),
     };
     match manner {
         "guided turns" => guided_turns(rng, plan, most, false),
@@ -295,10 +303,11 @@ fn sort_of_turns(sort: &str, manner: &str, plan: &Plan, rng: &mut Rng) -> Vec<u8
             let rounds = rng.between(1, if sort == "small" { 8 } else { 30 });
             round_like_turns(rng, plan.workers, rounds)
         }
-        _ => {
+        "random turns" => {
             let count = rng.below(120);
             random_turns(rng, plan.workers, count)
         }
+        other => panic!("no sort of turns is called {other}"),
     }
 }
 

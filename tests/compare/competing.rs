@@ -37,7 +37,7 @@ pub struct Draft {
     variables: Vec<Raw>,
     constraints: Vec<Raw>,
     tail: Vec<u8>,
-    /// Bytes to keep, from the end.
+    /// How many bytes are cut off at the end.
     cut: usize,
     emptied: bool,
     variable: usize,

@@ -4,6 +4,7 @@
 use std::cell::Cell;
 use std::sync::atomic::{AtomicU64, Ordering};
 
+/// The most threads of a run.
 pub const THREADS: usize = 64;
 pub const NONE: u64 = u64::MAX;
 
@@ -12,7 +13,9 @@ pub static CURRENT: [AtomicU64; THREADS] = [const { AtomicU64::new(NONE) }; THRE
 
 #[cfg(all(target_os = "linux", target_env = "gnu", target_pointer_width = "64"))]
 mod signals {
-    use super::{Ordering, CURRENT, NONE};
+    use super::{AtomicU64, Ordering, CURRENT, NONE};
+
+    static SEED: AtomicU64 = AtomicU64::new(0);
 
     #[repr(C)]
     struct Action {
@@ -58,12 +61,15 @@ mod signals {
                 say_number(number);
             }
         }
-        say(b"; run one alone with --only NUMBER\n");
+        say(b"; run one alone with: compare 1 ");
+        say_number(SEED.load(Ordering::Relaxed));
+        say(b" --only NUMBER\n");
         // SAFETY: ends the process at once.
         unsafe { _exit(1) }
     }
 
-    pub fn install() {
+    pub fn install(seed: u64) {
+        SEED.store(seed, Ordering::Relaxed);
         const ON_ALTERNATE_STACK: i32 = 0x0800_0000;
         let handler = handler as extern "C" fn(i32) as usize;
         let action = Action { handler, mask: [0; 16], flags: ON_ALTERNATE_STACK, restorer: 0 };
@@ -77,7 +83,7 @@ mod signals {
 
 #[cfg(not(all(target_os = "linux", target_env = "gnu", target_pointer_width = "64")))]
 mod signals {
-    pub fn install() {}
+    pub fn install(_: u64) {}
 }
 
 pub use signals::install;
@@ -88,7 +94,7 @@ thread_local! {
 
 /// The calling thread is at that case.
 pub fn at(thread: usize, case: u64) {
-    CURRENT[thread % THREADS].store(case, Ordering::Relaxed);
+    CURRENT[thread].store(case, Ordering::Relaxed);
     MINE.set(case);
 }
 

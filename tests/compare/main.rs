@@ -6,7 +6,7 @@
 //   compare --mutants [cases]  each deliberately wrong variant; all must differ
 //   compare --repeat FILE      a case from a file
 //   compare --only NUMBER      the case of that number, written to a file first
-//   compare --threads NUMBER   instead of one for each core
+//   compare --threads NUMBER   instead of one for each core, at most 64
 //
 // Exits with 0 when all cases agree, 1 at a difference, 2 when it cannot run.
 
@@ -85,7 +85,10 @@ impl Shared<'_> {
             let start = Instant::now();
             let case = cases::make(self.seed, number);
             crash::at(thread, number);
-            match case.run(self.subject) {
+            let outcome = case.run(self.subject);
+            // What goes wrong from here on is no fault of this case.
+            crash::at(thread, crash::NONE);
+            match outcome {
                 Ok(tally) => {
                     mine.tally.add(&tally);
                     mine.add_kind(case.kind, (1, start.elapsed().as_secs_f64()));
@@ -93,7 +96,6 @@ impl Shared<'_> {
                 Err(text) => self.keep_lowest(Difference { number, case, text }),
             }
         }
-        crash::at(thread, crash::NONE);
         self.totals.lock().unwrap().add(mine);
     }
 
@@ -145,7 +147,7 @@ fn watch(done: &AtomicBool, threads: usize, seed: u64) {
     while !done.load(Ordering::Relaxed) {
         std::thread::park_timeout(Duration::from_secs(1));
         for (thread, last) in seen.iter_mut().enumerate() {
-            let current = crash::CURRENT[thread % crash::THREADS].load(Ordering::Relaxed);
+            let current = crash::CURRENT[thread].load(Ordering::Relaxed);
             if current != last.0 {
                 *last = (current, Instant::now());
             } else if current != crash::NONE && last.1.elapsed() > PATIENCE {
@@ -254,7 +256,9 @@ fn options() -> Options {
         mutants: false,
         file: None,
         only: None,
-        threads: std::thread::available_parallelism().map_or(2, |cores| cores.get()),
+        threads: std::thread::available_parallelism()
+            .map_or(2, |cores| cores.get())
+            .min(crash::THREADS),
     };
     let mut arguments = std::env::args().skip(1);
     while let Some(argument) = arguments.next() {
@@ -323,7 +327,7 @@ fn main() {
     let threads = options.threads;
     let count_or = |default| options.numbers.first().copied().unwrap_or(default);
     let seed = options.numbers.get(1).copied().unwrap_or(1);
-    crash::install();
+    crash::install(seed);
     write_case_on_panic(seed);
     let agrees = if options.mutants {
         mutants(count_or(30_000), seed, threads)

@@ -1,5 +1,6 @@
-//! Safe calls of Tinshrew, whose C interface `include/tinshrew.h` explains. `unsafe` stands only where the library is
-//! called: slices carry their own lengths, and Rust's borrows keep the lent buffers apart.
+//! Safe calls of Tinshrew, whose C interface `include/tinshrew.h` explains; `docs/FORMAT.md` has the bytes of a plan and
+//! of a turn list, what each turn does, and the order of the declines. `unsafe` stands only where the library is called:
+//! slices carry their own lengths, and Rust's borrows keep the lent buffers apart.
 
 /// How many work cells a run needs.
 pub const WORK_CELLS: usize = 24_576;

@@ -2,29 +2,35 @@
 use libc::STDOUT_FILENO;
 ghost use Rattle.io.specs.Counts.{Counts};
 
-// A file that can be opened and read.
-fn readable(path: &[u8]) -> bool {
-    let fd = os::open_read(path);
-    if fd < 0 {
-        return false;
-    }
-    let mut first = [0u8; 1];
-    let got = libc::read(fd, &mut first);
-    libc::close(fd);
-    0 <= got
+// What a file gave: whether it could be opened and read, and how many bytes were read.
+struct Content {
+    readable: bool,
+    count: usize,
 }
 
-// As many of the file's first bytes as the buffer holds; none where it cannot be opened.
-fn read_file(path: &[u8], buf: &mut [u8]) -> usize
-    ensures { λ r. ⌜ Counts r (now (buf .exit)) ⌝ }
+// As many of the file's first bytes as the buffer holds; none where it cannot be opened or its first read fails. One open
+// answers both, so that what is judged readable is what is played, and a pipe loses no byte.
+fn read_file(path: &[u8], buf: &mut [u8]) -> Content
+    ensures { λ r. ⌜ Counts (r .count) (now (buf .exit)) ⌝ }
 {
     let fd = os::open_read(path);
-    if fd < 0 {
-        return 0;
+    // Without a descriptor this read fails too.
+    let got = libc::read(fd, buf);
+    if got < 0 {
+        libc::close(fd);
+        return Content {
+            readable: false,
+            count: 0,
+        };
     }
-    let n = io::read_full(fd, buf);
+    let first = io::count(got, buf);
+    let rest = io::read_full(fd, &mut buf[first..]);
     libc::close(fd);
-    n
+    let count = first + rest;
+    Content {
+        readable: true,
+        count,
+    }
 }
 
 // Writes what is shown of a plan and its turns to standard output.
@@ -36,10 +42,11 @@ fn print(plan: &[u8], turns: &[u8], rounds: bool) {
 
 fn main() {
     let mut plan = io::large_buffer();
-    let n = read_file(b"plan.bin", &mut plan);
-    let rounds = !readable(b"turns.bin");
+    let plan_file = read_file(b"plan.bin", &mut plan);
     // One byte more than a list may have: a longer file is a list that is too long.
     let mut turns = [0u8; 65537];
-    let m = read_file(b"turns.bin", &mut turns);
-    print(&plan[..n], &turns[..m], rounds);
+    let turn_file = read_file(b"turns.bin", &mut turns);
+    let n = plan_file.count;
+    let m = turn_file.count;
+    print(&plan[..n], &turns[..m], !turn_file.readable);
 }

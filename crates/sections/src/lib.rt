@@ -1,3 +1,3 @@
-// The checks of single sections: of the head, of a variable, and of a constraint.
+// The checks of single sections: of the head and of a variable.
 pub mod section;
 pub mod variable;
