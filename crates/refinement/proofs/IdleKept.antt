@@ -12,7 +12,7 @@ use Rattle.disac4.specs.Turn.{Turn, treatNumber}
 use Rattle.controller.specs.Controller.{Machine}
 use Rattle.refinement.proofs.Refined.{refined}
 use Rattle.refinement.proofs.Runs.{Refines}
-use Rattle.refinement.proofs.Seen.{mapO}
+use Rattle.refinement.proofs.ViewParts.{mapO}
 use Rattle.idle.specs.Table.{enables}
 use Rattle.refinement.specs.Inv.{Small, Inv}
 use Rattle.refinement.specs.Run.{viewOf}

@@ -34,8 +34,8 @@ pub fn list_fits(turns: &[u8]) -> bool
     n % 2 == 0 && n <= 65536
 }
 
-// A worker reads from another actor, or treats, sends or answers. Here and below both tests are made: the turns of a list are
-// of all kinds, so a test that hangs on another one would cost more than it spares.
+// A worker reads from another actor, or treats, sends or answers. Here and below `&` and `|` make both tests, so that there is
+// no branch.
 fn worker_may(p: usize, actor: usize, action: usize) -> bool
     ensures { λ r. ⌜ r ≡ workerMay p actor action ⌝ }
 {
