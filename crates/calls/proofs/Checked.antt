@@ -36,10 +36,13 @@ its-fault b d e = go (planFault b) refl
         let r : c ≡ d = cc in
         p ∙ ap {B = Option Decline} some r
 
-pub its-workers : (b : List ℕ) (f : Figures) → Accepted f ≡ planCheck b → f .workers ≡ workerCount b
-unfolding planCheck decode figuresOf planOf
-its-workers b f e =
+pub its-figures : (b : List ℕ) (f : Figures) → Accepted f ≡ planCheck b → f ≡ figuresOf (planOf b)
+unfolding planCheck decode
+its-figures b f e =
     let q : Accepted f ≡ Accepted (figuresOf (planOf b)) =
     e ∙ ap (λ (o : Option Decline). checkedAs (decodedAs (planOf b) o)) (no-fault b f e) in
-    let r : f ≡ figuresOf (planOf b) = cc in
-    ap (λ (g : Figures). g .workers) r
+    cc
+
+pub its-workers : (b : List ℕ) (f : Figures) → Accepted f ≡ planCheck b → f .workers ≡ workerCount b
+unfolding figuresOf planOf
+its-workers b f e = ap (λ (f : Figures). f .workers) (its-figures b f e)

@@ -1,7 +1,8 @@
--- What a caller may conclude from `Gives`: the promises of the calls, from the plan's bytes, the turns and the buffers.
+-- What a caller may conclude from a call's contract: the promises of the calls, from the plan's bytes, the turns and the buffers.
 use Prim.Native.Nat.{ℕ, _<_, _/_}
-use mathlib.Core.Bool.{Bool, true, false, cond}
-use mathlib.Core.List.{List}
+use mathlib.Core.Bool.{Bool, true, false, cond, false≢true}
+use mathlib.Core.List.{List, []}
+use mathlib.Core.Logic.{_↔_}
 use mathlib.Core.Option.{none}
 use mathlib.Core.Path.{_≡_, refl, sym, _∙_, ap}
 use native.Mathlib.Omega.{arith}
@@ -13,7 +14,9 @@ use Rattle.base.proofs.Each.{each-all, each-gather}
 use Rattle.base.proofs.Row.{row-bit}
 use Rattle.base.specs.Choice.{allOf}
 use Rattle.base.specs.Row.{bit, rowOf}
+use Rattle.calls.proofs.Checked.{no-fault, its-fault, its-figures}
 use Rattle.disac4.proofs.Demands.{demand2, demand3, round-closes-plan}
+use Rattle.disac4.proofs.Order.{turnRun-answer, roundRun-answer}
 use Rattle.disac4.proofs.Outcome.{turnRun-declined, roundRun-declined, turnRun-reported, roundRun-reported}
 use Rattle.disac4.proofs.Passed.{turns-pass, round-passes, list-cell-each}
 use Rattle.disac4.specs.Demands.{closedAfter, Demand2, Demand3, RoundCloses}
@@ -32,11 +35,53 @@ use Rattle.network.proofs.Largest.{largest-consistent}
 use Rattle.network.proofs.Loaded.{loaded-variable, loaded-value}
 use Rattle.network.specs.Consistency.{Within, Largest}
 use Rattle.network.specs.Network.{Domains, loaded}
+use Rattle.plan.proofs.Answer.{figures}
 use Rattle.plan.proofs.Faults.{decoded}
-use Rattle.plan.specs.Decode.{planFault, planOf, accepted}
+use Rattle.plan.proofs.WellFormed.{read-well-formed, few-labels}
+use Rattle.plan.specs.Answer.{planCheck, checkedAs, figuresOf}
+use Rattle.plan.specs.Decode.{planFault, planOf, decode, accepted, declined}
 use Rattle.format.specs.Format.{workerCount}
+use Rattle.plan.specs.declared.Checked as checked
+use Rattle.plan.specs.declared.Checked.{Checked}
 use Rattle.plan.specs.declared.Decline.{Decline}
-use Rattle.tinshrew.specs.Conclusions.{listedIn, Concluded}
+use Rattle.plan.specs.declared.Figures.{Figures}
+use Rattle.tinshrew.proofs.Faults.{not-decoded, declined-plan, reports, declines, in-table, empty-fits}
+use Rattle.tinshrew.specs.Conclusions.{AcceptedPlan, DeclinedPlan, Fits, TurnsFit, FirstFault, InTable, DeclinedRun, listedIn, Concluded}
+
+-- ---- the plan check
+
+-- the plan check accepts a plan exactly if it has none of the faults 1 to 8
+pub check-accepts : (b : List ℕ) (r : Checked) → r ≡ planCheck b
+    → ((f : Figures) × (r ≡ checked.the-variants.Accepted f)) ↔ (decode b ≡ accepted (planOf b))
+unfolding figuresOf
+check-accepts b r g =
+    (λ s. decoded b (no-fault b (s .0) (sym (s .1) ∙ g)), λ e. (figuresOf (planOf b), g ∙ figures b (planOf b) e))
+
+-- and then gives p, n, the number of rules and L
+pub check-accepted : (b : List ℕ) (f : Figures) → checked.the-variants.Accepted f ≡ planCheck b → AcceptedPlan b f
+unfolding figuresOf
+check-accepted b f g =
+    let sound = no-fault b f g in
+    let fits = read-well-formed b sound in
+    rw (its-figures b f g)
+    (record {
+      accepts = decoded b sound;
+      figures = refl;
+      workers = (fits .workers-low, fits .workers-high);
+      variables = (fits .variables-low, fits .variables-high);
+      constraints = fits .constraints-high;
+      labels = few-labels (planOf b) fits;
+    })
+
+-- it declines a plan exactly for its first fault
+pub check-declines : (b : List ℕ) (r : Checked) → r ≡ planCheck b
+    → (d : Decline) → (r ≡ checked.the-variants.Declined d) ↔ (decode b ≡ declined d)
+unfolding planCheck
+check-declines b r g d = (λ e. not-decoded b d (its-fault b d (sym e ∙ g)), λ e. g ∙ ap checkedAs e)
+
+-- whose number is from 1 to 8
+pub check-declined : (b : List ℕ) (d : Decline) → checked.the-variants.Declined d ≡ planCheck b → DeclinedPlan b d
+check-declined b d g = declined-plan b d (check-declines b _ g d .0 refl)
 
 -- ---- from a report to what was checked
 
@@ -118,10 +163,15 @@ concluded b sound ts fine work lists work′ lists′ o r g told = record {
 
 -- ---- a declined run
 
--- an outcome that leaves both buffers as they were
-kept : (o : Outcome) (a : Answer) (work lists work′ lists′ : List ℕ) → Gives o a work′ lists′ → Untouched work lists o
-    → (work′ ≡ work) × (lists′ ≡ lists)
-kept o a work lists work′ lists′ g same = (g .work-cells ∙ same .same-work, g .list-cells ∙ same .same-lists)
+-- from its fault and its outcome
+declined-run : (most : ℕ) (b ts work lists work′ lists′ : List ℕ) (o : Outcome) (d : Decline) → Gives o (Declined d) work′ lists′
+    → Untouched work lists o → FirstFault b ts work lists d → InTable most b ts d → DeclinedRun most b ts work lists work′ lists′ d
+declined-run most b ts work lists work′ lists′ o d g same first table = record {
+  first = first;
+  in-table = table;
+  same-work = g .work-cells ∙ same .same-work;
+  same-lists = g .list-cells ∙ same .same-lists;
+}
 
 -- ---- the turn run
 
@@ -134,11 +184,24 @@ turn-run b ts work lists work′ lists′ r g =
     concluded b (checks .1) (turnsOf ts) (list-allowed b ts (checks .2)) work lists work′ lists′ _ r g
     (turnRun-reported b ts work lists r (sym (g .answer)))
 
--- a declined turn run changed neither buffer
-pub turn-run-declined : (b ts work lists work′ lists′ : List ℕ) (d : Decline)
-    → Gives (turnRun b ts work lists) (Declined d) work′ lists′ → (work′ ≡ work) × (lists′ ≡ lists)
-turn-run-declined b ts work lists work′ lists′ d g =
-    kept _ _ work lists work′ lists′ g (turnRun-declined b ts work lists d (sym (g .answer)))
+module _ (b ts work lists work′ lists′ : List ℕ) where
+  -- a turn run reports exactly if none of the listed faults is there
+  pub turn-run-reports : (a : Answer) → Gives (turnRun b ts work lists) a work′ lists′
+      → ((r : Report) × (a ≡ Reported r)) ↔ (Fits b work lists × TurnsFit b ts)
+  turn-run-reports a g = reports b ts work lists _ a (g .answer ∙ turnRun-answer b ts work lists)
+
+  -- it declines exactly the first of them
+  pub turn-run-declines : (a : Answer) → Gives (turnRun b ts work lists) a work′ lists′
+      → (d : Decline) → (a ≡ Declined d) ↔ FirstFault b ts work lists d
+  turn-run-declines a g = declines b ts work lists _ a (g .answer ∙ turnRun-answer b ts work lists)
+
+  -- with a number from 1 to 12, and changes neither buffer
+  pub turn-run-declined : (d : Decline) → Gives (turnRun b ts work lists) (Declined d) work′ lists′
+      → DeclinedRun 12 b ts work lists work′ lists′ d
+  turn-run-declined d g =
+      let first = turn-run-declines (Declined d) g d .0 refl in
+      declined-run 12 b ts work lists work′ lists′ _ d g (turnRun-declined b ts work lists d (sym (g .answer))) first
+      (in-table b ts work lists 12 (omega arith) (λ h. omega arith) (λ h. omega arith) d first)
 
 -- ---- the round run
 
@@ -167,8 +230,25 @@ round-run-not-open b work lists work′ lists′ r g o =
     (round-run-closes b work lists work′ lists′ r g .closes)
     (sym (ap (λ (r : Report). r .status) (round-run b work lists work′ lists′ r g .report)) ∙ o)
 
--- a declined round run changed neither buffer
-pub round-run-declined : (b work lists work′ lists′ : List ℕ) (d : Decline)
-    → Gives (roundRun b work lists) (Declined d) work′ lists′ → (work′ ≡ work) × (lists′ ≡ lists)
-round-run-declined b work lists work′ lists′ d g =
-    kept _ _ work lists work′ lists′ g (roundRun-declined b work lists d (sym (g .answer)))
+module _ (b work lists work′ lists′ : List ℕ) where
+  -- a round run reports exactly if the buffers are long enough and the plan is accepted
+  pub round-run-reports : (a : Answer) → Gives (roundRun b work lists) a work′ lists′
+      → ((r : Report) × (a ≡ Reported r)) ↔ Fits b work lists
+  round-run-reports a g =
+      let both = reports b [] work lists _ a (g .answer ∙ roundRun-answer b work lists) in
+      (λ s. both .0 s .0, λ h. both .1 (h, empty-fits b))
+
+  -- it declines exactly the first fault
+  pub round-run-declines : (a : Answer) → Gives (roundRun b work lists) a work′ lists′
+      → (d : Decline) → (a ≡ Declined d) ↔ FirstFault b [] work lists d
+  round-run-declines a g = declines b [] work lists _ a (g .answer ∙ roundRun-answer b work lists)
+
+  -- with a number from 1 to 10, never 11 or 12, and changes neither buffer
+  pub round-run-declined : (d : Decline) → Gives (roundRun b work lists) (Declined d) work′ lists′
+      → DeclinedRun 10 b [] work lists work′ lists′ d
+  round-run-declined d g =
+      let first = round-run-declines (Declined d) g d .0 refl in
+      declined-run 10 b [] work lists work′ lists′ _ d g (roundRun-declined b work lists d (sym (g .answer))) first
+      (in-table b [] work lists 10 (omega arith)
+      (λ h. absurd (false≢true (sym h ∙ empty-fits b .list-fits)))
+      (λ h. absurd (omega arith)) d first)

@@ -1,2 +1,3 @@
 pub mod Conclusions
+pub mod Faults
 pub mod Numbers

@@ -1,22 +1,115 @@
--- What a caller may conclude from a reported run, as claims. `proofs/Conclusions.antt` proves them from what the calls give.
-use Prim.Native.Nat.{ℕ, _≤_}
-use mathlib.Core.Bool.{true, _&&_}
+-- What a caller may conclude from what a call gives, as claims. `proofs/Conclusions.antt` proves them from the calls' contracts.
+use Prim.Native.Nat.{ℕ, _/_, _<_, _≤_}
+use mathlib.Core.Bool.{true, false, _&&_}
 use mathlib.Core.List.{List}
 use mathlib.Core.Path.{_≡_}
-use lib.ListN.{getD}
+use lib.ListN.{length, getD}
 use Rattle.base.specs.Choice.{allOf}
 use Rattle.base.specs.Row.{bit}
 use Rattle.disac4.specs.Demands.{Demand2, Demand3}
-use Rattle.disac4.specs.Outcome.{systemAt, Written}
+use Rattle.disac4.specs.Outcome.{systemAt, workNeed, listNeed, Written}
 use Rattle.disac4.specs.Report.{final, reportOf}
 use Rattle.disac4.specs.System.{boundOf}
-use Rattle.disac4.specs.Turn.{Turn, allowed}
+use Rattle.disac4.specs.Turn.{Turn, allowed, turnAt, turnListFits}
 use Rattle.disac4.specs.declared.Answer.the-variants.{Reported}
 use Rattle.disac4.specs.declared.Report.{Report}
 use Rattle.disac4.specs.declared.Status.the-variants.{Open}
 use Rattle.network.specs.Consistency.{Within, Largest}
 use Rattle.network.specs.Network.{Network, Domains, loaded}
-use Rattle.plan.specs.Decode.{decode, accepted, planOf}
+use Rattle.plan.specs.Answer.{figuresOf}
+use Rattle.plan.specs.Decode.{decode, accepted, declined, planOf}
+use Rattle.plan.specs.Fault.{numberOf, decline}
+use Rattle.plan.specs.declared.Decline.{Decline}
+use Rattle.plan.specs.declared.Fault.the-variants.{ShortWork, ShortLists, BadTurnList, BadTurn}
+use Rattle.plan.specs.declared.Figures.{Figures}
+
+-- ---- the plan check
+
+-- it accepted the plan ("on success returns p, n, the number of rules and L")
+pub record AcceptedPlan (b : List ℕ) (f : Figures) : Type 0 where
+  -- the plan has none of the faults 1 to 8
+  pub accepts : decode b ≡ accepted (planOf b)
+  -- p, n, the number of rules and L are the plan's
+  pub figures : f ≡ figuresOf (planOf b)
+  -- p is from 1 to 8
+  pub workers : (1 ≤ f .workers) × (f .workers ≤ 8)
+  -- n is from 1 to 32
+  pub variables : (1 ≤ f .variables) × (f .variables ≤ 32)
+  -- there are at most 128 rules
+  pub constraints : f .constraints ≤ 128
+  -- L is at most 512
+  pub labels : f .labels ≤ 512
+
+-- it declined the plan ("never gives 9 to 12")
+pub record DeclinedPlan (b : List ℕ) (d : Decline) : Type 0 where
+  -- this is the plan's first fault
+  pub first : decode b ≡ declined d
+  -- "Returned": 1 to 8
+  pub number : (1 ≤ numberOf (d .fault)) × (numberOf (d .fault) ≤ 8)
+  -- "Place": in the plan or at its end
+  pub place : d .place ≤ length b
+
+-- ---- when a run reports
+
+-- no fault in the buffers and the plan of a run
+pub record Fits (b work lists : List ℕ) : Type 0 where
+  -- not 9: at least 24,576 work cells
+  pub work-cells : workNeed ≤ length work
+  -- not 10: at least 32 list cells
+  pub list-cells : listNeed ≤ length lists
+  -- none of 1 to 8: the plan is accepted
+  pub accepts : decode b ≡ accepted (planOf b)
+
+-- nor in the turn list
+pub record TurnsFit (b ts : List ℕ) : Type 0 where
+  -- not 11: its length is even and at most 65,536
+  pub list-fits : turnListFits ts ≡ true
+  -- not 12: every turn is allowed
+  pub all-allowed : (i : ℕ) → i < length ts / 2 → allowed (systemAt b .workers) (turnAt ts i) ≡ true
+
+-- ---- when a run is declined
+
+-- the buffers are long enough: neither 9 nor 10
+abbrev pub LongEnough : List ℕ → List ℕ → Type 0
+LongEnough work lists = (workNeed ≤ length work) × (listNeed ≤ length lists)
+
+-- the fault that comes first in document 01's order, and its place. A round run has no turn list: its faults are those with an
+-- empty one
+pub data FirstFault (b ts work lists : List ℕ) (d : Decline) : Type 0 where
+  -- 9
+  few-work-cells : length work < workNeed → d ≡ decline ShortWork 0 → FirstFault b ts work lists d
+  -- 10
+  few-list-cells : workNeed ≤ length work → length lists < listNeed → d ≡ decline ShortLists 0 → FirstFault b ts work lists d
+  -- 11
+  bad-list : LongEnough work lists → turnListFits ts ≡ false → d ≡ decline BadTurnList 0 → FirstFault b ts work lists d
+  -- 1 to 8: the plan's first
+  bad-plan : LongEnough work lists → turnListFits ts ≡ true → decode b ≡ declined d → FirstFault b ts work lists d
+  -- 12: turn i is not allowed, and all before it are
+  bad-turn : LongEnough work lists → turnListFits ts ≡ true → decode b ≡ accepted (planOf b)
+      → (i : ℕ) → i < length ts / 2 → allowed (systemAt b .workers) (turnAt ts i) ≡ false
+      → ((j : ℕ) → j < i → allowed (systemAt b .workers) (turnAt ts j) ≡ true) → d ≡ decline BadTurn i
+      → FirstFault b ts work lists d
+
+-- a decline as document 01's table has it, its number at most `most`
+pub record InTable (most : ℕ) (b ts : List ℕ) (d : Decline) : Type 0 where
+  -- "Returned"
+  pub number : (1 ≤ numberOf (d .fault)) × (numberOf (d .fault) ≤ most)
+  -- "Place" for 1 to 8: in the plan or at its end
+  pub in-plan : numberOf (d .fault) ≤ 8 → d .place ≤ length b
+  -- for 9, 10 and 11: 0
+  pub at-zero : 9 ≤ numberOf (d .fault) → numberOf (d .fault) ≤ 11 → d .place ≡ 0
+  -- for 12: the number of a turn, from 0
+  pub in-list : numberOf (d .fault) ≡ 12 → d .place < length ts / 2
+
+-- a run that was declined, from the buffers before and after it
+pub record DeclinedRun (most : ℕ) (b ts work lists work′ lists′ : List ℕ) (d : Decline) : Type 0 where
+  pub first : FirstFault b ts work lists d
+  pub in-table : InTable most b ts d
+  -- no lent cell is changed
+  pub same-work : work′ ≡ work
+  pub same-lists : lists′ ≡ lists
+
+-- ---- what a report says
 
 -- the domains that list cells hold: bit `v` of cell `x`, for each label of the plan
 unfoldable pub listedIn : Network → List ℕ → Domains
