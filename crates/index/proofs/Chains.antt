@@ -23,8 +23,8 @@ use Rattle.plan.proofs.InOrder.{InOrder}
 use Rattle.plan.proofs.Links.{ties-turned}
 use Rattle.plan.proofs.Parts.{variables-read, constraints-read, constraint-read}
 use Rattle.plan.proofs.WellFormed.{read-well-formed}
-use Rattle.plan.specs.Decode.{sectionCount, planFault, planOf, constraintAt}
-use Rattle.format.specs.Format.{sectionStart, variableCount, constraintCount, firstAt, secondAt}
+use Rattle.plan.specs.Decode.{planFault, planOf, constraintAt}
+use Rattle.format.specs.Format.{sectionStart, variableCount, constraintCount, sectionCount, firstAt, secondAt}
 use Rattle.plan.specs.Network.{joins, ties}
 use Rattle.plan.specs.Plan.{Constraint}
 use Rattle.plan.specs.WellFormed.{constraintOf, ConstraintFits}

@@ -12,8 +12,8 @@ use Rattle.base.proofs.Bools.{and-intro}
 use Rattle.disac4.specs.System.{systemOf}
 use Rattle.network.specs.Network.{loaded}
 use Rattle.plan.proofs.Parts.{variables-read, variable-read, size-read}
-use Rattle.plan.specs.Decode.{sectionCount, planFault, planOf, variableAt}
-use Rattle.format.specs.Format.{sectionStart, variableCount, constraintCount, ownerAt}
+use Rattle.plan.specs.Decode.{planFault, planOf, variableAt}
+use Rattle.format.specs.Format.{sectionStart, variableCount, constraintCount, sectionCount, ownerAt}
 use Rattle.plan.specs.Network.{shareConstraint, networkOf}
 use Rattle.plan.specs.Plan.{Variable}
 use Rattle.plan.specs.WellFormed.{sizeOf}

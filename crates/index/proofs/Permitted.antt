@@ -27,8 +27,8 @@ use Rattle.network.specs.Network.{supports, supportCount}
 use Rattle.plan.proofs.Links.{joins-of, of-joins, linked-in-range}
 use Rattle.plan.proofs.Parts.{variables-read, constraints-read, constraint-read, size-read, value-read}
 use Rattle.plan.proofs.WellFormed.{read-well-formed}
-use Rattle.plan.specs.Decode.{sectionCount, planFault, relationAt, constraintAt, planOf}
-use Rattle.format.specs.Format.{sectionStart, variableCount, constraintCount, firstAt, secondAt, kindAt, tableRowAt, limitAt, figureAt, sizeAt}
+use Rattle.plan.specs.Decode.{planFault, relationAt, constraintAt, planOf}
+use Rattle.format.specs.Format.{sectionStart, variableCount, constraintCount, sectionCount, firstAt, secondAt, kindAt, tableRowAt, limitAt, figureAt, sizeAt}
 use Rattle.plan.specs.Network.{withinLimit, permits, joins, ties, spares, accepts, pairAllowed, shareConstraint, networkOf}
 use Rattle.plan.specs.Plan.{Value, table, sumLimit, Constraint, valueOf}
 use Rattle.plan.specs.WellFormed.{sizeOf, noConstraint, constraintOf}

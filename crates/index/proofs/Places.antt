@@ -18,8 +18,8 @@ use Rattle.plan.proofs.Parts.{variables-read, constraints-read, size-read}
 use Rattle.plan.proofs.Sections.{each-section, section-complete}
 use Rattle.plan.proofs.WellFormed.{read-well-formed}
 use Rattle.plan.specs.Check.{firstFault, headChecks, variableChecks, constraintChecks, constraintLength}
-use Rattle.plan.specs.Decode.{sectionCount, planFault, planOf}
-use Rattle.format.specs.Format.{sectionStart, variableCount, constraintCount, valueCountAt, firstAt, kindAt, sizeAt}
+use Rattle.plan.specs.Decode.{planFault, planOf}
+use Rattle.format.specs.Format.{sectionStart, variableCount, constraintCount, sectionCount, valueCountAt, firstAt, kindAt, sizeAt}
 use Rattle.plan.specs.WellFormed.{WellFormed, VariableFits}
 
 module _ (b : List ℕ) (none-found : planFault b ≡ none) where

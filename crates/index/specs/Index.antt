@@ -12,8 +12,8 @@ use Rattle.base.specs.Below.{anyBelow}
 use Rattle.disac4.specs.System.{System, systemOf}
 use Rattle.cells.specs.Layout.{HEADS, PLACES, NEXT, FIRST, FOLLOW}
 use Rattle.cells.specs.Memory.{Mem, memOf, store}
-use Rattle.plan.specs.Decode.{sectionCount, planFault, planOf}
-use Rattle.format.specs.Format.{sectionStart, variableCount, constraintCount, firstAt, secondAt}
+use Rattle.plan.specs.Decode.{planFault, planOf}
+use Rattle.format.specs.Format.{sectionStart, variableCount, constraintCount, sectionCount, firstAt, secondAt}
 use Rattle.plan.specs.Network.{ties}
 use Rattle.plan.specs.WellFormed.{constraintOf}
 

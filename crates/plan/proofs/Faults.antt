@@ -13,10 +13,10 @@ use Rattle.base.proofs.Choice.{between-low, between-high}
 use Rattle.base.specs.Below.{firstBelow}
 use Rattle.base.specs.Bytes.{byteAt}
 use Rattle.base.specs.Choice.{between, firstOf}
-use Rattle.format.specs.Format.{sectionStart, variableCount, constraintCount}
+use Rattle.format.specs.Format.{sectionStart, variableCount, constraintCount, sectionCount}
 use Rattle.plan.proofs.Sections.{section-complete, section-number, section-declines, passed-before, start-within}
 use Rattle.plan.specs.Check.{firstFault, sectionChecks, sectionFault}
-use Rattle.plan.specs.Decode.{sectionCount, planEnd, trailingFault, sectionsFault, planFault, planOf, accepted, declined, decodedAs, decode}
+use Rattle.plan.specs.Decode.{planEnd, trailingFault, sectionsFault, planFault, planOf, accepted, declined, decodedAs, decode}
 use Rattle.plan.specs.Fault.{numberOf, decline}
 use Rattle.plan.specs.Plan.{Plan}
 use Rattle.plan.specs.declared.Decline.{Decline}

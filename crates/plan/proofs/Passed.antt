@@ -5,10 +5,10 @@ use mathlib.Core.Option.{none}
 use mathlib.Core.Path.{_≡_}
 use native.Mathlib.Omega.{arith}
 use borrow.Author.Tests.{le-leb, lt-leb, ne-eqb}
-use Rattle.format.specs.Format.{sectionStart, variableCount, constraintCount}
+use Rattle.format.specs.Format.{sectionStart, variableCount, constraintCount, sectionCount}
 use Rattle.plan.proofs.Faults.{sound-section}
 use Rattle.plan.specs.Check.{firstFault, headChecks, variableChecks, constraintChecks, sectionChecks}
-use Rattle.plan.specs.Decode.{sectionCount, planFault}
+use Rattle.plan.specs.Decode.{planFault}
 
 module _ (b : List ℕ) (none-found : planFault b ≡ none) where
   -- the head has passed its checks

@@ -1,9 +1,9 @@
 -- Named on an `unfolding` line, this opens what the crate and those below it compute with, for facts that hold by computing.
 use Rattle.base.specs.Computes.{base-computes}
-use Rattle.format.specs.Format.{sectionStart}
+use Rattle.format.specs.Format.{sectionStart, sectionCount}
 use Rattle.network.specs.Computes.{network-computes}
 use Rattle.plan.specs.Check.{complete, headInRange, headChecks, repeatsCode, variableChecks, variablesInOrder, constraintLength, tableFits, constraintChecks, sectionChecks, sectionFault}
-use Rattle.plan.specs.Decode.{sectionCount, planEnd, trailingFault, sectionsFault, planFault, variableAt, relationAt, constraintAt, planOf, decode}
+use Rattle.plan.specs.Decode.{planEnd, trailingFault, sectionsFault, planFault, variableAt, relationAt, constraintAt, planOf, decode}
 use Rattle.plan.specs.Fault.{numberOf}
 use Rattle.plan.specs.Network.{unrecorded, withinLimit, permits, joins, ties, spares, accepts, pairAllowed, shareConstraint, networkOf}
 use Rattle.plan.specs.Plan.{variableOf, valueOf}

@@ -13,8 +13,7 @@ use Rattle.indexing.proofs.index_places.Statement.{statement}
 use Rattle.indexing.proofs.index_places.Tie as tie
 use Rattle.index.specs.Index.{placesM}
 use Rattle.cells.specs.Memory.{memOf}
-use Rattle.plan.specs.Decode.{sectionCount}
-use Rattle.format.specs.Format.{behind, sectionStart}
+use Rattle.format.specs.Format.{behind, sectionStart, sectionCount}
 
 abbrev Inv-loop : tie.InvT-loop
 Inv-loop b cells₀ count at₀ k₀ cells at k =
@@ -24,33 +23,18 @@ Inv-loop b cells₀ count at₀ k₀ cells at k =
 abbrev μ-loop : tie.MeasureT-loop
 μ-loop b cells₀ count at₀ k₀ cells at k = count - k
 
-variable-count-requires : tie.Need-variable-count-requires Inv-loop μ-loop
-variable-count-requires c κs = search needs
-
-add-count : tie.Need-add-count Inv-loop μ-loop
-add-count c = search needs
-
-constraint-count-requires : tie.Need-constraint-count-requires Inv-loop μ-loop
-constraint-count-requires c κs = search needs
-
-add-count-2 : tie.Need-add-count-2 Inv-loop μ-loop
-add-count-2 c = search needs
+section-count-requires : tie.Need-section-count-requires Inv-loop μ-loop
+section-count-requires c κs = search needs
 
 loop-holds : tie.Need-loop-holds Inv-loop μ-loop
-unfolding sectionCount sectionStart placesM
-loop-holds c = (
-  omega arith,
-  omega (arith, c .before .variable-count .ensures, c .constraint-count .ensures),
-  refl,
-  refl,
-  refl,
-)
+unfolding sectionStart placesM
+loop-holds c = (omega arith, c .section-count .ensures .0, refl, refl, refl)
 
 put-requires : tie.Need-put-requires Inv-loop μ-loop
 unfolding sectionCount
 put-requires c κs =
     let l = c .before .before in
-    let s = l .before .before .before .before .before in
+    let s = l .before .before .before .before in
     let few = few-sections (now (s .args .b)) (s .pre .0) in (
       record {
         known = refl;
@@ -65,7 +49,7 @@ put-requires c κs =
 behind-requires : tie.Need-behind-requires Inv-loop μ-loop
 behind-requires c κs =
     let l = c .before .before .before .before .before in
-    let s = l .before .before .before .before .before in
+    let s = l .before .before .before .before in
     omega (arith, start-inside (now (s .args .b)) (s .pre .0) (l .loop .k) (omega (arith, l .loop .inv)), l .loop .inv)
 
 add-k : tie.Need-add-k Inv-loop μ-loop
@@ -78,7 +62,7 @@ loop-again : tie.Need-loop-again Inv-loop μ-loop
 unfolding sectionStart
 loop-again c =
     let l = c .before .before .before .before .before .before in
-    let s = l .before .before .before .before .before in
+    let s = l .before .before .before .before in
     let b = now (s .args .b) in
     let put = c .before .before .before .put in (
       omega arith,
@@ -95,7 +79,7 @@ same-length c = c .before .loop .inv .4
 returns : tie.Need-returns Inv-loop μ-loop
 returns c =
     let l = c .before in
-    let s = l .before .before .before .before .before in
+    let s = l .before .before .before .before in
     let b = now (s .args .b) in
     let e : l .loop .k ≡ sectionCount b = omega (arith, l .loop .inv, c .loop-test .left) in
     l .loop .inv .3 ∙ ap (λ (k : ℕ). placesM b k (memOf (now (s .args .cells)))) e
@@ -106,10 +90,7 @@ index-places-spec =
     (tie.spec
     Inv-loop
     μ-loop
-    variable-count-requires
-    add-count
-    constraint-count-requires
-    add-count-2
+    section-count-requires
     loop-holds
     put-requires
     behind-requires

@@ -12,8 +12,7 @@ use Rattle.indexing.proofs.index_plan.Tie as tie
 use Rattle.index.specs.Index.{Located, chainsM, ownM, indexM}
 use Rattle.cells.specs.Layout.{PLACES}
 use Rattle.cells.specs.Memory.{Mem, memOf}
-use Rattle.plan.specs.Decode.{sectionCount}
-use Rattle.format.specs.Format.{variableCount, constraintCount}
+use Rattle.format.specs.Format.{variableCount, constraintCount, sectionCount}
 
 index-places-requires : tie.Need-index-places-requires
 index-places-requires c κs = search needs

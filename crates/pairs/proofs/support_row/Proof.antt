@@ -10,7 +10,7 @@ use mathlib.Core.List.{List}
 use mathlib.Core.Path.{_≡_, sym, _∙_, ap}
 use native.Mathlib.Omega.{arith}
 use Rattle.base.specs.Row.{bit, rowOf}
-use Rattle.format.specs.Format.{variableCount, constraintCount}
+use Rattle.format.specs.Format.{variableCount, constraintCount, sectionCount}
 use Rattle.index.proofs.Chains.{chain-low}
 use Rattle.index.proofs.Permitted.{acceptsAt, Placed, placed, variable-placed, place-fits, variable-fits, head-fits, next-fits, along-over, value-small, linked-inside, supports-allowed}
 use Rattle.index.proofs.Places.{few-sections}
@@ -19,7 +19,7 @@ use Rattle.pairs.proofs.support_row.Statement.{statement}
 use Rattle.pairs.proofs.support_row.Tie as tie
 use Rattle.index.specs.Allowed.{permitsFrom}
 use Rattle.index.specs.Index.{over, chainBelow}
-use Rattle.plan.specs.Decode.{sectionCount, planOf}
+use Rattle.plan.specs.Decode.{planOf}
 use Rattle.plan.specs.Network.{pairAllowed}
 use Rattle.plan.specs.WellFormed.{sizeOf}
 
