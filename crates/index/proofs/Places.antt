@@ -3,7 +3,7 @@ use Prim.Native.Nat.{ℕ, zero, suc, _+_, _*_, _-_, _<_, _≤_}
 use mathlib.Core.List.{List}
 use mathlib.Core.Logic.{⊎-elim}
 use mathlib.Core.Option.{none}
-use mathlib.Core.Path.{_≡_, ap}
+use mathlib.Core.Path.{_≡_, _∙_, ap}
 use borrow.Author.Tests.{leb-true, eqb-true}
 use native.Mathlib.Omega.{arith}
 use lib.Dec.{eqb}
@@ -21,6 +21,9 @@ use Rattle.plan.specs.Check.{firstFault, headChecks, variableChecks, constraint
 use Rattle.plan.specs.Decode.{planFault, planOf}
 use Rattle.format.specs.Format.{sectionStart, variableCount, constraintCount, sectionCount, valueCountAt, firstAt, kindAt, sizeAt}
 use Rattle.plan.specs.WellFormed.{WellFormed, VariableFits}
+use Rattle.index.specs.Index.{Located}
+use Rattle.cells.specs.Layout.{PLACES}
+use Rattle.cells.specs.Memory.{Mem, memOf}
 
 module _ (b : List ℕ) (none-found : planFault b ≡ none) where
   fits : WellFormed (planOf b)
@@ -80,3 +83,12 @@ module _ (b : List ℕ) (none-found : planFault b ≡ none) where
   pub start-fits : (k : ℕ) → k < sectionCount b → sectionStart b k < 65536
   unfolding sectionCount
   start-fits k h = omega (arith, start-low k (omega arith), few-sections)
+
+-- the sections' places are still known where their cells are as they were
+pub located-kept : (b old new : List ℕ) (n : Mem) → Located b old → length new ≡ length old → memOf new ≡ n
+    → ((k : ℕ) → n PLACES 0 k ≡ memOf old PLACES 0 k) → Located b new
+located-kept b old new n l e p same = record {
+  sound = l .sound;
+  places = λ k h. ap (λ (m : Mem). m PLACES 0 k) p ∙ same k ∙ l .places k h;
+  long = omega (arith, l .long);
+}

@@ -47,7 +47,7 @@ fn index_chains(b: &[u8], cells: &mut [u16])
     let count = read::constraint_count(b);
     let mut c = 0;
     while c < count {
-        let at = layout::get(cells, layout::PLACES, 0, variables + c + 1);
+        let at = parts::place(b, cells, variables + c + 1);
         link(
             cells,
             constraints::first(b, at) - 1,

@@ -107,13 +107,13 @@ pub fn support_row(b: &[u8], cells: &[u16], x: usize, v: usize, y: usize) -> usi
     ensures { λ r. ⌜ r ≡ rowOf (sizeOf (planOf (now (b .entry))) y) (supports (networkOf (planOf (now (b .entry)))) x v y) ⌝ }
 {
     let variables = read::variable_count(b);
-    let here = layout::get(cells, layout::PLACES, 0, x + 1);
-    let there = layout::get(cells, layout::PLACES, 0, y + 1);
+    let here = parts::place(b, cells, x + 1);
+    let there = parts::place(b, cells, y + 1);
     let values = parts::size(b, cells, y);
     let mut row = power(values) - 1;
     let mut next = layout::get(cells, layout::HEADS, x, y);
     while next != 0 {
-        let at = layout::get(cells, layout::PLACES, 0, variables + next);
+        let at = parts::place(b, cells, variables + next);
         row = row & constraint_row(b, at, x < y, here, v, there, values);
         next = layout::get(cells, layout::NEXT, 0, next - 1);
     }

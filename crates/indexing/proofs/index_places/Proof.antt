@@ -7,12 +7,14 @@ use mathlib.Core.Path.{_≡_, refl, _∙_, ap}
 use native.Mathlib.Numerals.{add-one}
 use native.Mathlib.Omega.{arith}
 use lib.ListN.{length}
-use Rattle.index.proofs.Chains.{places-more}
+use Rattle.cells.proofs.Ranges.{may-put}
+use Rattle.cells.proofs.Stores.{one-more}
 use Rattle.index.proofs.Places.{few-sections, start-inside, start-fits}
 use Rattle.indexing.proofs.index_places.Statement.{statement}
 use Rattle.indexing.proofs.index_places.Tie as tie
 use Rattle.index.specs.Index.{placesM}
-use Rattle.cells.specs.Memory.{memOf}
+use Rattle.cells.specs.Layout.{PLACES}
+use Rattle.cells.specs.Memory.{memOf, store}
 use Rattle.format.specs.Format.{behind, sectionStart, sectionCount}
 
 abbrev Inv-loop : tie.InvT-loop
@@ -35,16 +37,15 @@ unfolding sectionCount
 put-requires c κs =
     let l = c .before .before in
     let s = l .before .before .before .before in
-    let few = few-sections (now (s .args .b)) (s .pre .0) in (
-      record {
-        known = refl;
-        writable = omega arith;
-        row = omega arith;
-        col = omega (arith, l .loop .inv);
-        long = omega (arith, l .loop .inv, s .pre);
-      },
-      omega (arith, start-fits (now (s .args .b)) (s .pre .0) (l .loop .k) (omega (arith, l .loop .inv)), l .loop .inv),
-    )
+    let b = now (s .args .b) in
+    may-put _ _ _ refl _ _
+    (omega (
+      arith,
+      l .loop .inv,
+      s .pre,
+      few-sections b (s .pre .0),
+      start-fits b (s .pre .0) (l .loop .k) (omega (arith, l .loop .inv)),
+    ))
 
 behind-requires : tie.Need-behind-requires Inv-loop μ-loop
 behind-requires c κs =
@@ -59,7 +60,7 @@ loop-less : tie.Need-loop-less Inv-loop μ-loop
 loop-less c = search needs
 
 loop-again : tie.Need-loop-again Inv-loop μ-loop
-unfolding sectionStart
+unfolding sectionStart placesM
 loop-again c =
     let l = c .before .before .before .before .before .before in
     let s = l .before .before .before .before in
@@ -68,8 +69,9 @@ loop-again c =
       omega arith,
       l .loop .inv .1,
       rw add-one (c .behind .ensures ∙ ap (behind b) (l .loop .inv .2)),
-      places-more b (l .loop .k) (l .loop .at) (memOf (now (s .args .cells))) (memOf (l .loop .cells)) (memOf (put .last .0))
-          (l .loop .inv .3) (l .loop .inv .2) (put .ensures),
+      one-more (λ n. placesM b n (memOf (now (s .args .cells)))) (λ m. store m PLACES 0 (l .loop .k) (sectionStart b (l .loop .k)))
+          (l .loop .k) _ _ refl (l .loop .inv .3)
+          (put .ensures ∙ ap (store (memOf (l .loop .cells)) PLACES 0 (l .loop .k)) (l .loop .inv .2)),
       put .kept .0 ∙ l .loop .inv .4,
     )
 
