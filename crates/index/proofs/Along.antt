@@ -55,11 +55,11 @@ module _ (b : List ℕ) (x v y w : ℕ) where
       ∙ ap (λ (n : ℕ). allBelow n (acceptsAt b x v y w)) (constraints-read b)
       ∙ last-all (over b x y) (acceptsAt b x v y w) (accepts-apart b x v y w) (constraintCount b)
 
-  -- so all is left to the chain at first
+  -- so at first it is left to the whole chain
   pub rest-start : (n : ℕ) → n ≡ chainBelow b x y (constraintCount b) → Rest b x v y w true n
   rest-start n e = rw e allowed-chain
 
-  -- and one constraint less behind each
+  -- and behind each constraint to the rest of the chain
   pub rest-next : (t : Bool) (c : ℕ) → Rest b x v y w t (suc c) → (r : Bool) → r ≡ t && acceptsAt b x v y w c
       → (n : ℕ) → n ≡ chainBelow b x y c → Rest b x v y w r n
   rest-next t c a r p n e =

@@ -17,8 +17,12 @@ get-requires c κs =
 returns : tie.Need-returns
 returns c =
     let s = c .before .before .before in
+    let b = now (s .args .b) in
     let start = c .get .ensures .0 ∙ s .pre .0 .places (s .args .k) (s .pre .1) in
-    record { start = start; within = omega (arith, start, start-inside (now (s .args .b)) (s .pre .0 .sound) (s .args .k) (omega (arith, s .pre .1))) }
+    record {
+      start = start;
+      within = omega (arith, start, start-inside b (s .pre .0 .sound) (s .args .k) (omega (arith, s .pre .1)));
+    }
 
 pub place-spec : {M : Type 1} → statement M
 place-spec = tie.close (tie.spec get-requires returns)
