@@ -9,9 +9,10 @@ use native.Mathlib.Nat.{le-refl}
 use native.Mathlib.Omega.{arith}
 use lib.Dec.{eqb}
 use Rattle.base.specs.Below.{anyBelow}
+use Rattle.index.proofs.ConstraintChains.{chains-keep, chains-heads, chains-nexts}
 use Rattle.index.proofs.Nearest.{last-any}
 use Rattle.index.proofs.OwnChains.{own-first, own-follow, own-keeps}
-use Rattle.index.proofs.Written.{places-keep, places-at, chains-keep, chains-heads, chains-nexts}
+use Rattle.index.proofs.Places.{places-keep, places-at}
 use Rattle.index.specs.Index.{over, chainBelow, Indexed, placesM, chainsM, ownM, indexM}
 use Rattle.cells.specs.Layout.{HEADS, PLACES, NEXT, FIRST, FOLLOW}
 use Rattle.cells.specs.Memory.{Mem}

@@ -1,6 +1,7 @@
 pub mod Accepted
 pub mod Along
 pub mod Chains
+pub mod ConstraintChains
 pub mod CounterRows
 pub mod Ends
 pub mod Kept
@@ -13,4 +14,3 @@ pub mod Owners
 pub mod Pairing
 pub mod Permitted
 pub mod Places
-pub mod Written

@@ -1,13 +1,15 @@
--- Where the sections of an accepted plan start: within the plan, and low enough for a cell.
+-- Where the sections of an accepted plan start: within the plan, low enough for a cell, and kept in the cells.
 use Prim.Native.Nat.{ℕ, zero, suc, _+_, _*_, _-_, _<_, _≤_}
 use mathlib.Core.List.{List}
 use mathlib.Core.Logic.{⊎-elim}
 use mathlib.Core.Option.{none}
-use mathlib.Core.Path.{_≡_, _∙_, ap}
+use mathlib.Core.Path.{_≡_, refl, _∙_, ap}
 use borrow.Author.Tests.{leb-true, eqb-true}
+use native.Mathlib.Nat.{not-suc-le-zero}
 use native.Mathlib.Omega.{arith}
 use lib.Dec.{eqb}
 use lib.ListN.{length}
+use Rattle.base.proofs.Below.{below-cases}
 use Rattle.base.proofs.Bools.{decided}
 use Rattle.base.proofs.Choice.{cond-true, cond-false}
 use Rattle.base.specs.Bytes.{wordAt}
@@ -21,7 +23,8 @@ use Rattle.plan.specs.Check.{firstFault, headChecks, variableChecks, constraint
 use Rattle.plan.specs.Decode.{planFault, planOf}
 use Rattle.format.specs.Format.{sectionStart, variableCount, constraintCount, sectionCount, valueCountAt, firstAt, kindAt, sizeAt}
 use Rattle.plan.specs.WellFormed.{WellFormed, VariableFits}
-use Rattle.index.specs.Index.{Located}
+use Rattle.cells.proofs.Stores.{store-same, store-other, store-apart}
+use Rattle.index.specs.Index.{Located, placesM}
 use Rattle.cells.specs.Layout.{PLACES}
 use Rattle.cells.specs.Memory.{Mem, memOf}
 
@@ -83,6 +86,25 @@ module _ (b : List ℕ) (none-found : planFault b ≡ none) where
   pub start-fits : (k : ℕ) → k < sectionCount b → sectionStart b k < 65536
   unfolding sectionCount
   start-fits k h = omega (arith, start-low k (omega arith), few-sections)
+
+-- ---- in the cells
+
+-- writing the places touches no other region
+pub places-keep : (b : List ℕ) (n : ℕ) (m : Mem) (r i j : ℕ) → (r ≡ PLACES → ⊥) → placesM b n m r i j ≡ m r i j
+unfolding placesM
+places-keep b zero m r i j h = refl
+places-keep b (suc n) m r i j h =
+    store-apart (placesM b n m) PLACES 0 n (sectionStart b n) r i j h ∙ places-keep b n m r i j h
+
+-- and leaves each section's start
+pub places-at : (b : List ℕ) (n : ℕ) (m : Mem) (k : ℕ) → k < n → placesM b n m PLACES 0 k ≡ sectionStart b k
+unfolding placesM
+places-at b zero m k h = absurd (not-suc-le-zero h)
+places-at b (suc n) m k h =
+    ⊎-elim (λ e. rw e (store-same (placesM b n m) PLACES 0 n (sectionStart b n)))
+    (λ l.
+    store-other (placesM b n m) PLACES 0 n (sectionStart b n) PLACES 0 k (λ p q e. omega arith) ∙ places-at b n m k l)
+    (below-cases h)
 
 -- the sections' places are still known where their cells are as they were
 pub located-kept : (b old new : List ℕ) (n : Mem) → Located b old → length new ≡ length old → memOf new ≡ n

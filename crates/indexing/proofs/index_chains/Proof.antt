@@ -5,8 +5,8 @@ use denote.Ref.{now}
 use mathlib.Core.Path.{_≡_, refl, sym, _∙_, ap, ap₂, subst}
 use native.Mathlib.Omega.{arith}
 use lib.ListN.{length}
+use Rattle.index.proofs.ConstraintChains.{chains-keep}
 use Rattle.index.proofs.Places.{few-sections, located-kept}
-use Rattle.index.proofs.Written.{chains-keep}
 use Rattle.indexing.proofs.index_chains.Statement.{statement}
 use Rattle.indexing.proofs.index_chains.Tie as tie
 use Rattle.index.specs.Index.{Located, constraintStart, linkM, chainsM}

@@ -5,8 +5,8 @@ use denote.Ref.{now}
 use mathlib.Core.List.{List}
 use mathlib.Core.Path.{_∙_, ap}
 use native.Mathlib.Omega.{arith}
-use Rattle.index.proofs.Places.{located-kept}
-use Rattle.index.proofs.Written.{places-at, chains-keep}
+use Rattle.index.proofs.ConstraintChains.{chains-keep}
+use Rattle.index.proofs.Places.{places-at, located-kept}
 use Rattle.indexing.proofs.index_plan.Statement.{statement}
 use Rattle.indexing.proofs.index_plan.Tie as tie
 use Rattle.index.specs.Index.{Located, chainsM, ownM, indexM}

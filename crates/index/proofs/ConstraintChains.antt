@@ -1,4 +1,4 @@
--- The memory with the sections' places and the chains of constraints in it.
+-- The memory with the chains of constraints in it.
 use Prim.Native.Nat.{ℕ, zero, suc, _+_, _-_, _<_, _≤_}
 use mathlib.Core.Bool.{true, false}
 use mathlib.Core.List.{List}
@@ -11,32 +11,13 @@ use native.Mathlib.Omega.{arith}
 use Rattle.base.proofs.Below.{below-cases}
 use Rattle.base.proofs.Bools.{decided, clash}
 use Rattle.cells.proofs.Stores.{store-same, store-other, store-apart}
-use Rattle.cells.specs.Layout.{HEADS, PLACES, NEXT}
+use Rattle.cells.specs.Layout.{HEADS, NEXT}
 use Rattle.cells.specs.Memory.{Mem, store}
-use Rattle.format.specs.Format.{sectionStart, constraintCount, firstAt, secondAt}
+use Rattle.format.specs.Format.{constraintCount, firstAt, secondAt}
 use Rattle.index.proofs.Ends.{Ends, ends, ends-over, over-ends, over-turned}
 use Rattle.index.proofs.Nearest.{near-none, near-here, near-past, near-ext}
-use Rattle.index.specs.Index.{over, chainBelow, placesM, linkM, constraintStart, chainsM}
+use Rattle.index.specs.Index.{over, chainBelow, linkM, constraintStart, chainsM}
 use Rattle.plan.specs.Decode.{planFault}
-
--- ---- places
-
--- writing the places touches no other region
-pub places-keep : (b : List ℕ) (n : ℕ) (m : Mem) (r i j : ℕ) → (r ≡ PLACES → ⊥) → placesM b n m r i j ≡ m r i j
-unfolding placesM
-places-keep b zero m r i j h = refl
-places-keep b (suc n) m r i j h =
-    store-apart (placesM b n m) PLACES 0 n (sectionStart b n) r i j h ∙ places-keep b n m r i j h
-
--- and leaves each section's start
-pub places-at : (b : List ℕ) (n : ℕ) (m : Mem) (k : ℕ) → k < n → placesM b n m PLACES 0 k ≡ sectionStart b k
-unfolding placesM
-places-at b zero m k h = absurd (not-suc-le-zero h)
-places-at b (suc n) m k h =
-    ⊎-elim (λ e. rw e (store-same (placesM b n m) PLACES 0 n (sectionStart b n)))
-    (λ l.
-    store-other (placesM b n m) PLACES 0 n (sectionStart b n) PLACES 0 k (λ p q e. omega arith) ∙ places-at b n m k l)
-    (below-cases h)
 
 -- ---- one constraint in front of its chain
 
