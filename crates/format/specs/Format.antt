@@ -23,7 +23,7 @@ abbrev pub constraintCount : List ℕ → ℕ
 constraintCount b = byteAt b (1 + 2 + 2)
 
 -- how many sections the head calls for: itself, the slots and the rules
-unfoldable pub sectionCount : List ℕ → ℕ
+abbrev pub sectionCount : List ℕ → ℕ
 sectionCount b = 1 + variableCount b + constraintCount b
 
 -- a slot's section at `at`: owning kitchen, count, then for each dish a code and a figure

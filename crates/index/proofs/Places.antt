@@ -42,7 +42,7 @@ module _ (b : List ℕ) (none-found : planFault b ≡ none) where
 
   -- each section starts within the plan, and the last one ends there
   pub start-inside : (k : ℕ) → k ≤ sectionCount b → sectionStart b k ≤ length b
-  unfolding sectionStart sectionCount
+  unfolding sectionStart
   start-inside zero h = omega (arith, section-complete b 0 (sound-section b none-found 0 (omega arith)))
   start-inside (suc k) h = section-complete b k (sound-section b none-found k h)
 
@@ -84,7 +84,6 @@ module _ (b : List ℕ) (none-found : planFault b ≡ none) where
 
   -- a cell holds each section's start
   pub start-fits : (k : ℕ) → k < sectionCount b → sectionStart b k < 65536
-  unfolding sectionCount
   start-fits k h = omega (arith, start-low k (omega arith), few-sections)
 
 -- ---- in the cells

@@ -75,7 +75,7 @@ sound-section b e = passed-before b (sectionCount b) (sound-plan b e .1)
 
 -- a plan without fault ends where its last section ends
 pub sound-end : (b : List ℕ) → planFault b ≡ none → planEnd b ≡ length b
-unfolding planEnd sectionCount
+unfolding planEnd
 sound-end b e =
     let last : ℕ = variableCount b + constraintCount b in
     let count : suc last ≡ 1 + variableCount b + constraintCount b = omega arith in

@@ -15,7 +15,7 @@ use Rattle.cells.specs.Layout.{PLACES}
 use Rattle.cells.specs.Memory.{memOf}
 use Rattle.plan.proofs.Constraints.{in-order}
 use Rattle.plan.proofs.InOrder.{InOrder}
-use Rattle.format.specs.Format.{sectionStart, variableCount, constraintCount, sectionCount, firstAt, secondAt}
+use Rattle.format.specs.Format.{sectionStart, variableCount, constraintCount, firstAt, secondAt}
 
 abbrev Inv-loop : tie.InvT-loop
 Inv-loop b cells₀ variables count c₀ cells c =
@@ -75,7 +75,6 @@ add-place-2 c =
     omega (arith, l .loop .inv)
 
 place-requires : tie.Need-place-requires Inv-loop μ-loop
-unfolding sectionCount
 place-requires c κs =
     let l = c .before .before in
     (places-known l, omega (arith, l .loop .inv, c .before .loop-test .taken))

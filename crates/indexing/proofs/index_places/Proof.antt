@@ -33,7 +33,6 @@ unfolding sectionStart placesM
 loop-holds c = (omega arith, c .section-count .ensures .0, refl, refl, refl)
 
 put-requires : tie.Need-put-requires Inv-loop μ-loop
-unfolding sectionCount
 put-requires c κs =
     let l = c .before .before in
     let s = l .before .before .before .before in

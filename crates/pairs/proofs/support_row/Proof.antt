@@ -11,7 +11,7 @@ use mathlib.Core.Path.{_≡_, refl, sym, _∙_, ap, subst}
 use native.Mathlib.Numerals.{add-one}
 use native.Mathlib.Omega.{arith}
 use Rattle.base.specs.Row.{bit, rowOf}
-use Rattle.format.specs.Format.{variableCount, constraintCount, sectionCount}
+use Rattle.format.specs.Format.{variableCount, constraintCount}
 use Rattle.cells.proofs.Ranges.{may-get}
 use Rattle.index.proofs.Accepted.{acceptsAt}
 use Rattle.index.proofs.Along.{along-over}
@@ -48,7 +48,6 @@ add-place : tie.Need-add-place Inv-loop μ-loop
 add-place c = omega (arith, few (c .before .before .before))
 
 place-requires : tie.Need-place-requires Inv-loop μ-loop
-unfolding sectionCount
 place-requires c κs =
     let s = c .before .before .before in
     (located (now (s .args .b)) (now (s .args .cells)) (s .pre .0), omega (arith, s .pre .1 .variable))
@@ -59,7 +58,6 @@ add-place-2 c =
     omega (arith, few s, inside s)
 
 place-requires-2 : tie.Need-place-requires-2 Inv-loop μ-loop
-unfolding sectionCount
 place-requires-2 c κs =
     let s = c .before .before .before .before in
     (located (now (s .args .b)) (now (s .args .cells)) (s .pre .0), omega (arith, inside s))
@@ -109,7 +107,6 @@ add-place-3 c =
     omega (arith, few (s l), l .loop .inv .along .low, counted l .variable-count .ensures)
 
 place-requires-3 : tie.Need-place-requires-3 Inv-loop μ-loop
-unfolding sectionCount
 place-requires-3 c κs =
     let l = c .before in
     let st = s l in (

@@ -3,7 +3,7 @@ use denote.Ref.{now}
 use mathlib.Core.Path.{_∙_, ap}
 use native.Mathlib.Numerals.{add-one}
 use native.Mathlib.Omega.{arith}
-use Rattle.format.specs.Format.{sectionStart, sectionCount}
+use Rattle.format.specs.Format.{sectionStart}
 use Rattle.index.proofs.Labels.{owner-there}
 use Rattle.index.proofs.Places.{few-sections}
 use Rattle.index.proofs.parts.owner.Statement.{statement}
@@ -13,7 +13,6 @@ add-place : tie.Need-add-place
 add-place c = omega (arith, few-sections (now (c .before .before .args .b)) (c .before .before .pre .0 .sound))
 
 place-requires : tie.Need-place-requires
-unfolding sectionCount
 place-requires c κs = (c .before .before .pre .0, omega (arith, c .before .before .pre .1))
 
 owner-requires : tie.Need-owner-requires

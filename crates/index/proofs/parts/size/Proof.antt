@@ -9,13 +9,12 @@ use Rattle.index.proofs.Places.{few-sections, few-values}
 use Rattle.index.proofs.parts.size.Statement.{statement}
 use Rattle.index.proofs.parts.size.Tie as tie
 use Rattle.plan.proofs.Parts.{size-read}
-use Rattle.format.specs.Format.{sectionCount, valueCountAt, sizeAt}
+use Rattle.format.specs.Format.{valueCountAt, sizeAt}
 
 add-place : tie.Need-add-place
 add-place c = omega (arith, few-sections (now (c .before .before .args .b)) (c .before .before .pre .0 .sound))
 
 place-requires : tie.Need-place-requires
-unfolding sectionCount
 place-requires c κs =
     let s = c .before .before in
     (located (now (s .args .b)) (now (s .args .cells)) (s .pre .0), omega (arith, s .pre .1))

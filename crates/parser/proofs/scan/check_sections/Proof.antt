@@ -89,7 +89,7 @@ loop-again c =
     )
 
 check-end-requires : tie.Need-check-end-requires Inv-loop μ-loop
-unfolding planEnd sectionCount
+unfolding planEnd
 check-end-requires c κs =
     let l = c .before .before in
     let b = l .before .before .before .before .args .b .now in (
