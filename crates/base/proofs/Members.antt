@@ -6,7 +6,9 @@ use mathlib.Core.Logic.{_⊎_, inl, inr, ⊎-elim}
 use mathlib.Core.Path.{_≡_, refl, ap₂}
 use native.Mathlib.Nat.{not-suc-le-zero, le-of-suc-le-suc}
 use lib.ListN.{length, getD}
-use Rattle.base.proofs.Bools.{and-left, and-right, and-intro, or-cases, or-left, or-right}
+use Rattle.base.proofs.Below.{all-below, every-below, any-below, some-below}
+use Rattle.base.proofs.Bools.{and-left, and-right, and-intro, or-cases, or-left, or-right, bool-ext}
+use Rattle.base.specs.Below.{allBelow, anyBelow}
 use Rattle.base.specs.Choice.{anyOf, allOf}
 
 module _ {ℓ} {A : Type ℓ} where
@@ -37,6 +39,25 @@ module _ {ℓ} {A : Type ℓ} where
   at-any t [] d i h e = absurd (not-suc-le-zero h)
   at-any t (a ∷ l) d zero h e = or-left (anyOf t l) e
   at-any t (a ∷ l) d (suc i) h e = or-right (t a) (at-any t l d i (le-of-suc-le-suc h) e)
+
+  module _ (t : A → Bool) (l : List A) (d : A) where
+    -- all members pass where each place below the length does
+    pub all-places : allOf t l ≡ allBelow (length l) (λ i. t (getD l i d))
+    all-places =
+        bool-ext (allOf t l) (allBelow (length l) (λ i. t (getD l i d)))
+        (λ e. every-below (length l) (λ i. t (getD l i d)) (all-at t l d e))
+        (λ e. at-all t l d (all-below (length l) (λ i. t (getD l i d)) e))
+
+    -- some member passes where some place does
+    pub any-places : anyOf t l ≡ anyBelow (length l) (λ i. t (getD l i d))
+    any-places =
+        bool-ext (anyOf t l) (anyBelow (length l) (λ i. t (getD l i d)))
+        (λ e.
+        let r = any-at t l d e in
+        any-below (length l) (λ i. t (getD l i d)) (r .0) (r .1) (r .2))
+        (λ e.
+        let r = some-below (length l) (λ i. t (getD l i d)) e in
+        at-any t l d (r .0) (r .1) (r .2))
 
   -- equal tests are passed by the same lists
   pub any-ext : (s t : A → Bool) → ((a : A) → s a ≡ t a) → (l : List A) → anyOf s l ≡ anyOf t l

@@ -22,6 +22,10 @@ variableCount b = byteAt b (1 + 2 + 1)
 abbrev pub constraintCount : List ℕ → ℕ
 constraintCount b = byteAt b (1 + 2 + 2)
 
+-- how many sections the head calls for: itself, the slots and the rules
+abbrev pub sectionCount : List ℕ → ℕ
+sectionCount b = 1 + variableCount b + constraintCount b
+
 -- a slot's section at `at`: owning kitchen, count, then for each dish a code and a figure
 abbrev pub ownerAt : List ℕ → ℕ → ℕ
 ownerAt b at = byteAt b (at + 2)

@@ -4,7 +4,7 @@ use reader::word_at;
 ghost use mathlib.Core.Path.{_≡_};
 ghost use Prim.Native.Nat.{_<_, _≤_};
 ghost use lib.ListN.{length};
-ghost use Rattle.format.specs.Format.{behind as behindOf, workerCount, variableCount, constraintCount, ownerAt, valueCountAt, codeAt, figureAt};
+ghost use Rattle.format.specs.Format.{behind as behindOf, workerCount, variableCount, constraintCount, sectionCount, ownerAt, valueCountAt, codeAt, figureAt};
 
 // The place behind the section at `at`.
 pub fn behind(b: &[u8], at: usize) -> usize
@@ -33,6 +33,13 @@ pub fn constraint_count(b: &[u8]) -> usize
     ensures { λ r. ⌜ (r ≡ constraintCount (now (b .entry))) × (r < 256) ⌝ }
 {
     byte_at(b, 5)
+}
+
+// How many sections the head calls for.
+pub fn section_count(b: &[u8]) -> usize
+    ensures { λ r. ⌜ (r ≡ sectionCount (now (b .entry))) × (r < 512) ⌝ }
+{
+    1 + variable_count(b) + constraint_count(b)
 }
 
 // A slot's owning kitchen.

@@ -1,30 +1,25 @@
 -- What an accepted plan says of its labels: they fit the regions, each variable has its owner, and linked ones are numbered.
-use Prim.Native.Nat.{ℕ, suc, _+_, _<_, _≤_}
+use Prim.Native.Nat.{ℕ, suc, _<_, _≤_}
 use mathlib.Core.Bool.{Bool, true, _&&_}
 use mathlib.Core.List.{List}
 use mathlib.Core.Option.{none}
 use mathlib.Core.Path.{_≡_, refl, sym, _∙_, ap}
-use native.Mathlib.Numerals.{add-one}
 use native.Mathlib.Omega.{arith}
-use borrow.Author.Tests.{lt-ltb}
 use lib.ListN.{length}
-use Rattle.base.proofs.Bools.{and-intro}
 use Rattle.disac4.specs.System.{systemOf}
-use Rattle.network.specs.Network.{loaded}
 use Rattle.plan.proofs.Parts.{variables-read, variable-read, size-read}
-use Rattle.plan.specs.Decode.{sectionCount, planFault, planOf, variableAt}
+use Rattle.plan.specs.Decode.{planFault, planOf, variableAt}
 use Rattle.format.specs.Format.{sectionStart, variableCount, constraintCount, ownerAt}
 use Rattle.plan.specs.Network.{shareConstraint, networkOf}
 use Rattle.plan.specs.Plan.{Variable}
 use Rattle.plan.specs.WellFormed.{sizeOf}
-use Rattle.index.proofs.Chains.{chain-any}
-use Rattle.index.proofs.Own.{owner-range}
+use Rattle.index.proofs.Nearest.{last-any}
+use Rattle.index.proofs.Owners.{owner-range}
 use Rattle.index.proofs.Pairing.{paired}
-use Rattle.index.proofs.Permitted.{Placed, linked-chain, linked-inside}
-use Rattle.index.proofs.Places.{few-sections, few-values, start-inside}
+use Rattle.index.proofs.Permitted.{linked-chain, linked-inside}
+use Rattle.index.proofs.Places.{few-sections, few-values}
 use Rattle.index.specs.Allowed.{Listed}
-use Rattle.index.specs.Index.{owns, ownLinked, Indexed, Located, Ready}
-use Rattle.cells.specs.Layout.{PLACES}
+use Rattle.index.specs.Index.{over, owns, ownLinked, Indexed, Located, Ready}
 use Rattle.cells.specs.Memory.{Mem, memOf}
 use Rattle.cells.specs.View.{Numbered}
 
@@ -41,29 +36,14 @@ size-is b x = refl
 pub own-linked : (b : List ℕ) (i y x : ℕ) → ownLinked b i y x ≡ owns b i x && shareConstraint (planOf b) x y
 unfolding ownLinked
 own-linked b i y x =
-    ap (λ (t : Bool). owns b i x && t) (chain-any b x y (constraintCount b) ∙ sym (linked-chain b x y))
-
--- a listed label was loaded
-pub listed-loaded : (b : List ℕ) (x v : ℕ) → Listed b x v → loaded (systemOf (planOf b) .net) x v ≡ true
-unfolding loaded
-listed-loaded b x v l =
-    and-intro (lt-ltb x (systemOf (planOf b) .net .variables) (omega (arith, variables-are b)))
-    (lt-ltb v (systemOf (planOf b) .net .size x) (omega (arith, size-is b x)))
+    ap (λ (t : Bool). owns b i x && t) (last-any (over b x y) (constraintCount b) ∙ sym (linked-chain b x y))
 
 -- a plan that is indexed has its sections' places in the cells
 pub located : (b cells : List ℕ) → Ready b cells → Located b cells
 located b cells r = record { sound = r .sound; places = r .index .places; long = r .long }
 
--- a variable's section starts at its place
-pub section-placed : (b cells : List ℕ) → Located b cells → (at x : ℕ) → at ≡ memOf cells PLACES 0 (x + 1) → x < variableCount b
-    → Placed b at (suc x)
-unfolding sectionCount
-section-placed b cells l at x e h =
-    let start : at ≡ sectionStart b (suc x) =
-    e ∙ ap (memOf cells PLACES 0) (add-one x) ∙ l .places (suc x) (omega arith) in
-    record { start = start; within = omega (arith, start-inside b (l .sound) (suc x) (omega arith)) }
-
 module _ (b : List ℕ) (sound : planFault b ≡ none) where
+  -- a label is one of 32 variables and of 16 values
   pub label-small : (x v : ℕ) → Listed b x v → (x < 32) × (v < 16)
   label-small x v l =
       omega (arith, few-sections b sound, few-values b sound x (l .variable), size-read b x (l .variable))

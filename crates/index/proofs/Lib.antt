@@ -1,8 +1,16 @@
+pub mod Accepted
+pub mod Along
 pub mod Chains
+pub mod ConstraintChains
 pub mod CounterRows
+pub mod Ends
 pub mod Kept
 pub mod Labels
+pub mod Leads
+pub mod Nearest
 pub mod Own
+pub mod OwnChains
+pub mod Owners
 pub mod Pairing
 pub mod Permitted
 pub mod Places

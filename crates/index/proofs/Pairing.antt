@@ -9,7 +9,8 @@ use borrow.Author.Tests.{eqb-false, not-true}
 use native.Mathlib.Omega.{arith}
 use lib.Dec.{eqb}
 use Rattle.disac4.specs.System.{systemOf}
-use Rattle.index.proofs.Chains.{Ends, ends, over-ends, chain-low, chain-over, chain-settled}
+use Rattle.index.proofs.Ends.{Ends, ends, over-ends}
+use Rattle.index.proofs.Nearest.{last-low, last-settled, last-passes}
 use Rattle.index.proofs.Permitted.{linked-chain}
 use Rattle.index.proofs.Places.{few-sections}
 use Rattle.index.specs.Index.{over, chainBelow, Indexed, Paired, constraintStart}
@@ -30,8 +31,8 @@ module _ (b : List ℕ) (none-found : planFault b ≡ none) (m : Mem) (index : I
   head-over : (x y c : ℕ) → m HEADS x y ≡ suc c → (c < constraintCount b) × (over b x y c ≡ true)
   head-over x y c e =
       let head : chainBelow b x y (constraintCount b) ≡ suc c = sym (index .heads x y) ∙ e in (
-        omega (arith, chain-low b x y (constraintCount b)),
-        chain-over b x y c (sym (ap (chainBelow b x y) head) ∙ chain-settled b x y (constraintCount b) ∙ head),
+        omega (arith, last-low (over b x y) (constraintCount b)),
+        last-passes (over b x y) c (sym (ap (chainBelow b x y) head) ∙ last-settled (over b x y) (constraintCount b) ∙ head),
       )
 
   same-ends : (x y x′ y′ f s : ℕ) → ((x ≡ f) × (y ≡ s)) ⊎ ((x ≡ s) × (y ≡ f))
@@ -58,6 +59,6 @@ module _ (b : List ℕ) (none-found : planFault b ≡ none) (m : Mem) (index : I
   unfolding systemOf networkOf
   paired = record {
     low = above;
-    high = λ x y e. omega (arith, index .heads x y, chain-low b x y (constraintCount b), few-sections b none-found);
+    high = λ x y e. omega (arith, index .heads x y, last-low (over b x y) (constraintCount b), few-sections b none-found);
     own = λ x y x′ y′ e e′ p. own x y x′ y′ e p;
   }

@@ -1,13 +1,15 @@
--- Where the sections of an accepted plan start: within the plan, and low enough for a cell.
+-- Where the sections of an accepted plan start: within the plan, low enough for a cell, and kept in the cells.
 use Prim.Native.Nat.{ℕ, zero, suc, _+_, _*_, _-_, _<_, _≤_}
 use mathlib.Core.List.{List}
 use mathlib.Core.Logic.{⊎-elim}
 use mathlib.Core.Option.{none}
-use mathlib.Core.Path.{_≡_, ap}
+use mathlib.Core.Path.{_≡_, refl, _∙_, ap}
 use borrow.Author.Tests.{leb-true, eqb-true}
+use native.Mathlib.Nat.{not-suc-le-zero}
 use native.Mathlib.Omega.{arith}
 use lib.Dec.{eqb}
 use lib.ListN.{length}
+use Rattle.base.proofs.Below.{below-cases}
 use Rattle.base.proofs.Bools.{decided}
 use Rattle.base.proofs.Choice.{cond-true, cond-false}
 use Rattle.base.specs.Bytes.{wordAt}
@@ -18,9 +20,13 @@ use Rattle.plan.proofs.Parts.{variables-read, constraints-read, size-read}
 use Rattle.plan.proofs.Sections.{each-section, section-complete}
 use Rattle.plan.proofs.WellFormed.{read-well-formed}
 use Rattle.plan.specs.Check.{firstFault, headChecks, variableChecks, constraintChecks, constraintLength}
-use Rattle.plan.specs.Decode.{sectionCount, planFault, planOf}
-use Rattle.format.specs.Format.{sectionStart, variableCount, constraintCount, valueCountAt, firstAt, kindAt, sizeAt}
+use Rattle.plan.specs.Decode.{planFault, planOf}
+use Rattle.format.specs.Format.{sectionStart, variableCount, constraintCount, sectionCount, valueCountAt, firstAt, kindAt, sizeAt}
 use Rattle.plan.specs.WellFormed.{WellFormed, VariableFits}
+use Rattle.cells.proofs.Stores.{store-same, store-other, store-apart}
+use Rattle.index.specs.Index.{Located, placesM}
+use Rattle.cells.specs.Layout.{PLACES}
+use Rattle.cells.specs.Memory.{Mem, memOf}
 
 module _ (b : List ℕ) (none-found : planFault b ≡ none) where
   fits : WellFormed (planOf b)
@@ -36,7 +42,7 @@ module _ (b : List ℕ) (none-found : planFault b ≡ none) where
 
   -- each section starts within the plan, and the last one ends there
   pub start-inside : (k : ℕ) → k ≤ sectionCount b → sectionStart b k ≤ length b
-  unfolding sectionStart sectionCount
+  unfolding sectionStart
   start-inside zero h = omega (arith, section-complete b 0 (sound-section b none-found 0 (omega arith)))
   start-inside (suc k) h = section-complete b k (sound-section b none-found k h)
 
@@ -78,5 +84,32 @@ module _ (b : List ℕ) (none-found : planFault b ≡ none) where
 
   -- a cell holds each section's start
   pub start-fits : (k : ℕ) → k < sectionCount b → sectionStart b k < 65536
-  unfolding sectionCount
   start-fits k h = omega (arith, start-low k (omega arith), few-sections)
+
+-- ---- in the cells
+
+-- writing the places touches no other region
+pub places-keep : (b : List ℕ) (n : ℕ) (m : Mem) (r i j : ℕ) → (r ≡ PLACES → ⊥) → placesM b n m r i j ≡ m r i j
+unfolding placesM
+places-keep b zero m r i j h = refl
+places-keep b (suc n) m r i j h =
+    store-apart (placesM b n m) PLACES 0 n (sectionStart b n) r i j h ∙ places-keep b n m r i j h
+
+-- and leaves each section's start
+pub places-at : (b : List ℕ) (n : ℕ) (m : Mem) (k : ℕ) → k < n → placesM b n m PLACES 0 k ≡ sectionStart b k
+unfolding placesM
+places-at b zero m k h = absurd (not-suc-le-zero h)
+places-at b (suc n) m k h =
+    ⊎-elim (λ e. rw e (store-same (placesM b n m) PLACES 0 n (sectionStart b n)))
+    (λ l.
+    store-other (placesM b n m) PLACES 0 n (sectionStart b n) PLACES 0 k (λ p q e. omega arith) ∙ places-at b n m k l)
+    (below-cases h)
+
+-- the sections' places are still known where their cells are as they were
+pub located-kept : (b old new : List ℕ) (n : Mem) → Located b old → length new ≡ length old → memOf new ≡ n
+    → ((k : ℕ) → n PLACES 0 k ≡ memOf old PLACES 0 k) → Located b new
+located-kept b old new n l e p same = record {
+  sound = l .sound;
+  places = λ k h. ap (λ (m : Mem). m PLACES 0 k) p ∙ same k ∙ l .places k h;
+  long = omega (arith, l .long);
+}

@@ -10,7 +10,7 @@ use Rattle.plan.specs.Network.{withinLimit}
 use Rattle.plan.specs.WellFormed.{sizeOf}
 
 -- the constraint at `at` permits value `v` of its first variable, at `first`, with value `w` of its second, at
--- `second`
+-- `second`: `permits` of the plan's network said over the bytes; `permits-read` (proofs/Accepted) proves the two equal
 unfoldable pub permitsAt : List ℕ → ℕ → ℕ → ℕ → ℕ → ℕ → Bool
 permitsAt b at first v second w =
     cond (eqb (kindAt b at) 0) (bit (tableRowAt b at v) w)

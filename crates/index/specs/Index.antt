@@ -12,8 +12,8 @@ use Rattle.base.specs.Below.{anyBelow}
 use Rattle.disac4.specs.System.{System, systemOf}
 use Rattle.cells.specs.Layout.{HEADS, PLACES, NEXT, FIRST, FOLLOW}
 use Rattle.cells.specs.Memory.{Mem, memOf, store}
-use Rattle.plan.specs.Decode.{sectionCount, planFault, planOf}
-use Rattle.format.specs.Format.{sectionStart, variableCount, constraintCount, firstAt, secondAt}
+use Rattle.plan.specs.Decode.{planFault, planOf}
+use Rattle.format.specs.Format.{sectionStart, variableCount, constraintCount, sectionCount, firstAt, secondAt}
 use Rattle.plan.specs.Network.{ties}
 use Rattle.plan.specs.WellFormed.{constraintOf}
 
@@ -21,10 +21,14 @@ use Rattle.plan.specs.WellFormed.{constraintOf}
 unfoldable pub over : List ℕ → ℕ → ℕ → ℕ → Bool
 over b x y c = ties (constraintOf (planOf b) c) x y
 
+-- one more than the last of `at 0`, `at 1`, .. before `at n` that passes the test, 0 for none
+unfoldable pub nearest : (ℕ → ℕ) → (ℕ → Bool) → ℕ → ℕ
+nearest at t zero = 0
+nearest at t (suc n) = cond (t (at n)) (suc (at n)) (nearest at t n)
+
 -- one more than the last constraint below `c` that is over `x` and `y`, 0 for none
-unfoldable pub chainBelow : List ℕ → ℕ → ℕ → ℕ → ℕ
-chainBelow b x y zero = 0
-chainBelow b x y (suc c) = cond (over b x y c) (suc c) (chainBelow b x y c)
+abbrev pub chainBelow : List ℕ → ℕ → ℕ → ℕ → ℕ
+chainBelow b x y c = nearest (λ k. k) (over b x y) c
 
 -- row `i` owns variable `x`
 unfoldable pub owns : List ℕ → ℕ → ℕ → Bool
@@ -35,10 +39,8 @@ unfoldable pub ownLinked : List ℕ → ℕ → ℕ → ℕ → Bool
 ownLinked b i y x = owns b i x && anyBelow (constraintCount b) (over b x y)
 
 -- one more than the first of the last `n` variables that row `i` owns and that is linked with `y`, 0 for none
-unfoldable pub nextOwn : List ℕ → ℕ → ℕ → ℕ → ℕ
-nextOwn b i y zero = 0
-nextOwn b i y (suc n) =
-    cond (ownLinked b i y (variableCount b - suc n)) (suc (variableCount b - suc n)) (nextOwn b i y n)
+abbrev pub nextOwn : List ℕ → ℕ → ℕ → ℕ → ℕ
+nextOwn b i y n = nearest (λ k. variableCount b - suc k) (ownLinked b i y) n
 
 -- the memory holds the plan's index
 pub record Indexed (b : List ℕ) (m : Mem) : Type 0 where
@@ -59,6 +61,11 @@ pub record Located (b cells : List ℕ) : Type 0 where
   pub sound : planFault b ≡ none
   pub places : (k : ℕ) → k < sectionCount b → memOf cells PLACES 0 k ≡ sectionStart b k
   pub long : 24576 ≤ length cells
+
+-- `at` is where section `k` starts, within the plan
+pub record Placed (b : List ℕ) (at k : ℕ) : Type 0 where
+  pub start : at ≡ sectionStart b k
+  pub within : at ≤ length b
 
 -- an accepted plan, with its index in the work cells
 pub record Ready (b cells : List ℕ) : Type 0 where

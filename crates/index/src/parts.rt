@@ -1,4 +1,4 @@
-// What the index gives: a variable's owner and number of values, whether two are linked, and the row of their counters.
+// What the index gives: where a section starts, a variable's owner and number of values, whether two are linked, and the row of their counters.
 use cells::layout;
 use format::read;
 ghost use mathlib.Core.List.{List};
@@ -7,19 +7,27 @@ ghost use Prim.Native.Nat.{ℕ, _<_, _≤_};
 ghost use lib.ListN.{length};
 ghost use Rattle.disac4.specs.System.{systemOf};
 ghost use Rattle.plan.specs.Decode.{planOf};
-ghost use Rattle.format.specs.Format.{variableCount};
+ghost use Rattle.format.specs.Format.{variableCount, sectionCount};
 ghost use Rattle.plan.specs.Network.{shareConstraint};
 ghost use Rattle.plan.specs.WellFormed.{sizeOf};
-ghost use Rattle.index.specs.Index.{Indexed, Located, Ready};
+ghost use Rattle.index.specs.Index.{Indexed, Located, Placed, Ready};
 ghost use Rattle.cells.specs.Memory.{memOf};
 ghost use Rattle.cells.specs.View.{Numbered, counterRow};
+
+// Where section k starts.
+pub fn place(b: &[u8], cells: &[u16], k: usize) -> usize
+    requires { ⌜ Located (now b) (now cells) × (k < sectionCount (now b)) ⌝ }
+    ensures { λ r. ⌜ Placed (now (b .entry)) r k ⌝ }
+{
+    layout::get(cells, layout::PLACES, 0, k)
+}
 
 // The worker that owns variable x.
 pub fn owner(b: &[u8], cells: &[u16], x: usize) -> usize
     requires { ⌜ Located (now b) (now cells) × (x < variableCount (now b)) ⌝ }
     ensures { λ r. ⌜ (r ≡ systemOf (planOf (now (b .entry))) .owner x) × (0 < r) × (r ≤ 8) ⌝ }
 {
-    read::owner(b, layout::get(cells, layout::PLACES, 0, x + 1))
+    read::owner(b, place(b, cells, x + 1))
 }
 
 // The row of the counters of x against y.
@@ -48,5 +56,5 @@ pub fn size(b: &[u8], cells: &[u16], x: usize) -> usize
     requires { ⌜ Ready (now b) (now cells) × (x < variableCount (now b)) ⌝ }
     ensures { λ r. ⌜ (r ≡ sizeOf (planOf (now (b .entry))) x) × (r ≤ 16) ⌝ }
 {
-    read::size(b, layout::get(cells, layout::PLACES, 0, x + 1))
+    read::size(b, place(b, cells, x + 1))
 }

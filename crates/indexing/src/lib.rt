@@ -9,15 +9,15 @@ ghost use Prim.Native.Nat.{_<_, _≤_};
 ghost use lib.ListN.{length};
 ghost use Rattle.index.specs.Index.{Located, placesM, linkM, chainsM, leadM, leadsM, ownM, indexM};
 ghost use Rattle.cells.specs.Memory.{memOf};
-ghost use Rattle.plan.specs.Decode.{planFault, sectionCount};
-ghost use Rattle.format.specs.Format.{variableCount, constraintCount};
+ghost use Rattle.plan.specs.Decode.{planFault};
+ghost use Rattle.format.specs.Format.{variableCount, constraintCount, sectionCount};
 
 // Where each section starts.
 fn index_places(b: &[u8], cells: &mut [u16])
     requires { ⌜ (planFault (now b) ≡ none) × (24576 ≤ length (now cells)) ⌝ }
     ensures { λ _. ⌜ memOf (now (cells .exit)) ≡ placesM (now (b .entry)) (sectionCount (now (b .entry))) (memOf (now (cells .entry))) ⌝ }
 {
-    let count = 1 + read::variable_count(b) + read::constraint_count(b);
+    let count = read::section_count(b);
     let mut at = 1;
     let mut k = 0;
     while k < count {
@@ -47,7 +47,7 @@ fn index_chains(b: &[u8], cells: &mut [u16])
     let count = read::constraint_count(b);
     let mut c = 0;
     while c < count {
-        let at = layout::get(cells, layout::PLACES, 0, variables + c + 1);
+        let at = parts::place(b, cells, variables + c + 1);
         link(
             cells,
             constraints::first(b, at) - 1,

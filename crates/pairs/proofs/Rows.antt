@@ -1,6 +1,6 @@
 -- The rows of values that the constraints of a chain permit, and the row that they leave together.
 use Prim.Native.Nat.{ℕ, suc, _+_, _-_, _*_, _/_, _%_, _^_, _<_, _≤_}
-use mathlib.Core.Bool.{Bool, true, false, _&&_, _||_, not}
+use mathlib.Core.Bool.{Bool, true, false, _&&_, _||_}
 use mathlib.Core.List.{List}
 use mathlib.Core.Logic.{⊎-elim}
 use mathlib.Core.Option.{none}
@@ -19,10 +19,11 @@ use Rattle.base.specs.Below.{one}
 use Rattle.base.specs.Bytes.{byteAt, wordAt}
 use Rattle.base.specs.Row.{bit, rowOf}
 use Rattle.format.specs.Format.{variableCount, constraintCount, kindAt, tableRowAt, tableByteAt, limitAt, figureAt}
-use Rattle.index.proofs.Chains.{over-turned}
-use Rattle.index.proofs.Permitted.{acceptsAt, Placed, Along, along-start, along-next, Rest, rest-start, rest-next, permits-table, permits-limit, permitted}
+use Rattle.index.proofs.Accepted.{acceptsAt, permits-table, permits-limit, permitted}
+use Rattle.index.proofs.Along.{Along, along-start, along-next, Rest, rest-start, rest-next}
+use Rattle.index.proofs.Ends.{over-turned}
 use Rattle.index.specs.Allowed.{permitsAt, permitsFrom, limited, inColumn, Listed}
-use Rattle.index.specs.Index.{over, chainBelow}
+use Rattle.index.specs.Index.{over, chainBelow, Placed}
 use Rattle.plan.proofs.Limits.{unrecorded-allows, recorded-judges}
 use Rattle.plan.specs.Decode.{planFault, planOf}
 use Rattle.plan.specs.Network.{unrecorded, withinLimit, spares, accepts, pairAllowed}

@@ -14,7 +14,7 @@ ghost use Rattle.index.specs.Allowed.{permitsFrom, limited, inColumn, Listed};
 ghost use Rattle.index.specs.Index.{Ready};
 ghost use Rattle.network.specs.Network.{supports};
 ghost use Rattle.plan.specs.Decode.{planOf};
-ghost use Rattle.plan.specs.Network.{withinLimit, shareConstraint, pairAllowed, networkOf};
+ghost use Rattle.plan.specs.Network.{withinLimit, shareConstraint, networkOf};
 ghost use Rattle.plan.specs.WellFormed.{sizeOf};
 
 // One more than what a limit leaves beside figure f, and 0 where f is over it.
@@ -107,23 +107,15 @@ pub fn support_row(b: &[u8], cells: &[u16], x: usize, v: usize, y: usize) -> usi
     ensures { λ r. ⌜ r ≡ rowOf (sizeOf (planOf (now (b .entry))) y) (supports (networkOf (planOf (now (b .entry)))) x v y) ⌝ }
 {
     let variables = read::variable_count(b);
-    let here = layout::get(cells, layout::PLACES, 0, x + 1);
-    let there = layout::get(cells, layout::PLACES, 0, y + 1);
+    let here = parts::place(b, cells, x + 1);
+    let there = parts::place(b, cells, y + 1);
     let values = parts::size(b, cells, y);
     let mut row = power(values) - 1;
     let mut next = layout::get(cells, layout::HEADS, x, y);
     while next != 0 {
-        let at = layout::get(cells, layout::PLACES, 0, variables + next);
+        let at = parts::place(b, cells, variables + next);
         row = row & constraint_row(b, at, x < y, here, v, there, values);
         next = layout::get(cells, layout::NEXT, 0, next - 1);
     }
     row
-}
-
-// Whether value v of x and value w of y may stand together, where the two share a constraint.
-pub fn pair_allowed(b: &[u8], cells: &[u16], x: usize, v: usize, y: usize, w: usize) -> bool
-    requires { ⌜ Ready (now b) (now cells) × Listed (now b) x v × Listed (now b) y w × (shareConstraint (planOf (now b)) x y ≡ true) ⌝ }
-    ensures { λ r. ⌜ r ≡ pairAllowed (planOf (now (b .entry))) x v y w ⌝ }
-{
-    row_holds(support_row(b, cells, x, v, y), w)
 }

@@ -12,12 +12,12 @@ use lib.Seq.{getD-set-same, getD-set-other}
 use Rattle.base.proofs.Below.{below-cases, first-at, first-more}
 use Rattle.base.proofs.Choice.{between-high}
 use Rattle.base.specs.Below.{firstBelow}
-use Rattle.format.specs.Format.{behind, sectionStart, variableCount, sizeAt}
+use Rattle.format.specs.Format.{behind, sectionStart, variableCount, sectionCount, sizeAt}
 use Rattle.plan.proofs.Checks.{each-holds}
 use Rattle.plan.proofs.Head.{variables-range}
 use Rattle.plan.proofs.Sections.{passed-before, start-within}
 use Rattle.plan.specs.Check.{firstFault, variableChecks, sectionChecks, faultAt, sectionFault, verdictOf}
-use Rattle.plan.specs.Decode.{sectionCount, trailingFault, sectionsFault}
+use Rattle.plan.specs.Decode.{trailingFault, sectionsFault}
 use Rattle.plan.specs.Fault.{decline}
 use Rattle.sections.specs.Known.{VariablesKnown}
 use Rattle.parser.specs.Known.{PassedBefore}

@@ -94,7 +94,7 @@ pub fn check_sections(b: &[u8]) -> Checked
     requires { ⌜ 1 ≤ length (now b) ⌝ }
     ensures { λ r. ⌜ r ≡ answerOf (now (b .entry)) (sectionsFault (now (b .entry))) ⌝ }
 {
-    let count = 1 + read::variable_count(b) + read::constraint_count(b);
+    let count = read::section_count(b);
     let mut starts = no_starts();
     let mut at = 1;
     let mut k = 0;

@@ -55,7 +55,8 @@ module _ (b : List ℕ) (none-found : planFault b ≡ none) (c : ℕ) (h : c < c
   constraint-holds : (i : ℕ) → getD (constraintChecks b constraint-start) i (true orElse Truncated) .holds ≡ true
   constraint-holds = each-holds (constraintChecks b constraint-start) (constraint-passed b none-found c h)
 
-  in-order : InOrder b constraint-start
+  -- the numbers of its variables are in order
+  pub in-order : InOrder b constraint-start
   unfolding constraintChecks
   in-order = ordered b constraint-start (constraint-holds 3)
 

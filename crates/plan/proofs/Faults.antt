@@ -9,14 +9,14 @@ use borrow.Author.Tests.{ltb-true, ltb-false, eqb-true, eqb-false}
 use lib.Dec.{ltb, eqb}
 use lib.ListN.{length}
 use Rattle.base.proofs.Below.{first-below}
-use Rattle.base.proofs.Choice.{between-low, between-high}
+use Rattle.base.proofs.Choice.{none≢some, between-low, between-high}
 use Rattle.base.specs.Below.{firstBelow}
 use Rattle.base.specs.Bytes.{byteAt}
 use Rattle.base.specs.Choice.{between, firstOf}
-use Rattle.format.specs.Format.{sectionStart, variableCount, constraintCount}
+use Rattle.format.specs.Format.{sectionStart, variableCount, constraintCount, sectionCount}
 use Rattle.plan.proofs.Sections.{section-complete, section-number, section-declines, passed-before, start-within}
 use Rattle.plan.specs.Check.{firstFault, sectionChecks, sectionFault}
-use Rattle.plan.specs.Decode.{sectionCount, planEnd, trailingFault, sectionsFault, planFault, planOf, accepted, declined, decodedAs, decode}
+use Rattle.plan.specs.Decode.{planEnd, trailingFault, sectionsFault, planFault, planOf, accepted, declined, decodedAs, decode}
 use Rattle.plan.specs.Fault.{numberOf, decline}
 use Rattle.plan.specs.Plan.{Plan}
 use Rattle.plan.specs.declared.Decline.{Decline}
@@ -63,10 +63,10 @@ sound-plan b e = go (ending b)
   where
     go : Ending b (planFault b)
         → (byteAt b 0 ≡ 1) × (firstBelow (sectionCount b) (sectionFault b) ≡ none) × (length b ≤ planEnd b)
-    go (empty p q) = let z : _≡_ {A = ℕ} 0 1 = cc in absurd (omega arith)
-    go (version p q r) = let z : _≡_ {A = ℕ} 0 1 = cc in absurd (omega arith)
-    go (section p j q r d s t) = let z : _≡_ {A = ℕ} 0 1 = cc in absurd (omega arith)
-    go (trailing p q) = let z : _≡_ {A = ℕ} 0 1 = cc in absurd (omega arith)
+    go (empty p q) = none≢some (sym e ∙ q)
+    go (version p q r) = none≢some (sym e ∙ r)
+    go (section p j q r d s t) = none≢some (sym e ∙ t)
+    go (trailing p q) = none≢some (sym e ∙ q)
     go (sound p q r s) = (p, q, r)
 
 -- a plan without fault has passed the checks of each of its sections
@@ -75,7 +75,7 @@ sound-section b e = passed-before b (sectionCount b) (sound-plan b e .1)
 
 -- a plan without fault ends where its last section ends
 pub sound-end : (b : List ℕ) → planFault b ≡ none → planEnd b ≡ length b
-unfolding planEnd sectionCount
+unfolding planEnd
 sound-end b e =
     let last : ℕ = variableCount b + constraintCount b in
     let count : suc last ≡ 1 + variableCount b + constraintCount b = omega arith in
@@ -123,7 +123,7 @@ place-within b d e = go (ending b)
     go (version p q r) = omega (arith, place-of (decline BadVersion 0) r)
     go (section p k q r c s t) = omega (arith, place-of c t, start-within b p k (passed-before b k r), section-declines b k c s .1)
     go (trailing p q) = omega (arith, place-of (decline TrailingBytes (planEnd b)) q)
-    go (sound p q r s) = let z : _≡_ {A = ℕ} 0 1 = cc (decode-fault b d e) in absurd (omega arith)
+    go (sound p q r s) = none≢some (sym s ∙ decode-fault b d e)
 
 -- the plan check alone gives the numbers 1 to 8
 pub number-within : (b : List ℕ) (d : Decline) → decode b ≡ declined d
@@ -142,7 +142,7 @@ number-within b d e = go (ending b)
         omega
         (arith, number-of c t, between-low 1 7 (numberOf (c .fault)) h, between-high 1 7 (numberOf (c .fault)) h)
     go (trailing p q) = omega (arith, number-of (decline TrailingBytes (planEnd b)) q)
-    go (sound p q r s) = let z : _≡_ {A = ℕ} 0 1 = cc (decode-fault b d e) in absurd (omega arith)
+    go (sound p q r s) = none≢some (sym s ∙ decode-fault b d e)
 
 -- a plan without a fault is accepted
 pub decoded : (b : List ℕ) → planFault b ≡ none → decode b ≡ accepted (planOf b)

@@ -8,17 +8,17 @@ use borrow.Author.Tests.{le-leb, lt-leb, ne-eqb}
 use Rattle.format.specs.Format.{sectionStart, variableCount, constraintCount}
 use Rattle.plan.proofs.Faults.{sound-section}
 use Rattle.plan.specs.Check.{firstFault, headChecks, variableChecks, constraintChecks, sectionChecks}
-use Rattle.plan.specs.Decode.{sectionCount, planFault}
+use Rattle.plan.specs.Decode.{planFault}
 
 module _ (b : List ℕ) (none-found : planFault b ≡ none) where
   -- the head has passed its checks
   pub head-passed : firstFault (headChecks b (sectionStart b 0)) ≡ none
-  unfolding sectionChecks sectionCount
+  unfolding sectionChecks
   head-passed = sound-section b none-found 0 (omega arith)
 
   -- each variable's section has passed its checks
   pub variable-passed : (x : ℕ) → x < variableCount b → firstFault (variableChecks b (sectionStart b (suc x))) ≡ none
-  unfolding sectionChecks sectionCount
+  unfolding sectionChecks
   variable-passed x h =
       rw (ne-eqb (suc x) 0 (omega arith), le-leb (suc x) (variableCount b) h) at
       (sound-section b none-found (suc x) (omega arith))
@@ -26,7 +26,7 @@ module _ (b : List ℕ) (none-found : planFault b ≡ none) where
   -- each constraint's section has passed its checks
   pub constraint-passed : (c : ℕ) → c < constraintCount b
       → firstFault (constraintChecks b (sectionStart b (suc (variableCount b + c)))) ≡ none
-  unfolding sectionChecks sectionCount
+  unfolding sectionChecks
   constraint-passed c h =
       rw (ne-eqb (suc (variableCount b + c)) 0 (omega arith), lt-leb (suc (variableCount b + c)) (variableCount b) (omega arith)) at
       (sound-section b none-found (suc (variableCount b + c)) (omega arith))

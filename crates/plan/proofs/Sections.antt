@@ -5,11 +5,11 @@ use mathlib.Core.List.{List}
 use mathlib.Core.Option.{Option, none, some}
 use mathlib.Core.Path.{_≡_, refl, sym, _∙_, ap}
 use native.Mathlib.Nat.{le-refl}
-use native.Mathlib.Omega.{arith}
 use borrow.Author.Tests.{leb-true}
 use lib.Dec.{leb, eqb}
 use lib.ListN.{length}
 use Rattle.base.proofs.Below.{none-first}
+use Rattle.base.proofs.Choice.{none≢some}
 use Rattle.base.specs.Below.{firstBelow}
 use Rattle.base.specs.Choice.{allOf, between}
 use Rattle.format.specs.Format.{sectionStart, variableCount}
@@ -56,10 +56,7 @@ section-declines b k d e = go (firstFault (sectionChecks b k)) refl
   where
     go : (o : Option Fault) → firstFault (sectionChecks b k) ≡ o
         → (firstFault (sectionChecks b k) ≡ some (d .fault)) × (d .place ≡ sectionStart b k)
-    go none p =
-        let q : none ≡ some d = ap (faultAt (sectionStart b k)) (sym p) ∙ e in
-        let z : _≡_ {A = ℕ} 0 1 = cc in
-        absurd (omega arith)
+    go none p = none≢some (ap (faultAt (sectionStart b k)) (sym p) ∙ e)
     go (some f) p =
         let q : some (decline f (sectionStart b k)) ≡ some d = ap (faultAt (sectionStart b k)) (sym p) ∙ e in
         let r : decline f (sectionStart b k) ≡ d = cc in
@@ -72,10 +69,7 @@ section-passes b k e = go (firstFault (sectionChecks b k)) refl
   where
     go : (o : Option Fault) → firstFault (sectionChecks b k) ≡ o → firstFault (sectionChecks b k) ≡ none
     go none p = p
-    go (some f) p =
-        let q : some (decline f (sectionStart b k)) ≡ none = ap (faultAt (sectionStart b k)) (sym p) ∙ e in
-        let z : _≡_ {A = ℕ} 0 1 = cc in
-        absurd (omega arith)
+    go (some f) p = none≢some (sym e ∙ ap (faultAt (sectionStart b k)) p)
 
 -- the sections before the first fault pass their checks
 pub passed-before : (b : List ℕ) (k : ℕ) → firstBelow k (sectionFault b) ≡ none → (i : ℕ) → i < k

@@ -8,16 +8,12 @@ use lib.ListN.{length}
 use Rattle.base.specs.Below.{firstBelow, listBelow}
 use Rattle.base.specs.Bytes.{byteAt}
 use Rattle.base.specs.Choice.{firstOf}
-use Rattle.format.specs.Format.{sectionStart, workerCount, variableCount, constraintCount, ownerAt, valueCountAt, codeAt, figureAt, firstAt, secondAt, kindAt, tableRowAt, limitAt, sizeAt}
+use Rattle.format.specs.Format.{sectionStart, workerCount, variableCount, constraintCount, sectionCount, ownerAt, valueCountAt, codeAt, figureAt, firstAt, secondAt, kindAt, tableRowAt, limitAt, sizeAt}
 use Rattle.plan.specs.Check.{sectionFault}
 use Rattle.plan.specs.Fault.{decline}
 use Rattle.plan.specs.Plan.{Variable, Relation, table, sumLimit, Constraint, Plan}
 use Rattle.plan.specs.declared.Decline.{Decline}
 use Rattle.plan.specs.declared.Fault.the-variants.{Truncated, BadVersion, TrailingBytes}
-
--- how many sections the head calls for
-unfoldable pub sectionCount : List ℕ → ℕ
-sectionCount b = 1 + variableCount b + constraintCount b
 
 -- where the last rule ends
 unfoldable pub planEnd : List ℕ → ℕ

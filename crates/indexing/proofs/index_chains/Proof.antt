@@ -1,19 +1,21 @@
 -- `indexing::index_chains` writes the chains. Invariant: those of the first c constraints are written. Assumes nothing.
-use Prim.Native.Nat.{ℕ, suc, _+_, _-_, _<_, _≤_}
+use Prim.Native.Nat.{ℕ, _-_, _<_, _≤_}
 use borrow.Author.Needs.{needs}
 use denote.Ref.{now}
-use mathlib.Core.Path.{_≡_, refl, sym, _∙_, ap, subst}
+use mathlib.Core.Path.{_≡_, refl, sym, _∙_, ap, ap₂, subst}
 use native.Mathlib.Omega.{arith}
 use lib.ListN.{length}
-use Rattle.index.proofs.Chains.{in-order, chains-more, place-found}
-use Rattle.index.proofs.Places.{few-sections, start-inside}
+use Rattle.index.proofs.ConstraintChains.{chains-keep}
+use Rattle.index.proofs.Places.{few-sections, located-kept}
 use Rattle.indexing.proofs.index_chains.Statement.{statement}
 use Rattle.indexing.proofs.index_chains.Tie as tie
-use Rattle.index.specs.Index.{constraintStart, chainsM}
+use Rattle.index.specs.Index.{Located, constraintStart, linkM, chainsM}
+use Rattle.cells.proofs.Stores.{one-more}
+use Rattle.cells.specs.Layout.{PLACES}
 use Rattle.cells.specs.Memory.{memOf}
+use Rattle.plan.proofs.Constraints.{in-order}
 use Rattle.plan.proofs.InOrder.{InOrder}
-use Rattle.plan.specs.Decode.{sectionCount}
-use Rattle.format.specs.Format.{variableCount, constraintCount, firstAt, secondAt}
+use Rattle.format.specs.Format.{sectionStart, variableCount, constraintCount, firstAt, secondAt}
 
 abbrev Inv-loop : tie.InvT-loop
 Inv-loop b cells₀ variables count c₀ cells c =
@@ -29,8 +31,15 @@ variable-count-requires c κs = search needs
 constraint-count-requires : tie.Need-constraint-count-requires Inv-loop μ-loop
 constraint-count-requires c κs = search needs
 
--- the constraint's place: it is in the plan, and the numbers of the constraint's variables are in order
-module _ (c : tie.After-get Inv-loop μ-loop) where
+-- while the chains grow, the sections' places are known
+places-known : (l : tie.At-loop Inv-loop μ-loop) → Located (now (l .before .before .before .before .before .args .b)) (l .loop .cells)
+places-known l =
+    let s = l .before .before .before .before .before in
+    located-kept (now (s .args .b)) (now (s .args .cells)) (l .loop .cells) _ (s .pre) (l .loop .inv .4) (l .loop .inv .3)
+    (λ k. chains-keep (now (s .args .b)) (l .loop .c) _ PLACES 0 k (λ e. omega arith) (λ e. omega arith))
+
+-- the constraint's place, and that the numbers of its variables are in order
+module _ (c : tie.After-place Inv-loop μ-loop) where
   abbrev l : tie.At-loop Inv-loop μ-loop
   l = c .before .before .before
 
@@ -40,19 +49,10 @@ module _ (c : tie.After-get Inv-loop μ-loop) where
   listed : l .loop .c < constraintCount (now (s .args .b))
   listed = omega (arith, l .loop .inv, c .before .before .loop-test .taken)
 
-  found : c .get .result ≡ constraintStart (now (s .args .b)) (l .loop .c)
-  found =
-      place-found (now (s .args .b)) (l .before .before .variable-count .result) (l .loop .c) (c .get .result)
-      (memOf (now (s .args .cells))) (memOf (l .loop .cells)) (s .pre .places) (l .loop .inv .3) (l .loop .inv .1) listed
-      (c .get .ensures .0)
+  found : c .place .result ≡ constraintStart (now (s .args .b)) (l .loop .c)
+  found = c .place .ensures .start ∙ ap (sectionStart (now (s .args .b))) (omega (arith, l .loop .inv .1))
 
-  inside : c .get .result ≤ length (now (s .args .b))
-  unfolding sectionCount
-  inside =
-      let b = now (s .args .b) in
-      omega (arith, found, start-inside b (s .pre .sound) (suc (variableCount b + l .loop .c)) (omega (arith, listed)))
-
-  numbers : InOrder (now (s .args .b)) (c .get .result)
+  numbers : InOrder (now (s .args .b)) (c .place .result)
   numbers =
       subst (InOrder (now (s .args .b))) (sym found) (in-order (now (s .args .b)) (s .pre .sound) (l .loop .c) listed)
 
@@ -60,41 +60,33 @@ loop-holds : tie.Need-loop-holds Inv-loop μ-loop
 unfolding chainsM
 loop-holds c = (omega arith, c .before .variable-count .ensures .0, c .constraint-count .ensures .0, refl, refl)
 
-add-get : tie.Need-add-get Inv-loop μ-loop
-add-get c =
+add-place : tie.Need-add-place Inv-loop μ-loop
+add-place c =
     let l = c .before .before in
     let s = l .before .before .before .before .before in
     let few = few-sections (now (s .args .b)) (s .pre .sound) in
     omega (arith, l .loop .inv)
 
-add-get-2 : tie.Need-add-get-2 Inv-loop μ-loop
-add-get-2 c =
+add-place-2 : tie.Need-add-place-2 Inv-loop μ-loop
+add-place-2 c =
     let l = c .before .before in
     let s = l .before .before .before .before .before in
     let few = few-sections (now (s .args .b)) (s .pre .sound) in
     omega (arith, l .loop .inv)
 
-get-requires : tie.Need-get-requires Inv-loop μ-loop
-get-requires c κs =
+place-requires : tie.Need-place-requires Inv-loop μ-loop
+place-requires c κs =
     let l = c .before .before in
-    let s = l .before .before .before .before .before in
-    let few = few-sections (now (s .args .b)) (s .pre .sound) in
-    record {
-      known = refl;
-      writable = omega arith;
-      row = omega arith;
-      col = omega (arith, l .loop .inv);
-      long = omega (arith, l .loop .inv, s .pre .long);
-    }
+    (places-known l, omega (arith, l .loop .inv, c .before .loop-test .taken))
 
 first-requires : tie.Need-first-requires Inv-loop μ-loop
-first-requires c κs = inside (c .before)
+first-requires c κs = c .before .place .ensures .within
 
 sub-link : tie.Need-sub-link Inv-loop μ-loop
 sub-link c = omega (arith, numbers (c .before .before), c .first .ensures)
 
 second-requires : tie.Need-second-requires Inv-loop μ-loop
-second-requires c κs = inside (c .before .before)
+second-requires c κs = c .before .before .place .ensures .within
 
 sub-link-2 : tie.Need-sub-link-2 Inv-loop μ-loop
 sub-link-2 c = omega (arith, numbers (c .before .before .before), c .second .ensures)
@@ -118,6 +110,7 @@ loop-less : tie.Need-loop-less Inv-loop μ-loop
 loop-less c = search needs
 
 loop-again : tie.Need-loop-again Inv-loop μ-loop
+unfolding chainsM
 loop-again c =
     let g = c .before .before .before .before .before .before in
     let inv = l g .loop .inv in
@@ -126,10 +119,13 @@ loop-again c =
       omega arith,
       inv .1,
       inv .2,
-      chains-more b (l g .loop .c) (c .before .before .before .before .first .result) (c .before .before .before .second .result)
-          (memOf (now (s g .args .cells))) (memOf (l g .loop .cells)) (memOf (link .last .0)) (inv .3)
+      one-more (λ n. chainsM b n (memOf (now (s g .args .cells))))
+          (linkM (firstAt b (constraintStart b (l g .loop .c)) - 1) (secondAt b (constraintStart b (l g .loop .c)) - 1) (l g .loop .c))
+          (l g .loop .c) _ _ refl (inv .3)
+          (link .ensures
+          ∙ ap₂ (λ (x y : ℕ). linkM (x - 1) (y - 1) (l g .loop .c) (memOf (l g .loop .cells)))
           (c .before .before .before .before .first .ensures .0 ∙ ap (firstAt b) (found g))
-          (c .before .before .before .second .ensures .0 ∙ ap (secondAt b) (found g)) (link .ensures),
+          (c .before .before .before .second .ensures .0 ∙ ap (secondAt b) (found g))),
       link .kept .0 ∙ inv .4,
     )
 
@@ -153,9 +149,9 @@ index-chains-spec =
     variable-count-requires
     constraint-count-requires
     loop-holds
-    add-get
-    add-get-2
-    get-requires
+    add-place
+    add-place-2
+    place-requires
     first-requires
     sub-link
     second-requires

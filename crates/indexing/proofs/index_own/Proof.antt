@@ -9,8 +9,9 @@ use lib.ListN.{length}
 use Rattle.cells.specs.Layout.{PLACES}
 use Rattle.cells.specs.Memory.{Mem, memOf}
 use Rattle.format.specs.Format.{variableCount}
-use Rattle.index.proofs.Own.{leads-same, located-kept, own-start, own-more}
-use Rattle.index.proofs.Places.{few-sections}
+use Rattle.index.proofs.Leads.{leads-same}
+use Rattle.index.proofs.OwnChains.{own-start, own-more}
+use Rattle.index.proofs.Places.{few-sections, located-kept}
 use Rattle.indexing.proofs.index_own.Statement.{statement}
 use Rattle.indexing.proofs.index_own.Tie as tie
 use Rattle.index.specs.Index.{Located, ownM}

@@ -7,14 +7,15 @@ use mathlib.Core.Path.{_≡_, refl, _∙_, ap}
 use native.Mathlib.Numerals.{add-one}
 use native.Mathlib.Omega.{arith}
 use lib.ListN.{length}
-use Rattle.index.proofs.Chains.{places-more}
+use Rattle.cells.proofs.Ranges.{may-put}
+use Rattle.cells.proofs.Stores.{one-more}
 use Rattle.index.proofs.Places.{few-sections, start-inside, start-fits}
 use Rattle.indexing.proofs.index_places.Statement.{statement}
 use Rattle.indexing.proofs.index_places.Tie as tie
 use Rattle.index.specs.Index.{placesM}
-use Rattle.cells.specs.Memory.{memOf}
-use Rattle.plan.specs.Decode.{sectionCount}
-use Rattle.format.specs.Format.{behind, sectionStart}
+use Rattle.cells.specs.Layout.{PLACES}
+use Rattle.cells.specs.Memory.{memOf, store}
+use Rattle.format.specs.Format.{behind, sectionStart, sectionCount}
 
 abbrev Inv-loop : tie.InvT-loop
 Inv-loop b cells₀ count at₀ k₀ cells at k =
@@ -24,48 +25,31 @@ Inv-loop b cells₀ count at₀ k₀ cells at k =
 abbrev μ-loop : tie.MeasureT-loop
 μ-loop b cells₀ count at₀ k₀ cells at k = count - k
 
-variable-count-requires : tie.Need-variable-count-requires Inv-loop μ-loop
-variable-count-requires c κs = search needs
-
-add-count : tie.Need-add-count Inv-loop μ-loop
-add-count c = search needs
-
-constraint-count-requires : tie.Need-constraint-count-requires Inv-loop μ-loop
-constraint-count-requires c κs = search needs
-
-add-count-2 : tie.Need-add-count-2 Inv-loop μ-loop
-add-count-2 c = search needs
+section-count-requires : tie.Need-section-count-requires Inv-loop μ-loop
+section-count-requires c κs = search needs
 
 loop-holds : tie.Need-loop-holds Inv-loop μ-loop
-unfolding sectionCount sectionStart placesM
-loop-holds c = (
-  omega arith,
-  omega (arith, c .before .variable-count .ensures, c .constraint-count .ensures),
-  refl,
-  refl,
-  refl,
-)
+unfolding sectionStart placesM
+loop-holds c = (omega arith, c .section-count .ensures .0, refl, refl, refl)
 
 put-requires : tie.Need-put-requires Inv-loop μ-loop
-unfolding sectionCount
 put-requires c κs =
     let l = c .before .before in
-    let s = l .before .before .before .before .before in
-    let few = few-sections (now (s .args .b)) (s .pre .0) in (
-      record {
-        known = refl;
-        writable = omega arith;
-        row = omega arith;
-        col = omega (arith, l .loop .inv);
-        long = omega (arith, l .loop .inv, s .pre);
-      },
-      omega (arith, start-fits (now (s .args .b)) (s .pre .0) (l .loop .k) (omega (arith, l .loop .inv)), l .loop .inv),
-    )
+    let s = l .before .before .before .before in
+    let b = now (s .args .b) in
+    may-put _ _ _ refl _ _
+    (omega (
+      arith,
+      l .loop .inv,
+      s .pre,
+      few-sections b (s .pre .0),
+      start-fits b (s .pre .0) (l .loop .k) (omega (arith, l .loop .inv)),
+    ))
 
 behind-requires : tie.Need-behind-requires Inv-loop μ-loop
 behind-requires c κs =
     let l = c .before .before .before .before .before in
-    let s = l .before .before .before .before .before in
+    let s = l .before .before .before .before in
     omega (arith, start-inside (now (s .args .b)) (s .pre .0) (l .loop .k) (omega (arith, l .loop .inv)), l .loop .inv)
 
 add-k : tie.Need-add-k Inv-loop μ-loop
@@ -75,17 +59,18 @@ loop-less : tie.Need-loop-less Inv-loop μ-loop
 loop-less c = search needs
 
 loop-again : tie.Need-loop-again Inv-loop μ-loop
-unfolding sectionStart
+unfolding sectionStart placesM
 loop-again c =
     let l = c .before .before .before .before .before .before in
-    let s = l .before .before .before .before .before in
+    let s = l .before .before .before .before in
     let b = now (s .args .b) in
     let put = c .before .before .before .put in (
       omega arith,
       l .loop .inv .1,
       rw add-one (c .behind .ensures ∙ ap (behind b) (l .loop .inv .2)),
-      places-more b (l .loop .k) (l .loop .at) (memOf (now (s .args .cells))) (memOf (l .loop .cells)) (memOf (put .last .0))
-          (l .loop .inv .3) (l .loop .inv .2) (put .ensures),
+      one-more (λ n. placesM b n (memOf (now (s .args .cells)))) (λ m. store m PLACES 0 (l .loop .k) (sectionStart b (l .loop .k)))
+          (l .loop .k) _ _ refl (l .loop .inv .3)
+          (put .ensures ∙ ap (store (memOf (l .loop .cells)) PLACES 0 (l .loop .k)) (l .loop .inv .2)),
       put .kept .0 ∙ l .loop .inv .4,
     )
 
@@ -95,7 +80,7 @@ same-length c = c .before .loop .inv .4
 returns : tie.Need-returns Inv-loop μ-loop
 returns c =
     let l = c .before in
-    let s = l .before .before .before .before .before in
+    let s = l .before .before .before .before in
     let b = now (s .args .b) in
     let e : l .loop .k ≡ sectionCount b = omega (arith, l .loop .inv, c .loop-test .left) in
     l .loop .inv .3 ∙ ap (λ (k : ℕ). placesM b k (memOf (now (s .args .cells)))) e
@@ -106,10 +91,7 @@ index-places-spec =
     (tie.spec
     Inv-loop
     μ-loop
-    variable-count-requires
-    add-count
-    constraint-count-requires
-    add-count-2
+    section-count-requires
     loop-holds
     put-requires
     behind-requires

@@ -5,15 +5,14 @@ use denote.Ref.{now}
 use mathlib.Core.List.{List}
 use mathlib.Core.Path.{_∙_, ap}
 use native.Mathlib.Omega.{arith}
-use Rattle.index.proofs.Chains.{places-at, chains-keep}
-use Rattle.index.proofs.Own.{located-kept}
+use Rattle.index.proofs.ConstraintChains.{chains-keep}
+use Rattle.index.proofs.Places.{places-at, located-kept}
 use Rattle.indexing.proofs.index_plan.Statement.{statement}
 use Rattle.indexing.proofs.index_plan.Tie as tie
 use Rattle.index.specs.Index.{Located, chainsM, ownM, indexM}
 use Rattle.cells.specs.Layout.{PLACES}
 use Rattle.cells.specs.Memory.{Mem, memOf}
-use Rattle.plan.specs.Decode.{sectionCount}
-use Rattle.format.specs.Format.{variableCount, constraintCount}
+use Rattle.format.specs.Format.{variableCount, constraintCount, sectionCount}
 
 index-places-requires : tie.Need-index-places-requires
 index-places-requires c κs = search needs

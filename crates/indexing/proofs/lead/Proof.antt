@@ -5,7 +5,7 @@ use mathlib.Core.Path.{refl}
 use native.Mathlib.Omega.{arith}
 use Rattle.cells.proofs.Ranges.{may-put}
 use Rattle.cells.specs.Memory.{memOf}
-use Rattle.index.proofs.Own.{lead-passed, lead-put}
+use Rattle.index.proofs.Leads.{lead-passed, lead-put}
 use Rattle.indexing.proofs.lead.Statement.{statement}
 use Rattle.indexing.proofs.lead.Tie as tie
 

@@ -1,13 +1,14 @@
 -- `indexing::leads` puts a variable in front of a row's chains. Invariant: in front of those for the first y. Assumes nothing.
 use Prim.Native.Nat.{_-_, _≤_}
+use denote.Ref.{now}
 use mathlib.Core.Path.{_≡_, refl, _∙_}
 use native.Mathlib.Omega.{arith}
 use lib.ListN.{length}
 use Rattle.cells.specs.Memory.{memOf}
-use Rattle.index.proofs.Own.{leads-more}
+use Rattle.cells.proofs.Stores.{one-more}
 use Rattle.indexing.proofs.leads.Statement.{statement}
 use Rattle.indexing.proofs.leads.Tie as tie
-use Rattle.index.specs.Index.{leadsM}
+use Rattle.index.specs.Index.{leadM, leadsM}
 
 abbrev Inv-loop : tie.InvT-loop
 Inv-loop cells₀ i x n y₀ cells y = (y ≤ n) × (length cells ≡ length cells₀) × (memOf cells ≡ leadsM i x y (memOf cells₀))
@@ -29,13 +30,15 @@ loop-less : tie.Need-loop-less Inv-loop μ-loop
 loop-less c = omega arith
 
 loop-again : tie.Need-loop-again Inv-loop μ-loop
+unfolding leadsM
 loop-again c =
     let p = c .before .before in
     let l = p .before .before .before in
     let a = l .before .before .args in (
       omega arith,
       p .lead .kept .0 ∙ l .loop .inv .1,
-      leads-more (a .i) (a .x) (l .loop .y) _ _ _ (l .loop .inv .2) (p .lead .ensures),
+      one-more (λ y. leadsM (a .i) (a .x) y (memOf (now (a .cells)))) (leadM (a .i) (a .x) (l .loop .y)) (l .loop .y) _ _ refl
+          (l .loop .inv .2) (p .lead .ensures),
     )
 
 same-length : tie.Need-same-length Inv-loop μ-loop

@@ -1,12 +1,15 @@
 -- `indexing::link` puts a constraint in front of the chain of its two variables. Assumes nothing.
+use Prim.Native.Nat.{_+_}
 use borrow.Author.Needs.{needs}
 use denote.Ref.{now}
-use mathlib.Core.Path.{refl}
+use mathlib.Core.Path.{refl, _∙_, ap}
 use native.Mathlib.Omega.{arith}
-use Rattle.index.proofs.Chains.{link-made}
+use Rattle.cells.proofs.Ranges.{may-put}
+use Rattle.cells.specs.Layout.{HEADS, NEXT}
 use Rattle.indexing.proofs.link.Statement.{statement}
 use Rattle.indexing.proofs.link.Tie as tie
-use Rattle.cells.specs.Memory.{memOf}
+use Rattle.cells.specs.Memory.{Mem, memOf, store}
+use Rattle.index.specs.Index.{linkM}
 
 get-requires : tie.Need-get-requires
 get-requires c κs = search needs
@@ -18,43 +21,32 @@ add-put : tie.Need-add-put
 add-put c = search needs
 
 put-requires-2 : tie.Need-put-requires-2
-put-requires-2 c κs = (
-  record {
-    known = refl;
-    writable = search needs;
-    row = search needs;
-    col = search needs;
-    long = omega (arith, c .before .before .before .put .kept .0);
-  },
-  omega arith,
-)
+put-requires-2 c κs = may-put _ _ _ refl _ _ (omega (arith, c .before .before .before .put .kept .0))
 
 add-put-2 : tie.Need-add-put-2
 add-put-2 c = search needs
 
 put-requires-3 : tie.Need-put-requires-3
-put-requires-3 c κs = (
-  record {
-    known = refl;
-    writable = search needs;
-    row = search needs;
-    col = search needs;
-    long = omega (arith, c .before .before .before .put2 .kept .0, c .before .before .before .before .before .before .before .put .kept .0);
-  },
-  omega arith,
-)
+put-requires-3 c κs =
+    let p = c .before .before .before in
+    may-put _ _ _ refl _ _ (omega (arith, p .put2 .kept .0, p .before .before .before .before .put .kept .0))
 
 same-length : tie.Need-same-length
 same-length c = search needs
 
 returns : tie.Need-returns
+unfolding linkM
 returns c =
-    let s = c .before .before .before .before .before .before .before .before .before .before .before .before .before .before .before in
-    link-made (s .args .x) (s .args .y) (s .args .c) _ (memOf (now (s .args .cells))) _ _ _
-    (c .before .before .before .before .before .before .before .before .before .before .before .before .get .ensures .0)
-    (c .before .before .before .before .before .before .before .before .before .before .put .ensures)
-    (c .before .before .before .before .before .before .put2 .ensures)
-    (c .before .before .put3 .ensures)
+    let q = c .before .before in
+    let p = q .before .before .before .before in
+    let n = p .before .before .before .before in
+    let g = n .before .before in
+    let a = g .before .before .before .args in
+    q .put3 .ensures
+    ∙ ap (λ (m : Mem). store m HEADS (a .y) (a .x) (a .c + 1))
+    (p .put2 .ensures
+    ∙ ap (λ (m : Mem). store m HEADS (a .x) (a .y) (a .c + 1))
+    (n .put .ensures ∙ ap (store (memOf (now (a .cells))) NEXT 0 (a .c)) (g .get .ensures .0)))
 
 pub link-spec : {M : Type 1} → statement M
 link-spec =

@@ -7,19 +7,24 @@ use lib.Dec.{ltb}
 use lib.Pow.{pow-pos}
 use mathlib.Core.Bool.{true}
 use mathlib.Core.List.{List}
-use mathlib.Core.Path.{_≡_, sym, _∙_, ap}
+use mathlib.Core.Path.{_≡_, refl, sym, _∙_, ap, subst}
+use native.Mathlib.Numerals.{add-one}
 use native.Mathlib.Omega.{arith}
 use Rattle.base.specs.Row.{bit, rowOf}
 use Rattle.format.specs.Format.{variableCount, constraintCount}
-use Rattle.index.proofs.Chains.{chain-low}
-use Rattle.index.proofs.Permitted.{acceptsAt, Placed, placed, variable-placed, place-fits, variable-fits, head-fits, next-fits, along-over, value-small, linked-inside, supports-allowed}
+use Rattle.cells.proofs.Ranges.{may-get}
+use Rattle.index.proofs.Accepted.{acceptsAt}
+use Rattle.index.proofs.Along.{along-over}
+use Rattle.index.proofs.Labels.{located, label-small}
+use Rattle.index.proofs.Nearest.{last-low}
+use Rattle.index.proofs.Permitted.{linked-inside, supports-allowed}
 use Rattle.index.proofs.Places.{few-sections}
 use Rattle.pairs.proofs.Rows.{permitted-from, Left, left-start, left-here, left-next, left-all}
 use Rattle.pairs.proofs.support_row.Statement.{statement}
 use Rattle.pairs.proofs.support_row.Tie as tie
 use Rattle.index.specs.Allowed.{permitsFrom}
-use Rattle.index.specs.Index.{over, chainBelow}
-use Rattle.plan.specs.Decode.{sectionCount, planOf}
+use Rattle.index.specs.Index.{over, chainBelow, Placed}
+use Rattle.plan.specs.Decode.{planOf}
 use Rattle.plan.specs.Network.{pairAllowed}
 use Rattle.plan.specs.WellFormed.{sizeOf}
 
@@ -39,23 +44,23 @@ module _ (s : tie.Start Inv-loop μ-loop) where
 variable-count-requires : tie.Need-variable-count-requires Inv-loop μ-loop
 variable-count-requires c κs = search needs
 
-add-get : tie.Need-add-get Inv-loop μ-loop
-add-get c = omega (arith, few (c .before .before .before))
+add-place : tie.Need-add-place Inv-loop μ-loop
+add-place c = omega (arith, few (c .before .before .before))
 
-get-requires : tie.Need-get-requires Inv-loop μ-loop
-get-requires c κs =
+place-requires : tie.Need-place-requires Inv-loop μ-loop
+place-requires c κs =
     let s = c .before .before .before in
-    variable-fits (now (s .args .b)) (now (s .args .cells)) (s .pre .0) (s .args .x) (s .pre .1 .variable)
+    (located (now (s .args .b)) (now (s .args .cells)) (s .pre .0), omega (arith, s .pre .1 .variable))
 
-add-get-2 : tie.Need-add-get-2 Inv-loop μ-loop
-add-get-2 c =
+add-place-2 : tie.Need-add-place-2 Inv-loop μ-loop
+add-place-2 c =
     let s = c .before .before .before .before in
     omega (arith, few s, inside s)
 
-get-requires-2 : tie.Need-get-requires-2 Inv-loop μ-loop
-get-requires-2 c κs =
+place-requires-2 : tie.Need-place-requires-2 Inv-loop μ-loop
+place-requires-2 c κs =
     let s = c .before .before .before .before in
-    variable-fits (now (s .args .b)) (now (s .args .cells)) (s .pre .0) (s .args .y) (inside s)
+    (located (now (s .args .b)) (now (s .args .cells)) (s .pre .0), omega (arith, inside s))
 
 size-requires : tie.Need-size-requires Inv-loop μ-loop
 size-requires c κs =
@@ -68,16 +73,16 @@ power-requires c κs = omega (arith, c .size .ensures)
 sub-row : tie.Need-sub-row Inv-loop μ-loop
 sub-row c = omega (arith, c .power .ensures, pow-pos (c .before .size .result))
 
-get-requires-3 : tie.Need-get-requires-3 Inv-loop μ-loop
-get-requires-3 c κs =
+get-requires : tie.Need-get-requires Inv-loop μ-loop
+get-requires c κs =
     let s = c .before .before .before .before .before .before .before in
-    head-fits (now (s .args .b)) (now (s .args .cells)) (s .pre .0) (s .args .x) (s .args .y) (s .pre .1 .variable) (inside s)
+    may-get _ _ _ refl _ (omega (arith, few s, s .pre .1 .variable, inside s, s .pre .0 .long))
 
 loop-holds : tie.Need-loop-holds Inv-loop μ-loop
 loop-holds c =
     let s = c .before .before .before .before .before .before .before .before in
     left-start (now (s .args .b)) (s .args .x) (s .args .v) (s .args .y) (c .before .before .size .result) (c .before .power .result)
-    (c .before .power .ensures) (c .get3 .result) (c .get3 .ensures .0 ∙ s .pre .0 .index .heads (s .args .x) (s .args .y))
+    (c .before .power .ensures) (c .get .result) (c .get .ensures .0 ∙ s .pre .0 .index .heads (s .args .x) (s .args .y))
 
 -- the walk before a constraint, and what was read before the walk
 module _ (l : tie.At-loop Inv-loop μ-loop) where
@@ -90,32 +95,27 @@ module _ (l : tie.At-loop Inv-loop μ-loop) where
   abbrev s : tie.Start Inv-loop μ-loop
   s = counted .before .before .before
 
-  here-placed : Placed (now (s .args .b)) (sized .before .before .get .result) (suc (s .args .x))
-  here-placed =
-      variable-placed (now (s .args .b)) (now (s .args .cells)) (s .pre .0) (sized .before .before .get .result) (s .args .x)
-      (sized .before .before .get .ensures .0) (s .pre .1 .variable)
+  here-placed : Placed (now (s .args .b)) (sized .before .before .place .result) (suc (s .args .x))
+  here-placed = subst (Placed (now (s .args .b)) _) (add-one (s .args .x)) (sized .before .before .place .ensures)
 
-  there-placed : Placed (now (s .args .b)) (sized .before .get2 .result) (suc (s .args .y))
-  there-placed =
-      variable-placed (now (s .args .b)) (now (s .args .cells)) (s .pre .0) (sized .before .get2 .result) (s .args .y)
-      (sized .before .get2 .ensures .0) (inside s)
+  there-placed : Placed (now (s .args .b)) (sized .before .place2 .result) (suc (s .args .y))
+  there-placed = subst (Placed (now (s .args .b)) _) (add-one (s .args .y)) (sized .before .place2 .ensures)
 
-add-get-3 : tie.Need-add-get-3 Inv-loop μ-loop
-add-get-3 c =
+add-place-3 : tie.Need-add-place-3 Inv-loop μ-loop
+add-place-3 c =
     let l = c .before in
     omega (arith, few (s l), l .loop .inv .along .low, counted l .variable-count .ensures)
 
-get-requires-4 : tie.Need-get-requires-4 Inv-loop μ-loop
-unfolding sectionCount
-get-requires-4 c κs =
+place-requires-3 : tie.Need-place-requires-3 Inv-loop μ-loop
+place-requires-3 c κs =
     let l = c .before in
-    let st = s l in
-    let variables = counted l .variable-count in
-    place-fits (now (st .args .b)) (now (st .args .cells)) (st .pre .0) (variables .result + l .loop .next)
-    (omega (arith, l .loop .inv .along .low, variables .ensures))
+    let st = s l in (
+      located (now (st .args .b)) (now (st .args .cells)) (st .pre .0),
+      omega (arith, l .loop .inv .along .low, counted l .variable-count .ensures),
+    )
 
 -- the walk at the constraint that it has come to, and that constraint
-module _ (c : tie.After-get4 Inv-loop μ-loop) where
+module _ (c : tie.After-place3 Inv-loop μ-loop) where
   abbrev l : tie.At-loop Inv-loop μ-loop
   l = c .before .before
 
@@ -134,13 +134,10 @@ module _ (c : tie.After-get4 Inv-loop μ-loop) where
   left : Left b x v y (sized l .size .result) (l .loop .row) (suc (l .loop .next - 1))
   left = left-here b x v y (sized l .size .result) (l .loop .row) (l .loop .next) (c .before .loop-test .taken) (l .loop .inv)
 
-  at-placed : Placed b (c .get4 .result) (suc (variableCount b + (l .loop .next - 1)))
-  unfolding sectionCount
+  at-placed : Placed b (c .place3 .result) (suc (variableCount b + (l .loop .next - 1)))
   at-placed =
-      let n = counted l .variable-count in
-      placed b (now (s l .args .cells)) (s l .pre .0) (c .get4 .result) (n .result + l .loop .next)
-      (suc (variableCount b + (l .loop .next - 1))) (c .get4 .ensures .0)
-      (omega (arith, n .ensures, c .before .loop-test .taken)) (omega (arith, left .along .low))
+      subst (Placed b (c .place3 .result)) (omega (arith, counted l .variable-count .ensures, c .before .loop-test .taken))
+      (c .place3 .ensures)
 
   at-over : over b x y (l .loop .next - 1) ≡ true
   at-over = along-over b x y (l .loop .next - 1) (left .along)
@@ -148,12 +145,12 @@ module _ (c : tie.After-get4 Inv-loop μ-loop) where
   -- its row holds the values that it accepts
   accepted : (r : ℕ)
       → ((w : ℕ) → w < sized l .size .result
-      → bit r w ≡ permitsFrom b (c .get4 .result) (ltb x y) (sized l .before .before .get .result) v (sized l .before .get2 .result) w)
+      → bit r w ≡ permitsFrom b (c .place3 .result) (ltb x y) (sized l .before .before .place .result) v (sized l .before .place2 .result) w)
       → (w : ℕ) → w < sized l .size .result → bit r w ≡ acceptsAt b x v y w (l .loop .next - 1)
   accepted r f w h =
       f w h
-      ∙ permitted-from b (s l .pre .0 .sound) (l .loop .next - 1) x v y w (c .get4 .result) (sized l .before .before .get .result)
-      (sized l .before .get2 .result) at-placed (here-placed l) (there-placed l) (left .along .low) at-over (s l .pre .1)
+      ∙ permitted-from b (s l .pre .0 .sound) (l .loop .next - 1) x v y w (c .place3 .result) (sized l .before .before .place .result)
+      (sized l .before .place2 .result) at-placed (here-placed l) (there-placed l) (left .along .low) at-over (s l .pre .1)
       (record { variable = inside (s l); value = omega (arith, h, sized l .size .ensures) })
 
 constraint-row-requires : tie.Need-constraint-row-requires Inv-loop μ-loop
@@ -161,35 +158,35 @@ constraint-row-requires c κs = (
   at-placed c .within,
   here-placed (l c) .within,
   there-placed (l c) .within,
-  value-small (b c) (s (l c) .pre .0 .sound) (x c) (v c) (s (l c) .pre .1),
+  label-small (b c) (s (l c) .pre .0 .sound) (x c) (v c) (s (l c) .pre .1) .1,
   sized (l c) .size .ensures .1,
 )
 
 sub-get : tie.Need-sub-get Inv-loop μ-loop
 sub-get c = omega (arith, left (c .before) .along)
 
-get-requires-5 : tie.Need-get-requires-5 Inv-loop μ-loop
-get-requires-5 c κs =
+get-requires-2 : tie.Need-get-requires-2 Inv-loop μ-loop
+get-requires-2 c κs =
     let g = c .before in
-    next-fits (b g) (now (s (l g) .args .cells)) (s (l g) .pre .0) (l g .loop .next - 1) (left g .along .low)
+    may-get _ _ _ refl _ (omega (arith, few (s (l g)), left g .along .low, s (l g) .pre .0 .long))
 
-follows : (c : tie.After-get5 Inv-loop μ-loop)
-    → c .get5 .result ≡ chainBelow (b (c .before .before)) (x (c .before .before)) (y (c .before .before)) (l (c .before .before) .loop .next - 1)
+follows : (c : tie.After-get2 Inv-loop μ-loop)
+    → c .get2 .result ≡ chainBelow (b (c .before .before)) (x (c .before .before)) (y (c .before .before)) (l (c .before .before) .loop .next - 1)
 follows c =
     let g = c .before .before in
-    c .get5 .ensures .0 ∙ s (l g) .pre .0 .index .nexts (l g .loop .next - 1) (left g .along .low) (x g) (y g) (at-over g)
+    c .get2 .ensures .0 ∙ s (l g) .pre .0 .index .nexts (l g .loop .next - 1) (left g .along .low) (x g) (y g) (at-over g)
 
 loop-less : tie.Need-loop-less Inv-loop μ-loop
 loop-less c =
     let g = c .before .before in
-    omega (arith, follows c, chain-low (b g) (x g) (y g) (l g .loop .next - 1), g .before .loop-test .taken)
+    omega (arith, follows c, last-low (over (b g) (x g) (y g)) (l g .loop .next - 1), g .before .loop-test .taken)
 
 loop-again : tie.Need-loop-again Inv-loop μ-loop
 loop-again c =
     let g = c .before .before in
     let r = c .before .constraint-row in
     left-next (b g) (x g) (v g) (y g) (sized (l g) .size .result) (l g .loop .row) (l g .loop .next - 1) (left g) (r .result)
-    (accepted g (r .result) (r .ensures)) (c .get5 .result) (follows c)
+    (accepted g (r .result) (r .ensures)) (c .get2 .result) (follows c)
 
 returns : tie.Need-returns Inv-loop μ-loop
 returns c =
@@ -208,20 +205,20 @@ support-row-spec =
     Inv-loop
     μ-loop
     variable-count-requires
-    add-get
-    get-requires
-    add-get-2
-    get-requires-2
+    add-place
+    place-requires
+    add-place-2
+    place-requires-2
     size-requires
     power-requires
     sub-row
-    get-requires-3
+    get-requires
     loop-holds
-    add-get-3
-    get-requires-4
+    add-place-3
+    place-requires-3
     constraint-row-requires
     sub-get
-    get-requires-5
+    get-requires-2
     loop-less
     loop-again
     returns)

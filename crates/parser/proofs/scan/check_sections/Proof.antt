@@ -6,10 +6,10 @@ use mathlib.Core.Path.{_≡_, refl, _∙_, ap}
 use native.Mathlib.Nat.{not-suc-le-zero}
 use native.Mathlib.Omega.{arith}
 use lib.ListN.{length, length-set}
-use Rattle.format.specs.Format.{sectionStart}
+use Rattle.format.specs.Format.{sectionStart, sectionCount}
 use Rattle.parser.proofs.Scanned.{variables-known, next-within, next-start, passed-more, fault-answer, end-answer, verdict-passes, verdict-fails}
 use Rattle.plan.specs.Check.{firstFault, sectionChecks}
-use Rattle.plan.specs.Decode.{sectionCount, planEnd}
+use Rattle.plan.specs.Decode.{planEnd}
 use Rattle.parser.specs.Known.{PassedBefore}
 use Rattle.parser.proofs.scan.check_sections.Statement.{statement}
 use Rattle.parser.proofs.scan.check_sections.Tie as tie
@@ -22,28 +22,12 @@ abbrev μ-loop : tie.MeasureT-loop
 μ-loop b count starts₀ at₀ k₀ starts at k = count - k
 
 -- the loop goes over as many sections as the head calls for
-counted : (l : tie.At-loop Inv-loop μ-loop)
-    → 1 + l .before .before .before .variable-count .result + l .before .before .constraint-count .result
-    ≡ sectionCount (l .before .before .before .before .before .args .b .now)
-unfolding sectionCount
-counted l = rw (l .before .before .before .variable-count .ensures .0, l .before .before .constraint-count .ensures .0)
+ended : (l : tie.At-loop Inv-loop μ-loop) → l .before .before .section-count .result ≤ l .loop .k
+    → l .loop .k ≡ sectionCount (l .before .before .before .before .args .b .now)
+ended l h = omega (arith, l .before .before .section-count .ensures .0)
 
-ended : (l : tie.At-loop Inv-loop μ-loop)
-    → 1 + l .before .before .before .variable-count .result + l .before .before .constraint-count .result ≤ l .loop .k
-    → l .loop .k ≡ sectionCount (l .before .before .before .before .before .args .b .now)
-ended l h = omega (arith, counted l)
-
-variable-count-requires : tie.Need-variable-count-requires Inv-loop μ-loop
-variable-count-requires c κs = search needs
-
-add-count : tie.Need-add-count Inv-loop μ-loop
-add-count c = omega arith
-
-constraint-count-requires : tie.Need-constraint-count-requires Inv-loop μ-loop
-constraint-count-requires c κs = search needs
-
-add-count-2 : tie.Need-add-count-2 Inv-loop μ-loop
-add-count-2 c = omega arith
+section-count-requires : tie.Need-section-count-requires Inv-loop μ-loop
+section-count-requires c κs = search needs
 
 no-starts-requires : tie.Need-no-starts-requires Inv-loop μ-loop
 no-starts-requires c κs = search needs
@@ -51,12 +35,12 @@ no-starts-requires c κs = search needs
 loop-holds : tie.Need-loop-holds Inv-loop μ-loop
 unfolding sectionStart
 loop-holds c =
-    (record { passed = refl; found = λ i l h. absurd (not-suc-le-zero l) }, c .no-starts .ensures, refl, c .before .before .before .before .pre, search needs)
+    (record { passed = refl; found = λ i l h. absurd (not-suc-le-zero l) }, c .no-starts .ensures, refl, c .before .before .before .pre, search needs)
 
 check-section-requires : tie.Need-check-section-requires Inv-loop μ-loop
 check-section-requires c κs =
     let l = c .before .before in
-    (l .loop .inv .0, l .loop .inv .2, l .loop .inv .3, l .before .before .before .before .before .pre)
+    (l .loop .inv .0, l .loop .inv .2, l .loop .inv .3, l .before .before .before .before .pre)
 
 enum-known-verdict : tie.Need-enum-known-verdict Inv-loop μ-loop
 enum-known-verdict c = search needs
@@ -68,10 +52,10 @@ returns : tie.Need-returns Inv-loop μ-loop
 returns c =
     let v = c .before .before in
     let l = v .before .before .before .before .before in
-    let b = l .before .before .before .before .before .args .b .now in
+    let b = l .before .before .before .before .args .b .now in
     let fails = verdict-fails (firstFault (sectionChecks b (l .loop .k))) (v .before .before .check-section .result) _ (v .before .before .check-section .ensures)
     (v .verdict .given .1) in
-    c .declined .ensures ∙ fault-answer b (l .loop .starts) (l .loop .k) (l .loop .inv .0) _ (l .loop .at) _ (counted l) (omega arith) (l .loop .inv .2) fails
+    c .declined .ensures ∙ fault-answer b (l .loop .starts) (l .loop .k) (l .loop .inv .0) _ (l .loop .at) _ (l .before .before .section-count .ensures .0) (omega arith) (l .loop .inv .2) fails
 
 enum-told : tie.Need-enum-told Inv-loop μ-loop
 enum-told c = search needs
@@ -92,7 +76,7 @@ loop-again : tie.Need-loop-again Inv-loop μ-loop
 loop-again c =
     let e = c .before .before .before in
     let l = e .before .before .before .before .before in
-    let b = l .before .before .before .before .before .args .b .now in
+    let b = l .before .before .before .before .args .b .now in
     let passes = verdict-passes (firstFault (sectionChecks b (l .loop .k))) (e .before .before .check-section .result) (e .before .before .check-section .ensures)
     (e .enum-told .given .1) in
     let more = passed-more b (l .loop .starts) (l .loop .k) (l .loop .inv .0) (l .loop .at) (l .loop .inv .1) (l .loop .inv .2) passes in
@@ -100,7 +84,7 @@ loop-again c =
       rw (c .before .keep-start .ensures) more,
       rw (c .before .keep-start .ensures, length-set) (l .loop .inv .1),
       next,
-      rw next (next-within b _ (l .loop .k + 1) more (l .before .before .before .before .before .pre)),
+      rw next (next-within b _ (l .loop .k + 1) more (l .before .before .before .before .pre)),
       omega arith,
     )
 
@@ -108,15 +92,15 @@ check-end-requires : tie.Need-check-end-requires Inv-loop μ-loop
 unfolding planEnd
 check-end-requires c κs =
     let l = c .before .before in
-    let b = l .before .before .before .before .before .args .b .now in (
-      variables-known b (l .loop .starts) (l .loop .k) (l .loop .inv .0) (l .before .before .before .before .before .pre) (omega (arith, counted l)),
+    let b = l .before .before .before .before .args .b .now in (
+      variables-known b (l .loop .starts) (l .loop .k) (l .loop .inv .0) (l .before .before .before .before .pre) (omega (arith, l .before .before .section-count .ensures .0)),
       l .loop .inv .2 ∙ ap (sectionStart b) (ended l (c .before .loop-test .left)),
     )
 
 returns-2 : tie.Need-returns-2 Inv-loop μ-loop
 returns-2 c =
     let l = c .before .before .before in
-    let b = l .before .before .before .before .before .args .b .now in
+    let b = l .before .before .before .before .args .b .now in
     c .check-end .ensures ∙ end-answer b (l .loop .starts) (l .loop .k) (l .loop .inv .0) (ended l (c .before .before .loop-test .left))
 
 pub check-sections-spec : {M : Type 1} → statement M
@@ -125,10 +109,7 @@ check-sections-spec =
     (tie.spec
     Inv-loop
     μ-loop
-    variable-count-requires
-    add-count
-    constraint-count-requires
-    add-count-2
+    section-count-requires
     no-starts-requires
     loop-holds
     check-section-requires
