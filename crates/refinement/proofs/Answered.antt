@@ -8,9 +8,10 @@ use native.Mathlib.Omega.{arith}
 use borrow.Author.Tests.{lt-ltb}
 use lib.Dec.{eqb}
 use Rattle.base.proofs.Choice.{update-same, update-other, update₂-same}
-use Rattle.disac4.specs.Action.{isEmpty, pollOf, afterAnswer, ready, answerTo, answer}
-use Rattle.disac4.specs.State.{Poll, Message, reply}
+use Rattle.disac4.specs.Action.{isEmpty, afterAnswer, ready, answerTo, answer}
+use Rattle.disac4.specs.State.{Message, reply}
 use Rattle.disac4.specs.System.{System}
+use Rattle.disac4.specs.declared.Poll.{Poll}
 use Rattle.disac4.specs.declared.Tally.{Tally}
 use Rattle.cells.proofs.Queue.{labels-empty, queue, queue-put}
 use Rattle.cells.proofs.Stores.{store-other}
@@ -73,7 +74,7 @@ module _ (sys : System) (small : Small sys) (s : Machine) (inv : Inv sys s) (i :
 
   -- the reply is the newest message to the controller
   replied : viewOut m′ i ≡ viewOut m i ++ (reply (held .number) ∷ [])
-  unfolding answeredM held pollAt pollOf viewOut
+  unfolding answeredM held pollAt viewOut
   replied =
       queue-put (outQueue m i) (outQueue m′ i) (out-kept sys small s inv m′ answer-grown i h) (inv .rows i h .out-read) refl
       (update-same (λ j. m WORKERS j OUTEND) i (m WORKERS i OUTEND + 1))
@@ -113,7 +114,7 @@ module _ (sys : System) (small : Small sys) (s : Machine) (inv : Inv sys s) (i :
       && eqb (m WORKERS i LISTS) (m WANTED 0 (m WORKERS i HELD))
 
   ready-row : ready (suc i) held (viewOf sys s) ≡ isReady
-  unfolding ready view held pollAt pollOf
+  unfolding ready view held pollAt
   ready-row =
       ap₂ (λ (a b : Bool). a && b)
       (ap₂ (λ (a b : Bool). a && b) no-work (nothing-to-send sys small s inv i h))

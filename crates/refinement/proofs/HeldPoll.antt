@@ -5,8 +5,8 @@ use mathlib.Core.Option.{Option, none, some}
 use mathlib.Core.Path.{_≡_, refl, sym, _∙_, ap}
 use lib.Dec.{eqb}
 use Rattle.base.specs.Choice.{update}
-use Rattle.disac4.specs.State.{Poll}
 use Rattle.disac4.specs.System.{System}
+use Rattle.disac4.specs.declared.Poll.{Poll}
 use Rattle.cells.specs.Layout.{WORKERS, WANTED, HELD}
 use Rattle.cells.specs.Memory.{Mem}
 use Rattle.cells.specs.View.{isWorker, pollAt, viewHeld}

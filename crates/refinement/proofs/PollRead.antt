@@ -8,8 +8,8 @@ use borrow.Author.Tests.{ltb-true, ltb-false, ne-eqb}
 use lib.Dec.{ltb}
 use Rattle.base.proofs.Choice.{cond-false, update-same, update-other}
 use Rattle.disac4.specs.Action.{afterPoll, readFrom, readWorker}
-use Rattle.disac4.specs.State.{Poll}
 use Rattle.disac4.specs.System.{System}
+use Rattle.disac4.specs.declared.Poll.{Poll}
 use Rattle.disac4.specs.declared.Tally.{Tally}
 use Rattle.cells.proofs.Queue.{queue-taken, queue-none}
 use Rattle.cells.specs.Layout.{WORKERS, HELD, POLLS}
