@@ -1,12 +1,15 @@
 -- Laws by which the code of answer meets its definitions: what each store, read and test makes of them.
 use Prim.Native.Nat.{ℕ, _+_, _<_, _≤_}
-use mathlib.Core.Bool.{Bool, true, false, not}
+use mathlib.Core.Bool.{Bool, true, false, cond, not}
 use mathlib.Core.Option.{none, some}
 use mathlib.Core.Path.{_≡_}
 use borrow.Author.Tests.{lt-ltb, le-ltb, eq-eqb, ne-eqb, not-true, not-false}
-use lib.Dec.{eqb}
+use lib.Dec.{ltb, eqb}
+use Rattle.disac4.specs.declared.ListCounter.{ListCounter}
+use Rattle.disac4.specs.declared.Poll.{Poll}
 use Rattle.cells.specs.Layout.{WORKERS, BOUNDS, OUT, WANTED, HEAD, TAIL, LOGEND, SENDS, LISTS, HELD, OUTEND}
 use Rattle.cells.specs.Memory.{Mem, store}
+use Rattle.cells.specs.View.{pollAt}
 use Rattle.answers.specs.Answers.{answerM, answeredM, answeredWith, emptyM}
 
 module _ (m m₁ m₂ m₃ : Mem) where
@@ -14,6 +17,11 @@ module _ (m m₁ m₂ m₃ : Mem) where
       → m₃ ≡ store m₂ WORKERS i HELD 0 → m₃ ≡ answeredWith i held outs m
   unfolding answeredWith
   answered i held outs p₁ p₂ p₃ = rw (p₃, p₂, p₁)
+
+pub held-as : (i : ℕ) (m : Mem) {number wanted : ℕ} → number ≡ m WORKERS i HELD → wanted ≡ m WANTED 0 number
+    → record { number = record { 0 = number }; wanted = record { 0 = wanted } } ≡ pollAt m (m WORKERS i HELD)
+unfolding pollAt
+held-as i m q₁ q₂ = rw (q₂, q₁)
 
 module _ (i : ℕ) (m : Mem) {head tail : ℕ} (q₁ : head ≡ m WORKERS i HEAD) (q₂ : tail ≡ m WORKERS i TAIL) where
   pub not-treated : (head ≡ tail → ⊥) → false ≡ emptyM i m
@@ -45,41 +53,23 @@ module _ (i : ℕ) (m : Mem) {held : ℕ} (q₁ : held ≡ m WORKERS i HELD) whe
       unfolding answerM
       answer-busy h = rw (← q₁, ne-eqb held 0 h₁, lt-ltb held 520 h₂, ← q₂, not-true t h)
 
-      module _ (h₃ : not t ≡ false) {lists wanted : ℕ} (q₃ : lists ≡ m WORKERS i LISTS) (q₄ : wanted ≡ m WANTED 0 held) where
-        pub answer-unequal : (lists ≡ wanted → ⊥) → answerM i m ≡ none
-        unfolding answerM
-        answer-unequal h =
-            rw (← q₁, ne-eqb held 0 h₁, lt-ltb held 520 h₂, ← q₂, not-false t h₃, ← q₃, ← q₄, ne-eqb lists wanted h)
+      module _ (h₃ : not t ≡ false) {lists : ListCounter} {q : Poll} {same : Bool} (q₃ : lists .0 ≡ m WORKERS i LISTS)
+          (q₄ : q ≡ pollAt m (m WORKERS i HELD)) (q₅ : same ≡ eqb (lists .0) (q .wanted .0)) where
+        -- what is left to test
+        compared : answerM i m
+            ≡ cond same
+            (cond (ltb (m WORKERS i OUTEND) 520) (some (answeredWith i (q .number .0) (m WORKERS i OUTEND) m)) none)
+            none
+        unfolding answerM answeredM pollAt
+        compared =
+            rw (q₅, q₄, q₃, ← q₁, ne-eqb held 0 h₁, lt-ltb held 520 h₂, ← q₂, not-false t h₃)
 
-        module _ (h₄ : lists ≡ wanted) {outs : ℕ} (q₅ : outs ≡ m WORKERS i OUTEND) where
+        pub answer-unequal : not same ≡ true → answerM i m ≡ none
+        answer-unequal h = rw (compared, not-true same h)
+
+        module _ (h₄ : not same ≡ false) {outs : ℕ} (q₆ : outs ≡ m WORKERS i OUTEND) where
           pub answer-crowded : 520 ≤ outs → answerM i m ≡ none
-          unfolding answerM
-          answer-crowded h =
-              rw (
-                ← q₁,
-                ne-eqb held 0 h₁,
-                lt-ltb held 520 h₂,
-                ← q₂,
-                not-false t h₃,
-                ← q₃,
-                ← q₄,
-                eq-eqb lists wanted h₄,
-                ← q₅,
-                le-ltb outs 520 h,
-              )
+          answer-crowded h = rw (compared, not-false same h₄, ← q₆, le-ltb outs 520 h)
 
-          pub answer-goes : outs < 520 → answerM i m ≡ some (answeredWith i held outs m)
-          unfolding answerM answeredM
-          answer-goes h =
-              rw (
-                ← q₁,
-                ne-eqb held 0 h₁,
-                lt-ltb held 520 h₂,
-                ← q₂,
-                not-false t h₃,
-                ← q₃,
-                ← q₄,
-                eq-eqb lists wanted h₄,
-                ← q₅,
-                lt-ltb outs 520 h,
-              )
+          pub answer-goes : outs < 520 → answerM i m ≡ some (answeredWith i (q .number .0) outs m)
+          answer-goes h = rw (compared, not-false same h₄, ← q₆, lt-ltb outs 520 h)

@@ -12,18 +12,24 @@ use cells::layout::WANTED;
 use cells::layout::WORKERS;
 use cells::layout::get;
 use cells::layout::put;
+use disac4::ListCounter;
+use disac4::Poll;
+use disac4::Timestamp;
 ghost use mathlib.Core.Path.{_≡_};
 ghost use Prim.Native.Nat.{_<_, _≤_};
+ghost use lib.Dec.{eqb};
 ghost use lib.ListN.{length};
+ghost use Rattle.cells.specs.Layout.{WORKERS, LISTS, HELD};
 ghost use Rattle.cells.specs.Memory.{memOf, Acts};
+ghost use Rattle.cells.specs.View.{pollAt};
 ghost use Rattle.answers.specs.Answers.{answerM, answeredWith, emptyM};
 
-// Puts row `i`'s reply to poll `held`, behind `outs` messages to the controller.
-fn put_reply(cells: &mut [u16], i: usize, held: usize, outs: usize)
-    requires { ⌜ (24576 ≤ length (now cells)) × (i < 8) × (held < 520) × (outs < 520) ⌝ }
-    ensures { λ r. ⌜ memOf (now (cells .exit)) ≡ answeredWith i held outs (memOf (now (cells .entry))) ⌝ }
+// Puts row `i`'s reply to the poll of this number, behind `outs` messages to the controller.
+fn put_reply(cells: &mut [u16], i: usize, number: Timestamp, outs: usize)
+    requires { ⌜ (24576 ≤ length (now cells)) × (i < 8) × (outs < 520) ⌝ }
+    ensures { λ r. ⌜ memOf (now (cells .exit)) ≡ answeredWith i (number .0) outs (memOf (now (cells .entry))) ⌝ }
 {
-    put(cells, OUT, i, outs, held);
+    put(cells, OUT, i, outs, number.0 as usize);
     put(cells, WORKERS, i, OUTEND, outs + 1);
     put(cells, WORKERS, i, HELD, 0);
 }
@@ -47,6 +53,34 @@ fn both_empty(cells: &[u16], i: usize) -> bool
     start == end
 }
 
+// The poll that row `i` holds: its number, and the wanted count that stands there.
+fn held_poll(cells: &[u16], i: usize) -> Poll
+    requires { ⌜ (24576 ≤ length (now cells)) × (i < 8) × (memOf (now cells) WORKERS i HELD < 520) ⌝ }
+    ensures { λ r. ⌜ r ≡ pollAt (memOf (now (cells .entry))) (memOf (now (cells .entry)) WORKERS i HELD) ⌝ }
+{
+    let number = get(cells, WORKERS, i, HELD);
+    let wanted = get(cells, WANTED, 0, number);
+    Poll {
+        number: Timestamp(number as u16),
+        wanted: ListCounter(wanted as u16),
+    }
+}
+
+// Row `i`'s count of lists.
+fn list_counter(cells: &[u16], i: usize) -> ListCounter
+    requires { ⌜ (24576 ≤ length (now cells)) × (i < 8) ⌝ }
+    ensures { λ r. ⌜ r .0 ≡ memOf (now (cells .entry)) WORKERS i LISTS ⌝ }
+{
+    ListCounter(get(cells, WORKERS, i, LISTS) as u16)
+}
+
+// Whether two counts of lists are the same.
+fn same_count(a: ListCounter, b: ListCounter) -> bool
+    ensures { λ r. ⌜ r ≡ eqb (a .0) (b .0) ⌝ }
+{
+    a.0 == b.0
+}
+
 // Answer: row `i` replies to the poll it holds, where both its lists are empty and its list counter is the wanted count.
 pub fn answer(cells: &mut [u16], i: usize) -> usize
     requires { ⌜ (24576 ≤ length (now cells)) × (i < 8) ⌝ }
@@ -62,15 +96,16 @@ pub fn answer(cells: &mut [u16], i: usize) -> usize
     if !both_empty(cells, i) {
         return 0;
     }
-    let lists = get(cells, WORKERS, i, LISTS);
-    let wanted = get(cells, WANTED, 0, held);
-    if lists != wanted {
+    let q = held_poll(cells, i);
+    let wanted = q.wanted;
+    if !same_count(list_counter(cells, i), wanted) {
         return 0;
     }
     let outs = get(cells, WORKERS, i, OUTEND);
     if outs >= 520 {
         return 0;
     }
-    put_reply(cells, i, held, outs);
+    let number = q.number;
+    put_reply(cells, i, number, outs);
     1
 }

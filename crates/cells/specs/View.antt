@@ -7,9 +7,9 @@ use lib.Dec.{leb, ltb, eqb}
 use Rattle.base.specs.Below.{one, listBelow}
 use Rattle.base.specs.Choice.{between}
 use Rattle.base.specs.Row.{bit}
-use Rattle.disac4.specs.Action.{pollOf}
-use Rattle.disac4.specs.State.{State, Message, list, poll, reply, Poll}
+use Rattle.disac4.specs.State.{State, Message, list, poll, reply}
 use Rattle.disac4.specs.System.{System}
+use Rattle.disac4.specs.declared.Poll.{Poll}
 use Rattle.disac4.specs.declared.Tally.{Tally}
 use Rattle.network.specs.Network.{Label, label, loaded}
 use Rattle.cells.specs.Layout.{WORKERS, CURSORS, BOUNDS, LOG, WORK, OUT, WANTED, DOMAIN, COUNTERS, HEADS, HEAD, TAIL, LOGEND, SENDS, LISTS, HELD, POLLS, OUTEND, OUTREAD}
@@ -72,7 +72,7 @@ messageOf m i c = cond (leb LISTMARK c) (list (listAt m i (c - LISTMARK))) (repl
 
 -- a poll by its number
 unfoldable pub pollAt : Mem → ℕ → Poll
-pollAt m n = pollOf n (m WANTED 0 n)
+pollAt m n = record { number = record { 0 = n }; wanted = record { 0 = m WANTED 0 n } }
 
 -- ---- what a worker's row stands for
 

@@ -5,15 +5,16 @@ use mathlib.Core.List.{List}
 use mathlib.Core.Option.{Option, none, some}
 use mathlib.Core.Path.{_≡_, sym, _∙_}
 use native.Mathlib.Omega.{arith}
-use borrow.Author.Tests.{ltb-true, le-leb, lt-leb, eq-eqb, ne-eqb, not-true, not-false}
+use borrow.Author.Tests.{ltb-true, le-leb, lt-leb, eqb-false, not-true, not-false}
 use lib.Dec.{ltb, eqb}
 use Rattle.base.proofs.Bools.{and-left, and-right}
 use Rattle.base.proofs.Choice.{cond-true, cond-false}
 use Rattle.base.specs.Row.{bit}
 use Rattle.disac4.specs.System.{System}
+use Rattle.disac4.specs.declared.Poll.{Poll}
 use Rattle.disac4.specs.declared.Tally.{Tally}
-use Rattle.cells.specs.Layout.{WORKERS, OUT, OUTEND, OUTREAD}
-use Rattle.cells.specs.Memory.{memOf, store}
+use Rattle.cells.specs.Layout.{WANTED, WORKERS, OUT, OUTEND, OUTREAD}
+use Rattle.cells.specs.Memory.{Mem, memOf, store}
 use Rattle.controller.proofs.Marks.{mark-small}
 use Rattle.controller.specs.Controller.{askedT, asksT, countedT, withMark, markedT, toldT, hasOut, outReadM, askM, Machine, machine, Hears, pollM, hearM}
 
@@ -48,19 +49,19 @@ module _ (p i c : ℕ) (t : Tally) where
     unfolding toldT
     told-closed h = rw (lt-leb 1024 c h₁, not-true (t .polling) h)
 
-    module _ (h₂ : not (t .polling) ≡ false) where
-      pub told-late : (c ≡ t .timestamp .0 → ⊥) → t ≡ toldT p i c t
+    module _ (h₂ : not (t .polling) ≡ false) {same : Bool} (q : same ≡ eqb c (t .timestamp .0)) where
+      pub told-late : not same ≡ true → t ≡ toldT p i c t
       unfolding toldT
-      told-late h = rw (lt-leb 1024 c h₁, not-false (t .polling) h₂, ne-eqb c (t .timestamp .0) h)
+      told-late h = rw (lt-leb 1024 c h₁, not-false (t .polling) h₂, ← q, not-true same h)
 
-      pub told-reply : {u : Tally} → c ≡ t .timestamp .0 → u ≡ markedT p i t → u ≡ toldT p i c t
+      pub told-reply : {u : Tally} → not same ≡ false → u ≡ markedT p i t → u ≡ toldT p i c t
       unfolding toldT
       told-reply h e =
           e
           ∙ sym
           (cond-false (countedT t) _ (lt-leb 1024 c h₁)
           ∙ cond-true _ t (not-false (t .polling) h₂)
-          ∙ cond-true (markedT p i t) t (eq-eqb c (t .timestamp .0) h))
+          ∙ cond-true (markedT p i t) t (sym q ∙ not-false same h))
 
 -- ---- an action of the controller is idle, or acts
 
@@ -73,6 +74,16 @@ module _ (act : Machine → Option Machine) (before : List ℕ) (t : Tally) wher
   hears after u s e p q = record { mem = rw e p; tally = rw e q; count = rw e }
 
 -- ---- poll
+
+-- the poll that the tally has open once it is sent: the next number, and the controller's count of lists
+module _ (t : Tally) (u : Tally) (e : u ≡ askedT t) (q : Poll) (f : (q .number ≡ u .timestamp) × (q .wanted ≡ u .lists)) where
+  pub next-number : q .number .0 ≡ t .timestamp .0 + 1
+  unfolding askedT
+  next-number = rw (f .0, e)
+
+  pub poll-put : (m m′ : Mem) → m′ ≡ store m WANTED 0 (q .number .0) (q .wanted .0) → m′ ≡ askM t m
+  unfolding askM askedT
+  poll-put m m′ p = rw (p, f .0, f .1, e)
 
 module _ (t : Tally) {b : Bool} (q : b ≡ asksT t) where
   pub asks-room : not b ≡ false → t .timestamp .0 < 519

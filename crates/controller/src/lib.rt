@@ -10,14 +10,17 @@ use cells::layout::WORKERS;
 use cells::layout::get;
 use cells::layout::put;
 use disac4::ListCounter;
+use disac4::Poll;
 use disac4::Tally;
 use disac4::Timestamp;
 ghost use mathlib.Core.Bool.{_&&_};
 ghost use mathlib.Core.Path.{_≡_};
 ghost use Prim.Native.Nat.{_<_, _≤_};
-ghost use lib.Dec.{ltb};
+ghost use lib.Dec.{ltb, eqb};
 ghost use lib.ListN.{length};
 ghost use Rattle.disac4.specs.System.{System};
+ghost use Rattle.cells.specs.Layout.{WANTED};
+ghost use Rattle.cells.specs.Memory.{memOf, store};
 ghost use Rattle.controller.specs.Controller.{askedT, asksT, countedT, withMark, markedT, toldT, pollM, hearM, Hears};
 
 // What an action of the controller gives: 1 where it changed something, and the tally after it.
@@ -99,23 +102,51 @@ fn marked(t: Tally, p: usize, i: usize) -> Tally
     }
 }
 
+// Whether two polls have the same number.
+fn same_number(a: Timestamp, b: Timestamp) -> bool
+    ensures { λ r. ⌜ r ≡ eqb (a .0) (b .0) ⌝ }
+{
+    a.0 == b.0
+}
+
 // The tally after the message `c` from row `i` was read.
 fn told(t: Tally, p: usize, i: usize, c: usize) -> Tally
     requires { ⌜ (t .lists .0 < 65535) × (t .marks < 256) × (i < 8) × (p ≤ 8) ⌝ }
     ensures { λ r. ⌜ r ≡ toldT p i c t ⌝ }
 {
     let at = t.timestamp;
-    let n = at.0 as usize;
     if c >= LISTMARK {
         return counted(t);
     }
     if !t.polling {
         return t;
     }
-    if c != n {
+    if !same_number(Timestamp(c as u16), at) {
         return t;
     }
     marked(t, p, i)
+}
+
+// The poll that a tally has open: the wanted count is the lists that the controller has read.
+fn open_poll(t: Tally) -> Poll
+    ensures { λ r. ⌜ (r .number ≡ t .timestamp) × (r .wanted ≡ t .lists) ⌝ }
+{
+    let number = t.timestamp;
+    let wanted = t.lists;
+    Poll {
+        number: number,
+        wanted: wanted,
+    }
+}
+
+// Puts a poll where all workers read it: its wanted count, at its number.
+fn put_poll(cells: &mut [u16], q: Poll)
+    requires { ⌜ (24576 ≤ length (now cells)) × (q .number .0 < 520) ⌝ }
+    ensures { λ r. ⌜ memOf (now (cells .exit)) ≡ store (memOf (now (cells .entry))) WANTED 0 (q .number .0) (q .wanted .0) ⌝ }
+{
+    let number = q.number;
+    let wanted = q.wanted;
+    put(cells, WANTED, 0, number.0 as usize, wanted.0 as usize);
 }
 
 // Poll: where none is open, the controller sends the next one, with its count of lists.
@@ -129,14 +160,11 @@ pub fn poll(cells: &mut [u16], t: Tally) -> Heard
             tally: t,
         };
     }
-    let at = t.timestamp;
-    let n = at.0 as usize;
-    let lists = t.lists;
-    let wanted = lists.0 as usize;
-    put(cells, WANTED, 0, n + 1, wanted);
+    let after = asked(t);
+    put_poll(cells, open_poll(after));
     Heard {
         changed: 1,
-        tally: asked(t),
+        tally: after,
     }
 }
 

@@ -13,13 +13,14 @@ use Rattle.disac4.proofs.Channels.{Channels, broadcast-to, broadcast-se
 use Rattle.disac4.proofs.Figures.{timestamp-of-run}
 use Rattle.disac4.proofs.Moves.{Moves, treats, sends, reads, hears, ignores, answers, asks, tallies, marks, drops, discards, kept}
 use Rattle.disac4.proofs.Typed.{Typed, typed-move, typed-load, not-controller}
-use Rattle.disac4.specs.Action.{broadcast, pollOf, afterTreat, afterSend, afterList, afterPoll, afterDrop, afterAnswer, afterAsk, afterCount, afterMark}
+use Rattle.disac4.specs.Action.{broadcast, nextPoll, afterTreat, afterSend, afterList, afterPoll, afterDrop, afterAnswer, afterAsk, afterCount, afterMark}
 use Rattle.disac4.specs.Event.{Event}
 use Rattle.disac4.specs.Loading.{load}
 use Rattle.disac4.specs.Report.{isPoll}
-use Rattle.disac4.specs.State.{State, Message, list, poll, reply, Poll}
+use Rattle.disac4.specs.State.{State, Message, list, poll, reply}
 use Rattle.disac4.specs.System.{System, Worker, Sound}
 use Rattle.disac4.specs.Turn.{Turn, play, isSome, changesWhere}
+use Rattle.disac4.specs.declared.Poll.{Poll}
 
 -- 1 for a poll
 abbrev pub pollMessage : Message → ℕ
@@ -117,7 +118,7 @@ module _ (sys : System) (st : State) (i : ℕ) (v : Worker sys i) where
   asking : Bounded (afterAsk sys st)
   unfolding afterAsk
   asking =
-      let q : Message = poll (pollOf (suc (st .controller .timestamp)) (st .listCounter 0)) in
+      let q : Message = poll (nextPoll st) in
       omega (
         arith,
         ap (weigh pollMessage) (broadcast-to (sys .workers) 0 q (st .channel) i (v .within) (λ x. not-controller v (sym x))),

@@ -25,8 +25,9 @@ use Rattle.disac4.proofs.Sound.{isList}
 use Rattle.disac4.proofs.Typed.{Typed, no-self, not-controller, controller-count}
 use Rattle.disac4.specs.Action.{isEmpty, ready, current, broadcast, afterTreat, afterSend, afterList, afterPoll, afterDrop, afterAnswer, afterAsk, afterCount, afterMark}
 use Rattle.disac4.specs.Event.{Event}
-use Rattle.disac4.specs.State.{State, Message, list, poll, reply, Poll}
+use Rattle.disac4.specs.State.{State, Message, list, poll, reply}
 use Rattle.disac4.specs.System.{System, Worker}
+use Rattle.disac4.specs.declared.Poll.{Poll}
 
 -- ---- over the timestamp `n`, the marks, the channels, the counts of lists, the work lists and the to-send lists
 

@@ -15,10 +15,11 @@ use Rattle.disac4.proofs.Channels.{Channels, broadcast-to, broadcast-se
 use Rattle.disac4.proofs.Moves.{Moves, treats, sends, reads, hears, ignores, answers, asks, tallies, marks, drops, discards}
 use Rattle.disac4.proofs.Replies.{isReply, replied, not-current}
 use Rattle.disac4.proofs.Typed.{Typed, not-controller, controller-count}
-use Rattle.disac4.specs.Action.{current, pollOf, broadcast, afterTreat, afterSend, afterList, afterPoll, afterDrop, afterAnswer, afterAsk, afterCount, afterMark}
+use Rattle.disac4.specs.Action.{current, nextPoll, listsRead, broadcast, afterTreat, afterSend, afterList, afterPoll, afterDrop, afterAnswer, afterAsk, afterCount, afterMark}
 use Rattle.disac4.specs.Event.{Event}
-use Rattle.disac4.specs.State.{State, Message, list, poll, reply, Poll}
+use Rattle.disac4.specs.State.{State, Message, list, poll, reply}
 use Rattle.disac4.specs.System.{System, Worker}
+use Rattle.disac4.specs.declared.Poll.{Poll}
 
 -- the poll that is held once these messages are read, with `o` held before
 abbrev pub heldAfter : Option Poll → List Message → Option Poll
@@ -47,11 +48,15 @@ pub data Answered (q : Poll) (marked : ℕ → Bool) (held : ℕ → Option Poll
   has-replied : replied (q .number .0) (c k 0) ≡ true → Answered q marked held c k
   will-hold : heldAfter (held k) (c 0 k) ≡ some q → Answered q marked held c k
 
+-- the open poll
+abbrev pub openPoll : State → Poll
+openPoll st = record { number = record { 0 = st .controller .timestamp }; wanted = listsRead st }
+
 -- every worker, while a poll is open
 abbrev pub Expected : System → State → Type 0
 Expected sys st =
     st .controller .pollOpen ≡ true → (k : ℕ) → Worker sys k
-    → Answered (pollOf (st .controller .timestamp) (st .listCounter 0)) (st .controller .marked) (st .held) (st .channel) k
+    → Answered (openPoll st) (st .controller .marked) (st .held) (st .channel) k
 
 answered-map : {q : Poll} {marked marked′ : ℕ → Bool} {held held′ : ℕ → Option Poll} {c d : Channels} {k : ℕ}
     → (marked k ≡ true → marked′ k ≡ true)
@@ -66,7 +71,7 @@ answered-map f g h (will-hold x) = h x
 
 module _ (sys : System) (st : State) where
   abbrev now : Poll
-  now = pollOf (st .controller .timestamp) (st .listCounter 0)
+  now = openPoll st
 
   abbrev With : (ℕ → Bool) → (ℕ → Option Poll) → Channels → Type 0
   With marked held d = (k : ℕ) → Worker sys k → Answered now marked held d k
@@ -182,7 +187,7 @@ module _ (sys : System) (st : State) where
 
   -- every move keeps it
   pub expected-move : {s : State} {new : List Event} → Typed sys st → Expected sys st → Moves sys st s new → Expected sys s
-  unfolding pollOf current afterTreat afterSend afterList afterPoll afterDrop afterAnswer afterAsk afterCount afterMark
+  unfolding nextPoll current afterTreat afterSend afterList afterPoll afterDrop afterAnswer afterAsk afterCount afterMark
   expected-move t g (treats k a rest w e) o = g o
   expected-move t g (sends k w e) o =
       rw (controller-count (st .listCounter) k (suc (st .listCounter k)) w) (sending k (list (st .toSend k)) w (g o))
@@ -194,7 +199,7 @@ module _ (sys : System) (st : State) where
       rw from-controller (hearing k q rest w (rw from-controller at e) (g o))
   expected-move t g (ignores j k i rest w h d e) o = worker-takes j k (reply i) rest w e (λ x. refl) (g o)
   expected-move t g (answers k q w e r) o = answering k q w e (g o)
-  expected-move t g (asks e) o = asking (pollOf (suc (st .controller .timestamp)) (st .listCounter 0))
+  expected-move t g (asks e) o = asking (nextPoll st)
   expected-move t g (tallies k labels rest w e) o = absurd (false≢true o)
   expected-move t g (marks k i rest w e r) o = marking k rest w (g o)
   expected-move t g (drops k i rest w e r) o =

@@ -20,9 +20,10 @@ use Rattle.disac4.specs.Action.{isEmpty, treat, treatFrom, afterTreat, s
 use Rattle.disac4.specs.Event.{sent, eventsAt, events, treatEvent, readEvent, isTreat, isRead}
 use Rattle.disac4.specs.Loading.{load}
 use Rattle.disac4.specs.Report.{lowestEmpty, isSend, isPoll}
-use Rattle.disac4.specs.State.{State, Message, list, poll, reply, Poll}
+use Rattle.disac4.specs.State.{State, Message, list, poll, reply}
 use Rattle.disac4.specs.System.{System, Sound}
 use Rattle.disac4.specs.Turn.{Turn, pollNumber, treatNumber, sendNumber, answerNumber, allowed, workerStep, controllerStep, step, after, play, isSome, changes, changesWhere}
+use Rattle.disac4.specs.declared.Poll.{Poll}
 
 -- ---- sends
 

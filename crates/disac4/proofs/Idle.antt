@@ -15,7 +15,8 @@ use Rattle.network.specs.Network.{Label}
 use Rattle.disac4.proofs.Channels.{broadcast-sender}
 use Rattle.disac4.proofs.Progress.{none-chosen, some-refused, none-taken, read-takes, hear-takes}
 use Rattle.disac4.specs.Action.{isEmpty, treatFrom, treat, afterTreat, send, afterSend, readFrom, readWorker, afterList, afterPoll, afterDrop, answerTo, answer, ready, afterAnswer, ask, afterAsk, controllerFrom, readController, current, afterCount, afterMark}
-use Rattle.disac4.specs.State.{State, Message, list, poll, reply, Poll}
+use Rattle.disac4.specs.State.{State, Message, list, poll, reply}
+use Rattle.disac4.specs.declared.Poll.{Poll}
 use Rattle.disac4.specs.System.{System}
 use Rattle.disac4.specs.Turn.{Turn, treatNumber, sendNumber, answerNumber, pollNumber, allowed, workerStep, controllerStep, step, isSome}
 

@@ -14,11 +14,12 @@ use Rattle.disac4.proofs.Channels.{Channels, into, into-take, into-put,
 use Rattle.disac4.proofs.DomainSize.{treat-size}
 use Rattle.disac4.proofs.Moves.{Moves, treats, sends, reads, hears, ignores, answers, asks, tallies, marks, drops, discards}
 use Rattle.disac4.proofs.Workers.{overWorkers, over-update, over-append, workers-take, workers-apart, workers-broadcast, workers-poll}
-use Rattle.disac4.specs.Action.{isEmpty, deletes, deletions, afterTreat, afterSend, afterList, afterPoll, afterDrop, afterAnswer, pollOf, afterAsk, afterCount, afterMark}
+use Rattle.disac4.specs.Action.{isEmpty, deletes, deletions, afterTreat, afterSend, afterList, afterPoll, afterDrop, afterAnswer, nextPoll, afterAsk, afterCount, afterMark}
 use Rattle.disac4.specs.Event.{Event}
-use Rattle.disac4.specs.State.{State, Message, list, poll, reply, Poll}
+use Rattle.disac4.specs.State.{State, Message, list, poll, reply}
 use Rattle.disac4.specs.System.{System, Worker}
 use Rattle.disac4.specs.Turn.{isSome}
+use Rattle.disac4.specs.declared.Poll.{Poll}
 
 -- what a message to a worker weighs
 abbrev pub workerWeight : Message → ℕ
@@ -185,7 +186,7 @@ module _ (sys : System) (st : State) where
   ask-falls : st .controller .pollOpen ≡ false → Falls (afterAsk sys st)
   unfolding potential afterAsk
   ask-falls e =
-      let q : Message = poll (pollOf (suc (st .controller .timestamp)) (st .listCounter 0)) in
+      let q : Message = poll (nextPoll st) in
       omega (
         arith,
         ap (λ b. cond b 0 (3 * p + 1)) e,

@@ -19,16 +19,17 @@ use Rattle.base.specs.Choice.{between}
 use Rattle.disac4.proofs.Allowed.{allowed-bounds, may-read, may-work, may-hear, may-poll}
 use Rattle.disac4.proofs.Channels.{into}
 use Rattle.disac4.proofs.Empty.{empty}
-use Rattle.disac4.proofs.Expected.{Answered, has-mark, has-replied, will-hold}
+use Rattle.disac4.proofs.Expected.{openPoll, Answered, has-mark, has-replied, will-hold}
 use Rattle.disac4.proofs.Safety.{Safe, safe-run}
 use Rattle.disac4.proofs.Sound.{isList}
 use Rattle.disac4.proofs.Typed.{no-self, not-controller}
-use Rattle.disac4.specs.Action.{isEmpty, treat, treatFrom, send, readFrom, readWorker, ready, answer, answerTo, ask, pollOf, allMarked, controllerFrom, readController}
+use Rattle.disac4.specs.Action.{isEmpty, treat, treatFrom, send, readFrom, readWorker, ready, answer, answerTo, ask, allMarked, controllerFrom, readController}
 use Rattle.disac4.specs.Event.{Event, events}
 use Rattle.disac4.specs.Loading.{load}
-use Rattle.disac4.specs.State.{State, Message, list, poll, reply, Poll}
+use Rattle.disac4.specs.State.{State, Message, list, poll, reply}
 use Rattle.disac4.specs.System.{System, Worker, Sound}
 use Rattle.disac4.specs.Turn.{Turn, turn, treatNumber, sendNumber, answerNumber, pollNumber, allowed, workerStep, controllerStep, step, play, isSome, changes}
+use Rattle.disac4.specs.declared.Poll.{Poll}
 
 -- a state in which no allowed turn changes anything
 abbrev pub Stuck : System → State → Type 0
@@ -137,8 +138,8 @@ module _ (sys : System) (st : State) (few : sys .workers ≤ 8) (running : st .c
         sum-zero (suc (sys .workers)) (λ j. weigh isList (st .channel j k))
         (λ j h. ap (weigh isList) (no-messages j k (omega arith) b))
 
-    is-ready : (k : ℕ) → Worker sys k → ready k (pollOf (st .controller .timestamp) (st .listCounter 0)) st ≡ true
-    unfolding ready pollOf
+    is-ready : (k : ℕ) → Worker sys k → ready k (openPoll st) st ≡ true
+    unfolding ready
     is-ready k w =
         and-intro
         (and-intro (ap isEmpty (nothing-to-treat k w)) (ap isEmpty (nothing-to-send k w)))
@@ -155,13 +156,13 @@ module _ (sys : System) (st : State) (few : sys .workers ≤ 8) (running : st .c
     all-answered : (k : ℕ) → Worker sys k → st .controller .marked k ≡ true
     all-answered k w = go (g .expected poll-open k w)
       where
-        go : Answered (pollOf (st .controller .timestamp) (st .listCounter 0)) (st .controller .marked) (st .held) (st .channel) k
+        go : Answered (openPoll st) (st .controller .marked) (st .held) (st .channel) k
             → st .controller .marked k ≡ true
         go (has-mark x) = x
         go (has-replied x) = absurd (false≢true (rw (no-messages k 0 (w .within) (omega arith)) at x))
         go (will-hold x) =
             clash (is-ready k w)
-            (no-answer k (pollOf (st .controller .timestamp) (st .listCounter 0)) w
+            (no-answer k (openPoll st) w
             (rw (no-messages 0 k (omega arith) (w .within)) at x))
 
     -- with all workers marked the plan would be closed

@@ -17,10 +17,11 @@ use Rattle.disac4.proofs.Channels.{broadcast-each}
 use Rattle.disac4.proofs.Deleted.{deletedBy, treat-deletes, treat-deletes-own}
 use Rattle.disac4.proofs.Moves.{Moves, treats, sends, reads, hears, ignores, answers, asks, tallies, marks, drops, discards}
 use Rattle.disac4.proofs.Occurrences.{occurs, carried, sentBy, readBy, treatedBy}
-use Rattle.disac4.specs.Action.{deletions, afterTreat, afterSend, afterList, afterPoll, afterDrop, afterAnswer, afterAsk, afterCount, afterMark, pollOf}
+use Rattle.disac4.specs.Action.{deletions, afterTreat, afterSend, afterList, afterPoll, afterDrop, afterAnswer, afterAsk, afterCount, afterMark, nextPoll}
 use Rattle.disac4.specs.Event.{Event, sent, taken, treated, deleted}
-use Rattle.disac4.specs.State.{State, Message, list, poll, reply, Poll}
+use Rattle.disac4.specs.State.{State, Message, list, poll, reply}
 use Rattle.disac4.specs.System.{System, Worker}
+use Rattle.disac4.specs.declared.Poll.{Poll}
 
 module _ (sys : System) (x v : ℕ) where
   abbrev gone : State → ℕ → ℕ
@@ -87,7 +88,7 @@ module _ (sys : System) (x v : ℕ) where
         j i)
       where
         q : Poll
-        q = pollOf (suc (st .controller .timestamp)) (st .listCounter 0)
+        q = nextPoll st
 
     -- worker `k` treats a label
     at-treat : (k : ℕ) (a : Label) (rest : List Label) → st .workList k ≡ a ∷ rest

@@ -11,11 +11,12 @@ use Rattle.base.proofs.Each.{Each, each-append, each-mono}
 use Rattle.base.specs.Choice.{update, update₂}
 use Rattle.disac4.proofs.Channels.{Channels, broadcast-each}
 use Rattle.disac4.proofs.Moves.{Moves, treats, sends, reads, hears, ignores, answers, asks, tallies, marks, drops, discards}
-use Rattle.disac4.specs.Action.{broadcast, pollOf, afterTreat, afterSend, afterList, afterPoll, afterDrop, afterAnswer, afterAsk, afterCount, afterMark}
+use Rattle.disac4.specs.Action.{broadcast, nextPoll, afterTreat, afterSend, afterList, afterPoll, afterDrop, afterAnswer, afterAsk, afterCount, afterMark}
 use Rattle.disac4.specs.Event.{Event}
 use Rattle.disac4.specs.Loading.{load}
-use Rattle.disac4.specs.State.{State, Message, list, poll, reply, Poll}
+use Rattle.disac4.specs.State.{State, Message, list, poll, reply}
 use Rattle.disac4.specs.System.{System, Worker}
+use Rattle.disac4.specs.declared.Poll.{Poll}
 
 -- a worker is not the controller
 pub not-controller : {sys : System} {k : ℕ} → Worker sys k → 0 ≡ k → ⊥
@@ -145,7 +146,7 @@ module _ {sys : System} {st : State} (t : Typed sys st) where
 
   -- every move keeps the channels typed
   pub typed-move : {s : State} {new : List Event} → Moves sys st s new → Typed sys s
-  unfolding pollOf afterTreat afterSend afterList afterPoll afterDrop afterAnswer afterAsk afterCount afterMark
+  unfolding nextPoll afterTreat afterSend afterList afterPoll afterDrop afterAnswer afterAsk afterCount afterMark
   typed-move (treats k a rest w e) = record { messages = t .messages; polls = t .polls }
   typed-move (sends k w e) = record {
     messages =
@@ -177,7 +178,7 @@ module _ {sys : System} {st : State} (t : Typed sys st) where
   }
   typed-move (asks e) = record {
     messages =
-        broadcast-typed (sys .workers) (suc N) true D (st .channel) 0 (poll (pollOf (suc N) D)) (omega arith)
+        broadcast-typed (sys .workers) (suc N) true D (st .channel) 0 (poll (nextPoll st)) (omega arith)
         (λ i. (refl, record { bound = le-refl (suc N); within = le-refl D; wants = λ o x. refl }))
         (messages-later (sys .workers) N asked D (suc N) true D (omega arith) (omega arith)
         (λ o x. absurd (omega arith))

@@ -12,7 +12,7 @@ use Rattle.disac4.proofs.Channels.{into, into-take, into-other, into-fa
 use Rattle.disac4.proofs.Moves.{Moves, treats, sends, reads, hears, ignores, answers, asks, tallies, marks, drops, discards, kept}
 use Rattle.disac4.proofs.SendBound.{unsentLabels, treat-unsent, send-unsent, load-unsent, unsent-part, sends-and-unsent}
 use Rattle.disac4.proofs.Typed.{not-controller}
-use Rattle.disac4.specs.Action.{deletions, pollOf, afterTreat, afterSend, afterList, afterPoll, afterDrop, afterAnswer, afterAsk, afterCount, afterMark}
+use Rattle.disac4.specs.Action.{deletions, nextPoll, afterTreat, afterSend, afterList, afterPoll, afterDrop, afterAnswer, afterAsk, afterCount, afterMark}
 use Rattle.disac4.specs.Event.{Event}
 use Rattle.disac4.specs.Loading.{load}
 use Rattle.disac4.specs.State.{State, Message, list, poll, reply}
@@ -124,7 +124,7 @@ module _ (sys : System) where
   coming-move {st} i v (asks e) =
       omega (
         arith,
-        into-broadcast labelsIn p (st .channel) 0 (poll (pollOf (suc (st .controller .timestamp)) (st .listCounter 0))) i
+        into-broadcast labelsIn p (st .channel) 0 (poll (nextPoll st)) i
             (omega arith) (v .within) (λ x. not-controller v (sym x)),
       )
   coming-move {st} i v (tallies k labels rest w e) =

@@ -7,8 +7,10 @@ use lib.Dec.{leb, eqb}
 use Rattle.base.specs.Below.{allBelow}
 use Rattle.base.specs.Choice.{update, update₂}
 use Rattle.network.specs.Network.{Label, labelsWhere, supports}
-use Rattle.disac4.specs.State.{State, Message, list, poll, reply, Poll}
+use Rattle.disac4.specs.State.{State, Message, list, poll, reply}
 use Rattle.disac4.specs.System.{System}
+use Rattle.disac4.specs.declared.ListCounter.{ListCounter}
+use Rattle.disac4.specs.declared.Poll.{Poll}
 use Rattle.disac4.specs.declared.Timestamp.{Timestamp}
 
 -- the channels after actor `k` sent a message to every other actor
@@ -154,10 +156,19 @@ answer k st = answerTo k st (st .held k)
 
 -- ---- Poll: if no poll is open, a new one goes to every worker
 
-unfoldable pub pollOf : ℕ → ℕ → Poll
-pollOf n w = record { number = record { 0 = n }; wanted = record { 0 = w } }
+-- the number of the next poll
+abbrev pub nextNumber : State → Timestamp
+nextNumber st = record { 0 = suc (st .controller .timestamp) }
 
--- the poll number goes up by one, all marks are cleared, and the wanted count is the lists that the controller has read
+-- the lists that the controller has read
+abbrev pub listsRead : State → ListCounter
+listsRead st = record { 0 = st .listCounter 0 }
+
+-- it carries its own number, and as the wanted count the lists that the controller has read: each of its own type
+unfoldable pub nextPoll : State → Poll
+nextPoll st = record { number = nextNumber st; wanted = listsRead st }
+
+-- the poll number goes up by one, and all marks are cleared
 unfoldable pub afterAsk : System → State → State
 afterAsk sys st = record {
   domain = st .domain;
@@ -166,10 +177,7 @@ afterAsk sys st = record {
   toSend = st .toSend;
   held = st .held;
   listCounter = st .listCounter;
-  channel =
-      broadcast (sys .workers) 0
-      (poll (pollOf (suc (st .controller .timestamp)) (st .listCounter 0)))
-      (st .channel);
+  channel = broadcast (sys .workers) 0 (poll (nextPoll st)) (st .channel);
   controller = record {
     timestamp = suc (st .controller .timestamp);
     pollOpen = true;

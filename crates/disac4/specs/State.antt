@@ -4,14 +4,10 @@ use mathlib.Core.Bool.{Bool}
 use mathlib.Core.List.{List}
 use mathlib.Core.Option.{Option}
 use Rattle.network.specs.Network.{Label, Domains}
-use Rattle.disac4.specs.declared.ListCounter.{ListCounter}
+use Rattle.disac4.specs.declared.Poll.{Poll}
 use Rattle.disac4.specs.declared.Timestamp.{Timestamp}
 
--- a poll carries its own number and the wanted count of lists: of two types, so that neither passes for the other
-pub record Poll : Type 0 where
-  pub number : Timestamp
-  pub wanted : ListCounter
-
+-- a poll is the struct of the code: its own number and the wanted count of lists
 pub data Message : Type 0 where
   list : List Label → Message
   poll : Poll → Message

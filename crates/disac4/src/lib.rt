@@ -27,6 +27,12 @@ pub struct Timestamp(pub u16);
 // A count of lists.
 pub struct ListCounter(pub u16);
 
+// A poll carries its own number and the wanted count of lists: of two types, so that neither passes for the other.
+pub struct Poll {
+    pub number: Timestamp,
+    pub wanted: ListCounter,
+}
+
 // The controller's tally (the desk's): its count of lists, the poll number, the marks as a row of bits, lowest bit for worker 1,
 // whether the poll is open (polling), and whether the plan is closed. Eight bytes without a gap, so that it is copied at once.
 pub struct Tally {

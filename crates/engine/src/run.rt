@@ -22,9 +22,8 @@ fn read(cells: &mut [u16], t: Tally, i: usize, d: usize) -> usize
     ensures { λ r. ⌜ Acts (readOn t i d) (now (cells .entry)) (now (cells .exit)) r ⌝ }
 {
     if d == 0 {
-        let at = t.timestamp;
-        let n = at.0 as usize;
-        return reads::read_poll(cells, i, n);
+        let last = t.timestamp;
+        return reads::read_poll(cells, i, last);
     }
     reads::read_list(cells, d - 1, i)
 }

@@ -71,7 +71,7 @@ module _ (i n : ℕ) (m : Mem) {polls : ℕ} (q : polls ≡ m WORKERS i POLLS) w
   unfolding readPollM
   read-no-poll h = rw (← q, le-ltb polls n h)
 
-  pub read-holds : (m₁ m₂ : Mem) → polls < n → m₁ ≡ store m WORKERS i POLLS (polls + 1)
-      → m₂ ≡ store m₁ WORKERS i HELD (polls + 1) → readPollM i n m ≡ some m₂
+  pub read-holds : polls < n
+      → readPollM i n m ≡ some (store (store m WORKERS i POLLS (polls + 1)) WORKERS i HELD (polls + 1))
   unfolding readPollM
-  read-holds m₁ m₂ h p₁ p₂ = rw (← q, lt-ltb polls n h, p₂, p₁)
+  read-holds h = rw (← q, lt-ltb polls n h)

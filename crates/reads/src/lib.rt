@@ -9,11 +9,13 @@ use cells::layout::WORKERS;
 use cells::layout::get;
 use cells::layout::put;
 use cells::lists::copy;
+use disac4::Timestamp;
 ghost use mathlib.Core.Path.{_≡_};
 ghost use Prim.Native.Nat.{_-_, _<_, _≤_};
 ghost use lib.ListN.{length};
+ghost use Rattle.cells.specs.Layout.{WORKERS, POLLS, HELD};
 ghost use Rattle.cells.specs.Lists.{copyM};
-ghost use Rattle.cells.specs.Memory.{memOf, Acts};
+ghost use Rattle.cells.specs.Memory.{memOf, store, Acts};
 ghost use Rattle.reads.specs.Reads.{readListM, takenWith, readPollM};
 
 // The labels between two places of row `j`'s log join the end of row `i`'s work list.
@@ -70,16 +72,26 @@ pub fn read_list(cells: &mut [u16], j: usize, i: usize) -> usize
     1
 }
 
-// Read: row `i` takes the next poll, of `n` that were sent, and holds it.
-pub fn read_poll(cells: &mut [u16], i: usize, n: usize) -> usize
-    requires { ⌜ (24576 ≤ length (now cells)) × (i < 8) × (n < 65536) ⌝ }
-    ensures { λ r. ⌜ Acts (readPollM i n) (now (cells .entry)) (now (cells .exit)) r ⌝ }
+// The poll of this number is the last that row `i` has read, and the one that it holds.
+fn hold(cells: &mut [u16], i: usize, number: Timestamp)
+    requires { ⌜ (24576 ≤ length (now cells)) × (i < 8) ⌝ }
+    ensures { λ r. ⌜ memOf (now (cells .exit)) ≡ store (store (memOf (now (cells .entry))) WORKERS i POLLS (number .0)) WORKERS i HELD (number .0) ⌝ }
 {
+    let n = number.0 as usize;
+    put(cells, WORKERS, i, POLLS, n);
+    put(cells, WORKERS, i, HELD, n);
+}
+
+// Read: row `i` takes the next poll, up to the last that was sent, and holds it.
+pub fn read_poll(cells: &mut [u16], i: usize, last: Timestamp) -> usize
+    requires { ⌜ (24576 ≤ length (now cells)) × (i < 8) ⌝ }
+    ensures { λ r. ⌜ Acts (readPollM i (last .0)) (now (cells .entry)) (now (cells .exit)) r ⌝ }
+{
+    let n = last.0 as usize;
     let polls = get(cells, WORKERS, i, POLLS);
     if polls >= n {
         return 0;
     }
-    put(cells, WORKERS, i, POLLS, polls + 1);
-    put(cells, WORKERS, i, HELD, polls + 1);
+    hold(cells, i, Timestamp(polls as u16 + 1));
     1
 }

@@ -7,9 +7,10 @@ use mathlib.Core.Path.{_≡_, refl, sym, _∙_, ap, ap₂}
 use native.Mathlib.Omega.{arith}
 use borrow.Author.Tests.{lt-ltb}
 use lib.Dec.{eqb}
-use Rattle.disac4.specs.Action.{isEmpty, pollOf, afterAnswer, ready, answerTo, answer}
-use Rattle.disac4.specs.State.{Poll, Message, reply}
+use Rattle.disac4.specs.Action.{isEmpty, afterAnswer, ready, answerTo, answer}
+use Rattle.disac4.specs.State.{Message, reply}
 use Rattle.disac4.specs.System.{System}
+use Rattle.disac4.specs.declared.Poll.{Poll}
 use Rattle.disac4.specs.declared.Tally.{Tally}
 use Rattle.cells.proofs.Queue.{labels-empty, queue-put}
 use Rattle.cells.specs.Layout.{WORKERS, BOUNDS, WORK, WANTED, HEAD, TAIL, LOGEND, SENDS, LISTS, HELD, OUTEND}
@@ -66,7 +67,7 @@ module _ (sys : System) (small : Small sys) (s : Machine) (inv : Inv sys s) (i :
 
   -- the reply is the newest message to the controller
   replied : listed (outQueue m′ i) ≡ listed (outQueue m i) ++ (reply (held .number) ∷ [])
-  unfolding answeredM held pollAt pollOf
+  unfolding answeredM held pollAt
   replied =
       queue-put (outQueue m i) (outQueue m′ i) (out-kept sys small s inv m′ answer-grown i h) (inv .rows i h .out-read) refl
       (put i m .more)
@@ -105,7 +106,7 @@ module _ (sys : System) (small : Small sys) (s : Machine) (inv : Inv sys s) (i :
       && eqb (m WORKERS i LISTS) (m WANTED 0 (m WORKERS i HELD))
 
   ready-row : ready (suc i) held (viewOf sys s) ≡ isReady
-  unfolding ready view held pollAt pollOf
+  unfolding ready view held pollAt
   ready-row =
       ap₂ (λ (a b : Bool). a && b)
       (ap₂ (λ (a b : Bool). a && b) no-work (nothing-to-send sys small s inv i h))

@@ -6,7 +6,7 @@ use native.Mathlib.Omega.{arith}
 use borrow.Author.Tests.{lt-ltb, le-ltb, ne-eqb}
 use Rattle.base.proofs.Choice.{cond-true, cond-false}
 use Rattle.disac4.specs.Action.{afterPoll, readFrom, readWorker}
-use Rattle.disac4.specs.State.{Poll}
+use Rattle.disac4.specs.declared.Poll.{Poll}
 use Rattle.disac4.specs.System.{System}
 use Rattle.disac4.specs.declared.Tally.{Tally}
 use Rattle.cells.proofs.Queue.{read-queue}

@@ -7,9 +7,10 @@ use mathlib.Core.Path.{_≡_, refl, sym, _∙_, ap, ap₂}
 use native.Mathlib.Numerals.{add-one}
 use native.Mathlib.Omega.{arith}
 use borrow.Author.Tests.{lt-ltb}
-use Rattle.disac4.specs.Action.{pollOf, afterAsk, ask}
-use Rattle.disac4.specs.State.{Poll, Message, poll}
+use Rattle.disac4.specs.Action.{nextPoll, afterAsk, ask}
+use Rattle.disac4.specs.State.{Message, poll}
 use Rattle.disac4.specs.System.{System}
+use Rattle.disac4.specs.declared.Poll.{Poll}
 use Rattle.disac4.specs.declared.Tally.{Tally}
 use Rattle.cells.proofs.Queue.{queue-put}
 use Rattle.cells.specs.Layout.{WORKERS, HELD}
@@ -45,9 +46,11 @@ module _ (sys : System) (small : Small sys) (s : Machine) (inv : Inv sys s) wher
   asked-grown = search (old-wanted t m)
 
   -- the new poll
-  asked : pollAt m′ (t .timestamp .0 + 1) ≡ pollOf (suc (t .timestamp .0)) (t .lists .0)
-  unfolding pollAt
-  asked = ap₂ pollOf (add-one (t .timestamp .0)) (new-wanted t m)
+  asked : pollAt m′ (t .timestamp .0 + 1) ≡ nextPoll (view sys m t)
+  unfolding pollAt nextPoll view viewLists
+  asked =
+      ap₂ (λ (n w : ℕ). record { number = record { 0 = n }; wanted = record { 0 = w } }) (add-one (t .timestamp .0))
+      (new-wanted t m)
 
   asked-view : view sys m′ t′ ≡ afterAsk sys (view sys m t)
   unfolding view-parts askM askedT afterAsk
@@ -72,7 +75,7 @@ module _ (sys : System) (small : Small sys) (s : Machine) (inv : Inv sys s) wher
 
       to : (k : ℕ) → k ≤ sys .workers → (k ≡ 0 → ⊥)
           → atChannel sys (rowsOf m′ t′) 0 k
-          ≡ atChannel sys (rowsOf m t) 0 k ++ (poll (pollOf (suc (t .timestamp .0)) (viewLists sys m t 0)) ∷ [])
+          ≡ atChannel sys (rowsOf m t) 0 k ++ (poll (nextPoll (view sys m t)) ∷ [])
       to zero l n = absurd (n refl)
       to (suc i) l n =
           at-polls sys (rowsOf m′ t′) i l

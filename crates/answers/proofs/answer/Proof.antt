@@ -43,48 +43,54 @@ returns-3 c =
     idle _ _ (answer-busy _ _ (at-get .get .ensures .0) (at-if1 .if1 .left) (at-if2 .if2 .left)
     (at-both-empty .both-empty .ensures) (c .if3 .taken))
 
-get-requires-2 : tie.Need-get-requires-2
-get-requires-2 c κs = may-get _ _ _ refl _ (omega arith)
+held-poll-requires : tie.Need-held-poll-requires
+held-poll-requires c κs = search needs
 
-get-requires-3 : tie.Need-get-requires-3
-get-requires-3 c κs = may-get _ _ _ refl _ (omega arith)
+list-counter-requires : tie.Need-list-counter-requires
+list-counter-requires c κs = search needs
+
+same-count-requires : tie.Need-same-count-requires
+same-count-requires c κs = search needs
 
 same-length-4 : tie.Need-same-length-4
 same-length-4 c = search needs
 
 returns-4 : tie.Need-returns-4
 returns-4 c =
-    let at-get3 = c .before in
-    let at-get2 = at-get3 .before .before in
-    let at-if3 = at-get2 .before .before in
+    let at-same-count = c .before in
+    let at-list-counter = at-same-count .before in
+    let at-held-poll = at-list-counter .before .before .before in
+    let at-if3 = at-held-poll .before .before in
     let at-both-empty = at-if3 .before in
     let at-if2 = at-both-empty .before .before in
     let at-if1 = at-if2 .before in
     let at-get = at-if1 .before in
     idle _ _ (answer-unequal _ _ (at-get .get .ensures .0) (at-if1 .if1 .left) (at-if2 .if2 .left)
-    (at-both-empty .both-empty .ensures) (at-if3 .if3 .left) (at-get2 .get2 .ensures .0)
-    (at-get3 .get3 .ensures .0) (c .if4 .taken))
+    (at-both-empty .both-empty .ensures) (at-if3 .if3 .left) (at-list-counter .list-counter .ensures)
+    (at-held-poll .held-poll .ensures) (at-same-count .same-count .ensures) (c .if4 .taken))
 
-get-requires-4 : tie.Need-get-requires-4
-get-requires-4 c κs = may-get _ _ _ refl _ (omega arith)
+get-requires-2 : tie.Need-get-requires-2
+get-requires-2 c κs = may-get _ _ _ refl _ (omega arith)
 
 same-length-5 : tie.Need-same-length-5
 same-length-5 c = search needs
 
 returns-5 : tie.Need-returns-5
 returns-5 c =
-    let at-get4 = c .before in
-    let at-if4 = at-get4 .before .before in
-    let at-get3 = at-if4 .before in
-    let at-get2 = at-get3 .before .before in
-    let at-if3 = at-get2 .before .before in
+    let at-get2 = c .before in
+    let at-if4 = at-get2 .before .before in
+    let at-same-count = at-if4 .before in
+    let at-list-counter = at-same-count .before in
+    let at-held-poll = at-list-counter .before .before .before in
+    let at-if3 = at-held-poll .before .before in
     let at-both-empty = at-if3 .before in
     let at-if2 = at-both-empty .before .before in
     let at-if1 = at-if2 .before in
     let at-get = at-if1 .before in
     idle _ _ (answer-crowded _ _ (at-get .get .ensures .0) (at-if1 .if1 .left) (at-if2 .if2 .left)
-    (at-both-empty .both-empty .ensures) (at-if3 .if3 .left) (at-get2 .get2 .ensures .0)
-    (at-get3 .get3 .ensures .0) (at-if4 .if4 .left) (at-get4 .get4 .ensures .0) (c .if5 .taken))
+    (at-both-empty .both-empty .ensures) (at-if3 .if3 .left) (at-list-counter .list-counter .ensures)
+    (at-held-poll .held-poll .ensures) (at-same-count .same-count .ensures) (at-if4 .if4 .left)
+    (at-get2 .get2 .ensures .0) (c .if5 .taken))
 
 put-reply-requires : tie.Need-put-reply-requires
 put-reply-requires c κs = search needs
@@ -95,19 +101,21 @@ same-length-6 c = search needs
 returns-6 : tie.Need-returns-6
 returns-6 c =
     let at-put-reply = c .before .before in
-    let at-if5 = at-put-reply .before .before in
-    let at-get4 = at-if5 .before in
-    let at-if4 = at-get4 .before .before in
-    let at-get3 = at-if4 .before in
-    let at-get2 = at-get3 .before .before in
-    let at-if3 = at-get2 .before .before in
+    let at-if5 = at-put-reply .before .before .before in
+    let at-get2 = at-if5 .before in
+    let at-if4 = at-get2 .before .before in
+    let at-same-count = at-if4 .before in
+    let at-list-counter = at-same-count .before in
+    let at-held-poll = at-list-counter .before .before .before in
+    let at-if3 = at-held-poll .before .before in
     let at-both-empty = at-if3 .before in
     let at-if2 = at-both-empty .before .before in
     let at-if1 = at-if2 .before in
     let at-get = at-if1 .before in
     acts _ _ _ _ (answer-goes _ _ (at-get .get .ensures .0) (at-if1 .if1 .left) (at-if2 .if2 .left)
-    (at-both-empty .both-empty .ensures) (at-if3 .if3 .left) (at-get2 .get2 .ensures .0)
-    (at-get3 .get3 .ensures .0) (at-if4 .if4 .left) (at-get4 .get4 .ensures .0) (at-if5 .if5 .left))
+    (at-both-empty .both-empty .ensures) (at-if3 .if3 .left) (at-list-counter .list-counter .ensures)
+    (at-held-poll .held-poll .ensures) (at-same-count .same-count .ensures) (at-if4 .if4 .left)
+    (at-get2 .get2 .ensures .0) (at-if5 .if5 .left))
     (at-put-reply .put-reply .ensures)
 
 pub answer-spec : {M : Type 1} → statement M
@@ -122,11 +130,12 @@ answer-spec =
     both-empty-requires
     same-length-3
     returns-3
-    get-requires-2
-    get-requires-3
+    held-poll-requires
+    list-counter-requires
+    same-count-requires
     same-length-4
     returns-4
-    get-requires-4
+    get-requires-2
     same-length-5
     returns-5
     put-reply-requires

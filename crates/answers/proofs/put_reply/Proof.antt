@@ -7,6 +7,9 @@ use Rattle.cells.proofs.Ranges.{may-put}
 use Rattle.answers.proofs.put_reply.Statement.{statement}
 use Rattle.answers.proofs.put_reply.Tie as tie
 
+cast-put : tie.Need-cast-put
+cast-put c = search needs
+
 put-requires : tie.Need-put-requires
 put-requires c κs = may-put _ _ _ refl _ _ (omega arith)
 
@@ -27,10 +30,11 @@ returns c =
     let at-put3 = c .before .before in
     let at-put2 = at-put3 .before .before .before .before in
     let at-put = at-put2 .before .before .before .before in
-    let start = at-put .before .before .before in
-    answered _ _ _ _ (start .args .i) (start .args .held) (start .args .outs) (at-put .put .ensures)
+    let start = at-put .before .before .before .before in
+    answered _ _ _ _ (start .args .i) (start .args .number .0) (start .args .outs) (at-put .put .ensures)
     (at-put2 .put2 .ensures) (at-put3 .put3 .ensures)
 
 pub put-reply-spec : {M : Type 1} → statement M
 put-reply-spec =
-    tie.close (tie.spec put-requires add-put put-requires-2 put-requires-3 same-length returns)
+    tie.close
+    (tie.spec cast-put put-requires add-put put-requires-2 put-requires-3 same-length returns)

@@ -4,9 +4,12 @@ use native.Mathlib.Omega.{arith}
 use borrow.Author.Needs.{needs}
 use Rattle.cells.proofs.Acting.{idle, acts}
 use Rattle.reads.proofs.ReadLaws.{read-no-poll, read-holds}
-use Rattle.cells.proofs.Ranges.{may-get, may-put}
+use Rattle.cells.proofs.Ranges.{may-get}
 use Rattle.reads.proofs.read_poll.Statement.{statement}
 use Rattle.reads.proofs.read_poll.Tie as tie
+
+cast-n : tie.Need-cast-n
+cast-n c = search needs
 
 get-requires : tie.Need-get-requires
 get-requires c κs = may-get _ _ _ refl _ (omega arith)
@@ -19,40 +22,35 @@ returns c =
     let at-get = c .before in
     idle _ _ (read-no-poll _ _ _ (at-get .get .ensures .0) (c .if1 .taken))
 
-add-put : tie.Need-add-put
-add-put c = search needs
+cast-t13 : tie.Need-cast-t13
+cast-t13 c = search needs
 
-put-requires : tie.Need-put-requires
-put-requires c κs = may-put _ _ _ refl _ _ (omega arith)
+add-t14 : tie.Need-add-t14
+add-t14 c = search needs
 
-add-put-2 : tie.Need-add-put-2
-add-put-2 c = search needs
-
-put-requires-2 : tie.Need-put-requires-2
-put-requires-2 c κs = may-put _ _ _ refl _ _ (omega arith)
+hold-requires : tie.Need-hold-requires
+hold-requires c κs = search needs
 
 same-length-2 : tie.Need-same-length-2
 same-length-2 c = search needs
 
 returns-2 : tie.Need-returns-2
 returns-2 c =
-    let at-put2 = c .before .before in
-    let at-put = at-put2 .before .before .before .before in
-    let at-if1 = at-put .before .before in
+    let at-hold = c .before .before in
+    let at-if1 = at-hold .before .before in
     let at-get = at-if1 .before in
-    acts _ _ _ _ (read-holds _ _ _ (at-get .get .ensures .0) _ _ (at-if1 .if1 .left) (at-put .put .ensures)
-    (at-put2 .put2 .ensures)) refl
+    acts _ _ _ _ (read-holds _ _ _ (at-get .get .ensures .0) (at-if1 .if1 .left)) (at-hold .hold .ensures)
 
 pub read-poll-spec : {M : Type 1} → statement M
 read-poll-spec =
     tie.close
     (tie.spec
+    cast-n
     get-requires
     same-length
     returns
-    add-put
-    put-requires
-    add-put-2
-    put-requires-2
+    cast-t13
+    add-t14
+    hold-requires
     same-length-2
     returns-2)

@@ -7,9 +7,6 @@ use Rattle.refinement.specs.Run.{readOn}
 use Rattle.engine.proofs.run.read.Statement.{statement}
 use Rattle.engine.proofs.run.read.Tie as tie
 
-cast-n : tie.Need-cast-n
-cast-n c = search needs
-
 read-poll-requires : tie.Need-read-poll-requires
 read-poll-requires c κs = search needs
 
@@ -19,7 +16,7 @@ same-length c = search needs
 returns : tie.Need-returns
 returns c =
     let p = c .before .before in
-    let t = p .before .before .before .before in
+    let t = p .before .before .before in
     let a = t .before .before .args in
     acts-as _ (readOn (a .t) (a .i) (a .d)) (now (a .cells)) _ _
     (read-polls (a .t) (a .i) (a .d) (memOf (now (a .cells))) (t .if1 .taken)) (p .read-poll .ensures)
@@ -45,7 +42,6 @@ pub read-spec : {M : Type 1} → statement M
 read-spec =
     tie.close
     (tie.spec
-    cast-n
     read-poll-requires
     same-length
     returns
