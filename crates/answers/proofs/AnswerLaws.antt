@@ -2,9 +2,10 @@
 use Prim.Native.Nat.{ℕ, _+_, _<_, _≤_}
 use mathlib.Core.Bool.{Bool, true, false, cond, not}
 use mathlib.Core.Option.{none, some}
-use mathlib.Core.Path.{_≡_}
+use mathlib.Core.Path.{_≡_, refl}
 use borrow.Author.Tests.{lt-ltb, le-ltb, eq-eqb, ne-eqb, not-true, not-false}
 use lib.Dec.{ltb, eqb}
+use Rattle.base.proofs.Choice.{cond-same, cond-false}
 use Rattle.disac4.specs.declared.ListCounter.{ListCounter}
 use Rattle.disac4.specs.declared.Poll.{Poll}
 use Rattle.cells.specs.Layout.{WORKERS, BOUNDS, OUT, WANTED, HEAD, TAIL, LOGEND, SENDS, LISTS, HELD, OUTEND}
@@ -37,6 +38,13 @@ module _ (i : ℕ) (m : Mem) {head tail : ℕ} (q₁ : head ≡ m WORKERS i HEAD
         → eqb start end ≡ emptyM i m
     unfolding emptyM
     empty-by h q₄ q₅ = rw (← q₁, ← q₂, eq-eqb head tail h₁, ← q₃, lt-ltb sends 519 h, ← q₄, ← q₅)
+
+-- a worker with something to treat or send does not answer, whatever poll it holds
+pub answer-first : (i : ℕ) (m : Mem) → emptyM i m ≡ false → answerM i m ≡ none
+unfolding answerM
+answer-first i m e =
+    cond-same (eqb (m WORKERS i HELD) 0) none _ none refl
+    (cond-same (ltb (m WORKERS i HELD) 520) _ none none (cond-false _ none e) refl)
 
 module _ (i : ℕ) (m : Mem) {held : ℕ} (q₁ : held ≡ m WORKERS i HELD) where
   pub answer-none : held ≡ 0 → answerM i m ≡ none

@@ -2,6 +2,7 @@
 ghost use mathlib.Core.Bool.{cond};
 ghost use mathlib.Core.Path.{_≡_};
 ghost use Prim.Native.Nat.{ℕ, _<_, _^_};
+ghost use Rattle.base.specs.Below.{one};
 ghost use Rattle.base.specs.Choice.{between as betweenOf};
 ghost use Rattle.base.specs.Bytes.{byteAt};
 ghost use Rattle.base.specs.Row.{bit, rowCount};
@@ -61,4 +62,11 @@ pub fn between(low: usize, high: usize, x: usize) -> bool
     ensures { λ r. ⌜ r ≡ betweenOf low high x ⌝ }
 {
     low <= x && x <= high
+}
+
+// 1 where a test holds.
+pub fn one_if(test: bool) -> u8
+    ensures { λ r. ⌜ r ≡ one test ⌝ }
+{
+    if test { 1 } else { 0 }
 }

@@ -1,31 +1,32 @@
 -- The table of the turns that are known to be idle, as a run goes on.
-use Prim.Native.Nat.{ℕ, _+_, _<_}
-use mathlib.Core.Bool.{Bool, true, false, cond, _&&_, not}
+use Prim.Native.Nat.{ℕ, _+_, _-_, _<_}
+use mathlib.Core.Bool.{Bool, true, false, cond, _&&_, _||_, not}
 use mathlib.Core.List.{List, [], _∷_}
 use mathlib.Core.Option.{Option, none, some}
 use mathlib.Core.Path.{_≡_, refl, sym, _∙_, ap, subst}
 use native.Mathlib.Omega.{arith}
-use borrow.Author.Tests.{eqb-true, eqb-false, not-true, not-false}
+use borrow.Author.Tests.{eqb-true, ne-eqb}
 use lib.Dec.{eqb}
 use lib.ListN.{length}
 use Rattle.base.proofs.Bools.{and-left, and-right}
-use Rattle.base.proofs.Choice.{by-test}
+use Rattle.base.proofs.Choice.{by-test, cond-same, cond-false}
 use Rattle.base.specs.Below.{one}
+use Rattle.cells.specs.Memory.{memOf}
 use Rattle.controller.specs.Controller.{Machine, machine}
 use Rattle.disac4.specs.Outcome.{systemAt}
 use Rattle.disac4.specs.Report.{isSend, isPoll}
 use Rattle.disac4.specs.System.{System}
-use Rattle.disac4.specs.Turn.{Turn, turn, isSome}
+use Rattle.disac4.specs.Turn.{turn, allowed, isSome}
 use Rattle.disac4.specs.declared.Tally.{Tally}
 use Rattle.engine.proofs.Advancing.{advanced}
 use Rattle.engine.proofs.RunLaws.{hears-idle}
 use Rattle.engine.specs.Play.{KnownIdle}
-use Rattle.idle.specs.Table.{idleAt, Puts, enables, Learns}
+use Rattle.idle.specs.Table.{idleAt, Puts, enables}
 use Rattle.refinement.proofs.IdleKept.{idle-kept}
 use Rattle.refinement.proofs.Start.{fits-regions}
 use Rattle.refinement.proofs.Underway.{under-inv, at-after}
-use Rattle.refinement.specs.Run.{turnOn, Going, Plays}
-use Rattle.refinement.specs.Step.{stepM, afterM}
+use Rattle.refinement.specs.Run.{turnOn, workerOn, Going, Plays}
+use Rattle.refinement.specs.Step.{withMem, stepM, afterM}
 use Rattle.refinement.specs.declared.Progress.{Progress}
 
 -- at first nothing is known
@@ -45,20 +46,35 @@ passed-over b cells g table go known k d h e q =
     adds-none true n = omega arith
     adds-none false n = omega arith
 
+-- a turn may be noted as idle where it is
+pub noted : {b cells : List ℕ} {t : Tally} {table table′ : List ℕ} (c : Bool) (k d : ℕ)
+    → (c ≡ true → stepM (systemAt b) (machine cells t) (turn k d) ≡ none)
+    → Puts (one c) (λ j a. eqb j k && eqb a d) table table′ → KnownIdle b cells t table → KnownIdle b cells t table′
+noted {b} {cells} {t} c k d idle p known = record {
+  long = p .long;
+  idle = λ j a h m q.
+      by-test (eqb j k && eqb a d) (sym (p .each j a h m) ∙ q)
+      (λ s o.
+      rw (eqb-true j k (and-left (eqb j k) (eqb a d) s), eqb-true a d (and-right (eqb j k) (eqb a d) s)) (idle (held c o)))
+      (λ _ z. known .idle j a h m z);
+}
+  where
+    held : (c : Bool) → one c ≡ 1 → c ≡ true
+    held true e = refl
+    held false e = absurd (omega arith)
+
+-- a worker's turn is idle where its action is
+pub work-idle : (b cells : List ℕ) (t : Tally) (k d : ℕ) → (k ≡ 0 → ⊥) → workerOn (systemAt b) t (k - 1) d (memOf cells) ≡ none
+    → stepM (systemAt b) (machine cells t) (turn k d) ≡ none
+unfolding stepM
+work-idle b cells t k d n e =
+    cond-same (t .closed || not (allowed (systemAt b .workers) (turn k d))) none _ none refl
+    (cond-false _ _ (ne-eqb k 0 n) ∙ ap (withMem t) e)
+
 -- ---- after a turn that was played
 
--- a turn that does not count is idle
-uncounted : (o : Option Machine) → one (isSome o) ≡ 0 → o ≡ none
-uncounted none e = refl
-uncounted (some s) e = absurd (omega arith)
-
--- and leaves the machine as it is
-idle-after : (sys : System) (s : Machine) (t : Turn) → stepM sys s t ≡ none → afterM sys s t ≡ s
-unfolding afterM
-idle-after sys s t e = rw e
-
 module _ (b cells cells′ : List ℕ) (g r : Progress) (go : Going b cells g) (k d : ℕ)
-    (plays : Plays b (turn k d ∷ []) cells g cells′ r) where
+    (plays : Plays b (turn k d ∷ []) cells g cells′ r) {table : List ℕ} (known : KnownIdle b cells (g .tally) table) where
   abbrev sys : System
   sys = systemAt b
 
@@ -72,30 +88,35 @@ module _ (b cells cells′ : List ℕ) (g r : Progress) (go : Going b cells g) (
       at-after b (go .sound) (go .before) (go .turns) cells g (go .at) (turn k d) cells′ r
       (plays (go .before) (go .turns) (go .at))
 
-  -- what is learnt from it holds
-  pub learnt : (c : Bool) (table table′ : List ℕ) → c ≡ not (eqb (r .changes) (g .changes)) → Learns (turn k d) c table table′
-      → KnownIdle b cells (g .tally) table → KnownIdle b cells′ (r .tally) table′
-  unfolding Learns
-  learnt false table table′ e l known = record {
-    long = l .long;
-    idle = λ j a h m q.
-        subst (λ (x : Machine). stepM sys x (turn j a) ≡ none) (sym same)
-        (by-test (eqb j k && eqb a d) (sym (l .each j a h m) ∙ q)
-        (λ t _. rw (eqb-true j k (and-left (eqb j k) (eqb a d) t), eqb-true a d (and-right (eqb j k) (eqb a d) t)) nothing)
-        (λ _ z. known .idle j a h m z));
-  }
-    where
-      nothing : stepM sys s (turn k d) ≡ none
-      nothing =
-          uncounted (stepM sys s (turn k d)) (omega (arith, done .1, eqb-true (r .changes) (g .changes) (not-false _ (sym e))))
+  -- where it changed nothing it is idle, and all that was known is so still
+  module _ (same : r .changes ≡ g .changes) where
+    nothing : stepM sys s (turn k d) ≡ none
+    nothing = uncounted (stepM sys s (turn k d)) (omega (arith, done .1, same))
+      where
+        uncounted : (o : Option Machine) → one (isSome o) ≡ 0 → o ≡ none
+        uncounted none e = refl
+        uncounted (some x) e = absurd (omega arith)
 
-      same : machine cells′ (r .tally) ≡ s
-      same = done .0 ∙ idle-after sys s (turn k d) nothing
-  learnt true table table′ e l known = record {
-    long = l .long;
+    stays : machine cells′ (r .tally) ≡ s
+    unfolding afterM
+    stays = done .0 ∙ rw nothing
+
+    pub idle-again : stepM sys (machine cells′ (r .tally)) (turn k d) ≡ none
+    idle-again = subst (λ (x : Machine). stepM sys x (turn k d) ≡ none) (sym stays) nothing
+
+    pub known-still : KnownIdle b cells′ (r .tally) table
+    known-still = record {
+      long = known .long;
+      idle = λ j a h m q. subst (λ (x : Machine). stepM sys x (turn j a) ≡ none) (sym stays) (known .idle j a h m q);
+    }
+
+  -- and what is not forgotten after it is so
+  pub forgotten : (table′ : List ℕ) → Puts 0 (λ j a. enables (turn k d) (turn j a)) table table′ → KnownIdle b cells′ (r .tally) table′
+  forgotten table′ p = record {
+    long = p .long;
     idle = λ j a h m q.
         subst (λ (x : Machine). stepM sys x (turn j a) ≡ none) (sym (done .0))
-        (by-test (enables (turn k d) (turn j a)) (sym (l .each j a h m) ∙ q)
+        (by-test (enables (turn k d) (turn j a)) (sym (p .each j a h m) ∙ q)
         (λ _ z. absurd (omega (arith, z)))
         (λ n z.
         idle-kept sys (fits-regions b (go .sound)) s

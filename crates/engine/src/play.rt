@@ -1,5 +1,6 @@
 // Playing the turns of a list one after the other.
 use crate::run;
+use crate::settle::settle;
 use base::byte_at;
 use refinement::Progress;
 ghost use mathlib.Core.Bool.{true};
@@ -28,7 +29,15 @@ fn next_turn(
         return g;
     }
     let after = run::advance(b, cells, g, p, actor, action);
-    idle::learn(table, actor, action, after.changes != g.changes);
+    if after.changes == g.changes {
+        idle::note(table, actor, action, true);
+        return after;
+    }
+    idle::forget(table, actor, action);
+    if actor != 0 {
+        let t = after.tally;
+        settle(cells, t, table, actor, action);
+    }
     after
 }
 

@@ -1,6 +1,6 @@
--- A table of the turns that are known to be idle, and what is learnt from a turn.
+-- A table of the turns that are known to be idle, and which of them a turn may enable.
 use Prim.Native.Nat.{ℕ, _+_, _*_, _<_}
-use mathlib.Core.Bool.{Bool, true, false, cond, _&&_, _||_}
+use mathlib.Core.Bool.{Bool, cond, _&&_, _||_}
 use mathlib.Core.List.{List}
 use mathlib.Core.Path.{_≡_}
 use lib.Dec.{leb, ltb, eqb}
@@ -23,8 +23,3 @@ enables t u =
     ((eqb (u .actor) (t .actor) && eqb (u .action) (t .action))
     || (eqb (u .actor) (t .actor) && leb treatNumber (u .action)))
     || (ltb treatNumber (t .action) && eqb (u .action) (t .actor))
-
--- what is known after `t`: it is idle, if it changed nothing; else nothing of the turns that it may have enabled
-unfoldable pub Learns : Turn → Bool → List ℕ → List ℕ → Type 0
-Learns t false before after = Puts 1 (λ k d. eqb k (t .actor) && eqb d (t .action)) before after
-Learns t true before after = Puts 0 (λ k d. enables t (record { actor = k; action = d })) before after

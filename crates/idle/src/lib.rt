@@ -1,11 +1,13 @@
 // Which turns are known to be idle: a table with a cell for each actor and action. A list of turns passes over those turns.
+use base::one_if;
 ghost use mathlib.Core.Bool.{_&&_};
 ghost use mathlib.Core.Path.{_≡_};
 ghost use Prim.Native.Nat.{ℕ, _<_};
 ghost use lib.Dec.{leb, eqb};
 ghost use lib.ListN.{length};
+ghost use Rattle.base.specs.Below.{one};
 ghost use Rattle.disac4.specs.Turn.{turn};
-ghost use Rattle.idle.specs.Table.{idleAt, Puts, enables, Learns};
+ghost use Rattle.idle.specs.Table.{idleAt, Puts, enables};
 
 // Of no turn anything is known.
 pub fn none_known() -> [u8; 117]
@@ -28,6 +30,14 @@ fn put(table: &mut [u8; 117], k: usize, d: usize, v: u8)
     ensures { λ _. ⌜ Puts v (λ j a. eqb j k && eqb a d) (now (table .entry)) (now (table .exit)) ⌝ }
 {
     table[k * 13 + d] = v;
+}
+
+// Notes whether actor k's action d is known to be idle.
+pub fn note(table: &mut [u8; 117], k: usize, d: usize, idle: bool)
+    requires { ⌜ (length (now table) ≡ 117) × (k < 9) × (d < 13) ⌝ }
+    ensures { λ _. ⌜ Puts (one idle) (λ j a. eqb j k && eqb a d) (now (table .entry)) (now (table .exit)) ⌝ }
+{
+    put(table, k, d, one_if(idle));
 }
 
 // Nothing is known any more of what actor k does but read.
@@ -54,7 +64,7 @@ fn forget_reads(table: &mut [u8; 117], k: usize)
 }
 
 // Nor of any turn that may find something to do, where actor k's action d has changed something.
-fn forget(table: &mut [u8; 117], k: usize, d: usize)
+pub fn forget(table: &mut [u8; 117], k: usize, d: usize)
     requires { ⌜ (length (now table) ≡ 117) × (k < 9) × (d < 13) ⌝ }
     ensures { λ _. ⌜ Puts 0 (λ j a. enables (turn k d) (turn j a)) (now (table .entry)) (now (table .exit)) ⌝ }
 {
@@ -62,17 +72,5 @@ fn forget(table: &mut [u8; 117], k: usize, d: usize)
     forget_own(table, k);
     if 9 < d {
         forget_reads(table, k);
-    }
-}
-
-// What is known after actor k's action d: where it was idle, that; where it changed something, less than before.
-pub fn learn(table: &mut [u8; 117], k: usize, d: usize, changed: bool)
-    requires { ⌜ (length (now table) ≡ 117) × (k < 9) × (d < 13) ⌝ }
-    ensures { λ _. ⌜ Learns (turn k d) changed (now (table .entry)) (now (table .exit)) ⌝ }
-{
-    if changed {
-        forget(table, k, d);
-    } else {
-        put(table, k, d, 1);
     }
 }

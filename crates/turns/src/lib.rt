@@ -1,13 +1,13 @@
 // What a run tests beside its plan: the lent buffers, the length of a turn list, which turns are allowed, and the first that is not.
 use base::between;
 use base::byte_at;
+use base::one_if;
 use plan::Fault;
 use plan::Verdict;
 ghost use mathlib.Core.Path.{_≡_};
 ghost use Rattle.disac4.specs.Turn.{workerMay, controllerMay, allowed as allowedOf, turn, turnFault, turnListFits};
 ghost use Prim.Native.Nat.{_/_, _≤_};
 ghost use lib.ListN.{length};
-ghost use Rattle.base.specs.Below.{one};
 ghost use Rattle.turns.specs.Bad.{badTurn};
 ghost use Rattle.turns.specs.Judged.{Judges};
 ghost use Rattle.plan.specs.Check.{firstFault, verdictOf};
@@ -60,13 +60,6 @@ pub fn allowed(p: usize, actor: usize, action: usize) -> bool
         return false;
     }
     worker_may(p, actor, action)
-}
-
-// 1 where a test holds.
-fn one_if(test: bool) -> u8
-    ensures { λ r. ⌜ r ≡ one test ⌝ }
-{
-    if test { 1 } else { 0 }
 }
 
 // For each actor and action, whether p workers allow it.

@@ -1,6 +1,7 @@
 -- `engine::play::next_turn` plays a turn, or passes it over. Assumes nothing.
 use Prim.Native.Nat.{_<_, _≤_}
-use mathlib.Core.Path.{refl, sym, _∙_}
+use mathlib.Core.Bool.{true}
+use mathlib.Core.Path.{sym, _∙_}
 use native.Mathlib.Omega.{arith}
 use borrow.Author.Needs.{needs}
 use borrow.Author.Tests.{eqb-true}
@@ -8,13 +9,18 @@ use denote.Ref.{now}
 use Rattle.disac4.proofs.Allowed.{allowed-bounds}
 use Rattle.disac4.specs.Turn.{turn}
 use Rattle.engine.proofs.Advancing.{playable}
-use Rattle.engine.proofs.Idling.{passed-over, learnt}
+use Rattle.engine.proofs.Idling.{passed-over, noted, idle-again, known-still, forgotten}
+use Rattle.engine.specs.Play.{KnownIdle}
 use Rattle.engine.proofs.play.next_turn.Statement.{statement}
 use Rattle.engine.proofs.play.next_turn.Tie as tie
 
 -- what holds before the turn is played
 abbrev start : tie.After-advance → tie.Start
 start v = v .before .before .before .before .before .before .before
+
+-- the turn was played
+abbrev played : tie.After-struct-known2 → tie.After-advance
+played c = c .before .before .before .before
 
 -- the turn has a cell in the table
 inside : (s : tie.Start) → (s .args .actor < 9) × (s .args .action < 13)
@@ -41,24 +47,75 @@ returns c =
 advance-requires : tie.Need-advance-requires
 advance-requires c κs = search needs
 
-learn-requires : tie.Need-learn-requires
-learn-requires c κs =
-    let s = start (c .before .before .before .before .before) in (s .pre .3 .long, inside s .0, inside s .1)
+note-requires : tie.Need-note-requires
+note-requires c κs =
+    let s = start (played (c .before .before)) in (s .pre .3 .long, inside s .0, inside s .1)
 
 same-length : tie.Need-same-length
 same-length c = search needs
 
 returns-2 : tie.Need-returns-2
 returns-2 c =
-    let v = c .before .before .before .before .before .before in
-    let s = start v in
-    let a = s .args in (
+    let e = c .before .before in
+    let v = played (e .before) in
+    let a = start v .args in (
       v .advance .ensures,
-      learnt (now (a .b)) (now (a .cells)) _ (a .g) (v .advance .result) (s .pre .0) (a .actor) (a .action) (v .advance .ensures)
-          _ (now (a .table)) _ refl (c .learn .ensures) (s .pre .3),
+      noted true (a .actor) (a .action) (λ _. idle-again _ _ _ _ _ (start v .pre .0) (a .actor) (a .action) (v .advance .ensures) (start v .pre .3) (e .if2 .taken))
+          (c .note .ensures)
+          (known-still _ _ _ _ _ (start v .pre .0) (a .actor) (a .action) (v .advance .ensures) (start v .pre .3) (e .if2 .taken)),
     )
+
+forget-requires : tie.Need-forget-requires
+forget-requires c κs =
+    let s = start (played (c .before .before)) in (s .pre .3 .long, inside s .0, inside s .1)
+
+-- what is known after a changing turn
+known-after : (c : tie.After-forget) → let v = played (c .before .before .before) in
+    KnownIdle (now (start v .args .b)) (v .advance .last .1 .0) (v .advance .result .tally) (c .forget .last .0)
+known-after c =
+    let v = played (c .before .before .before) in
+    let a = start v .args in
+    forgotten _ _ _ _ _ (start v .pre .0) (a .actor) (a .action) (v .advance .ensures) (start v .pre .3) _ (c .forget .ensures)
+
+settle-requires : tie.Need-settle-requires
+settle-requires c κs =
+    let t = c .before .before .before in
+    let f = t .before in
+    let v = played (f .before .before .before) in
+    let s = start v in (
+      omega (arith, v .advance .kept .1 .0, s .pre .0 .long),
+      f .forget .ensures .long,
+      omega (arith, t .if3 .taken),
+      omega (arith, inside s .0),
+    )
+
+same-length-2 : tie.Need-same-length-2
+same-length-2 c = search needs
+
+returns-3 : tie.Need-returns-3
+returns-3 c =
+    let f = c .before .before .before .before .before in
+    (played (f .before .before .before) .advance .ensures, c .settle .ensures _ (known-after f))
+
+same-length-3 : tie.Need-same-length-3
+same-length-3 c = search needs
+
+returns-4 : tie.Need-returns-4
+returns-4 c = (played (c .before .before .before .before) .advance .ensures, known-after (c .before))
 
 pub next-turn-spec : {M : Type 1} → statement M
 next-turn-spec =
     tie.close
-    (tie.spec known-requires returns advance-requires learn-requires same-length returns-2)
+    (tie.spec
+    known-requires
+    returns
+    advance-requires
+    note-requires
+    same-length
+    returns-2
+    forget-requires
+    settle-requires
+    same-length-2
+    returns-3
+    same-length-3
+    returns-4)
