@@ -16,7 +16,7 @@ use Rattle.disac4.specs.declared.Tally.{Tally}
 use Rattle.cells.specs.Layout.{WANTED, WORKERS, OUT, OUTEND, OUTREAD}
 use Rattle.cells.specs.Memory.{Mem, memOf, store}
 use Rattle.controller.proofs.Marks.{mark-small}
-use Rattle.controller.specs.Controller.{askedT, asksT, countedT, withMark, markedT, toldT, hasOut, outReadM, askM, Machine, machine, Hears, pollM, hearM}
+use Rattle.controller.specs.Controller.{askedT, asksT, countedT, withMark, markedT, toldT, hasOut, outReadM, askM, Machine, machine, Controls, pollM, hearM}
 
 -- ---- the row of marks
 
@@ -66,11 +66,11 @@ module _ (p i c : ℕ) (t : Tally) where
 -- ---- an action of the controller is idle, or acts
 
 module _ (act : Machine → Option Machine) (before : List ℕ) (t : Tally) where
-  pub hears-none : act (machine before t) ≡ none → Hears act before t before (record { changed = 0; tally = t })
-  hears-none e = record { mem = rw e; tally = rw e; count = rw e }
+  pub controls-none : act (machine before t) ≡ none → Controls act before t before (record { changed = 0; tally = t })
+  controls-none e = record { mem = rw e; tally = rw e; count = rw e }
 
   pub hears : (after : List ℕ) (u : Tally) (s : Machine) → act (machine before t) ≡ some s → memOf after ≡ s .mem
-      → u ≡ s .tally → Hears act before t after (record { changed = 1; tally = u })
+      → u ≡ s .tally → Controls act before t after (record { changed = 1; tally = u })
   hears after u s e p q = record { mem = rw e p; tally = rw e q; count = rw e }
 
 -- ---- poll

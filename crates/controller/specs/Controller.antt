@@ -12,7 +12,7 @@ use Rattle.cells.specs.Memory.{Mem, memOf, store, changed}
 use Rattle.cells.specs.View.{LISTMARK}
 use Rattle.disac4.specs.System.{System}
 use Rattle.disac4.specs.declared.Tally.{Tally}
-use Rattle.controller.specs.declared.Heard.{Heard}
+use Rattle.controller.specs.declared.Controlled.{Controlled}
 
 -- the work cells as a memory, and the tally beside them
 pub record Machine : Type 0 where
@@ -23,7 +23,7 @@ abbrev pub machine : List ℕ → Tally → Machine
 machine cells t = record { mem = memOf cells; tally = t }
 
 -- what an action of the controller does to cells and tally: what its definition leaves, and 1 where that changes something
-pub record Hears (act : Machine → Option Machine) (before : List ℕ) (t : Tally) (after : List ℕ) (r : Heard) : Type 0 where
+pub record Controls (act : Machine → Option Machine) (before : List ℕ) (t : Tally) (after : List ℕ) (r : Controlled) : Type 0 where
   pub mem : memOf after ≡ Option·getD (act (machine before t)) (machine before t) .mem
   pub tally : r .tally ≡ Option·getD (act (machine before t)) (machine before t) .tally
   pub count : r .changed ≡ changed (act (machine before t))

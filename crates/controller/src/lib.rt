@@ -21,10 +21,10 @@ ghost use lib.ListN.{length};
 ghost use Rattle.disac4.specs.System.{System};
 ghost use Rattle.cells.specs.Layout.{WANTED};
 ghost use Rattle.cells.specs.Memory.{memOf, store};
-ghost use Rattle.controller.specs.Controller.{askedT, asksT, countedT, withMark, markedT, toldT, pollM, hearM, Hears};
+ghost use Rattle.controller.specs.Controller.{askedT, asksT, countedT, withMark, markedT, toldT, pollM, hearM, Controls};
 
 // What an action of the controller gives: 1 where it changed something, and the tally after it.
-pub struct Heard {
+pub struct Controlled {
     pub changed: usize,
     pub tally: Tally,
 }
@@ -150,19 +150,19 @@ fn put_poll(cells: &mut [u16], q: Poll)
 }
 
 // Poll: where none is open, the controller sends the next one, with its count of lists.
-pub fn poll(cells: &mut [u16], t: Tally) -> Heard
+pub fn poll(cells: &mut [u16], t: Tally) -> Controlled
     requires { ⌜ 24576 ≤ length (now cells) ⌝ }
-    ensures { λ r. ⌜ Hears pollM (now (cells .entry)) t (now (cells .exit)) r ⌝ }
+    ensures { λ r. ⌜ Controls pollM (now (cells .entry)) t (now (cells .exit)) r ⌝ }
 {
     if !asks(t) {
-        return Heard {
+        return Controlled {
             changed: 0,
             tally: t,
         };
     }
     let after = asked(t);
     put_poll(cells, open_poll(after));
-    Heard {
+    Controlled {
         changed: 1,
         tally: after,
     }
@@ -179,22 +179,22 @@ fn has_out(read: usize, end: usize, lists: u16) -> bool
 }
 
 // Read: the controller takes the next message of row `i`, of `p` workers.
-pub fn hear(cells: &mut [u16], t: Tally, p: usize, i: usize) -> Heard
+pub fn hear(cells: &mut [u16], t: Tally, p: usize, i: usize) -> Controlled
     requires { ⌜ (24576 ≤ length (now cells)) × (t .marks < 256) × (i < 8) × (p ≤ 8) ⌝ }
-    ensures { λ r. ⌜ ((sys : System) → sys .workers ≡ p → Hears (hearM sys i) (now (cells .entry)) t (now (cells .exit)) r) ⌝ }
+    ensures { λ r. ⌜ ((sys : System) → sys .workers ≡ p → Controls (hearM sys i) (now (cells .entry)) t (now (cells .exit)) r) ⌝ }
 {
     let lists = t.lists;
     let read = get(cells, WORKERS, i, OUTREAD);
     let end = get(cells, WORKERS, i, OUTEND);
     if !has_out(read, end, lists.0) {
-        return Heard {
+        return Controlled {
             changed: 0,
             tally: t,
         };
     }
     let c = get(cells, OUT, i, read);
     put(cells, WORKERS, i, OUTREAD, read + 1);
-    Heard {
+    Controlled {
         changed: 1,
         tally: told(t, p, i, c),
     }

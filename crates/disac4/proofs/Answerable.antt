@@ -11,7 +11,7 @@ use Rattle.base.specs.Below.{one}
 use Rattle.base.specs.Choice.{update₂}
 use Rattle.disac4.proofs.Channels.{Channels, broadcast-to, broadcast-self, broadcast-each}
 use Rattle.disac4.proofs.Figures.{timestamp-of-run}
-use Rattle.disac4.proofs.Moves.{Moves, treats, sends, reads, hears, ignores, answers, asks, tallies, marks, drops, discards, kept}
+use Rattle.disac4.proofs.Moves.{Moves, treats, sends, reads, takes-poll, ignores, answers, asks, tallies, marks, drops, discards, kept}
 use Rattle.disac4.proofs.Typed.{Typed, typed-move, typed-load, not-controller}
 use Rattle.disac4.specs.Action.{broadcast, nextPoll, afterTreat, afterSend, afterList, afterPoll, afterDrop, afterAnswer, afterAsk, afterCount, afterMark}
 use Rattle.disac4.specs.Event.{Event}
@@ -137,7 +137,7 @@ module _ (sys : System) (st : State) (i : ℕ) (v : Worker sys i) where
         broadcast-same replyMessage (sys .workers) k (list (st .toSend k)) (st .channel) refl i 0,
       )
   answerable-move t (reads j k labels rest w b n e) = omega (arith, taking j k (list labels) rest e)
-  answerable-move t (hears j k q rest w b n e) =
+  answerable-move t (takes-poll j k q rest w b n e) =
       let from-controller : j ≡ 0 = (rw e at (t .messages j k)) .0 .kind .0 in
       rw from-controller (hearing k q rest w (rw from-controller at e))
   answerable-move t (ignores j k m rest w b n e) = omega (arith, taking j k (reply m) rest e)

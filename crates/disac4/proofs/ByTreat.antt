@@ -4,7 +4,7 @@ use mathlib.Core.List.{List, [], _∷_}
 use mathlib.Core.Path.{_≡_, refl}
 use Rattle.base.proofs.Weight.{weigh}
 use Rattle.network.specs.Network.{Label}
-use Rattle.disac4.proofs.Moves.{Moves, treats, sends, reads, hears, ignores, answers, asks, tallies, marks, drops, discards}
+use Rattle.disac4.proofs.Moves.{Moves, treats, sends, reads, takes-poll, ignores, answers, asks, tallies, marks, drops, discards}
 use Rattle.disac4.proofs.Occurrences.{treatedBy}
 use Rattle.disac4.specs.Action.{afterTreat, afterSend, afterList, afterPoll, afterDrop, afterAnswer, afterAsk, afterCount, afterMark}
 use Rattle.disac4.specs.Event.{Event, treated}
@@ -22,7 +22,7 @@ unfolding afterSend afterList afterPoll afterDrop afterAnswer afterAsk afterCoun
 by-treat sys st C t c _ _ (treats k a rest w e) = t k a rest w e
 by-treat sys st C t c s new (sends k w e) = c s new refl refl (λ x v i. refl)
 by-treat sys st C t c s new (reads j k labels rest w h n m) = c s new refl refl (λ x v i. refl)
-by-treat sys st C t c s new (hears j k q rest w h n m) = c s new refl refl (λ x v i. refl)
+by-treat sys st C t c s new (takes-poll j k q rest w h n m) = c s new refl refl (λ x v i. refl)
 by-treat sys st C t c s new (ignores j k i rest w h n m) = c s new refl refl (λ x v i. refl)
 by-treat sys st C t c s new (answers k q w h r) = c s new refl refl (λ x v i. refl)
 by-treat sys st C t c s new (asks o) = c s new refl refl (λ x v i. refl)

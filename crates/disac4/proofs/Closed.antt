@@ -12,7 +12,7 @@ use Rattle.base.proofs.Weight.{weigh}
 use Rattle.disac4.proofs.Channels.{into}
 use Rattle.disac4.proofs.Closing.{Agreed, Idle, Closing}
 use Rattle.disac4.proofs.Conservation.{Conserved}
-use Rattle.disac4.proofs.Moves.{Moves, treats, sends, reads, hears, ignores, answers, asks, tallies, marks, drops, discards}
+use Rattle.disac4.proofs.Moves.{Moves, treats, sends, reads, takes-poll, ignores, answers, asks, tallies, marks, drops, discards}
 use Rattle.disac4.proofs.Sound.{isList, Quiet}
 use Rattle.disac4.specs.Action.{current, allMarked, afterTreat, afterSend, afterList, afterPoll, afterDrop, afterAnswer, afterAsk, afterCount, afterMark}
 use Rattle.disac4.specs.Event.{Event}
@@ -36,7 +36,7 @@ unfolding current afterTreat afterSend afterList afterPoll afterDrop afterAnswer
 closure-move p f g (treats k a rest w e) = g
 closure-move p f g (sends k w e) = g
 closure-move p f g (reads j k labels rest w h d e) = g
-closure-move p f g (hears j k q rest w h d e) = g
+closure-move p f g (takes-poll j k q rest w h d e) = g
 closure-move p f g (ignores j k i rest w h d e) = g
 closure-move p f g (answers k q w e r) = g
 closure-move {sys} p f g (asks e) = record { asked = λ x. refl; exact = λ x. f ∙ sym (none-marked sys p) }

@@ -19,7 +19,7 @@ use Rattle.network.specs.Network.{Label}
 use Rattle.disac4.proofs.Channels.{Channels, into, into-take, into-put, into-same, broadcast-to, broadcast-self, broadcast-each}
 use Rattle.disac4.proofs.Conservation.{Conserved}
 use Rattle.disac4.proofs.Empty.{empty}
-use Rattle.disac4.proofs.Moves.{Moves, treats, sends, reads, hears, ignores, answers, asks, tallies, marks, drops, discards}
+use Rattle.disac4.proofs.Moves.{Moves, treats, sends, reads, takes-poll, ignores, answers, asks, tallies, marks, drops, discards}
 use Rattle.disac4.proofs.Replies.{isReply, replied, listFirst, first-append, first-some, first-sent, first-pass, replied-append, reply-first, none-replied, not-current}
 use Rattle.disac4.proofs.Sound.{isList}
 use Rattle.disac4.proofs.Typed.{Typed, no-self, not-controller, controller-count}
@@ -344,7 +344,7 @@ module _ (sys : System) (st : State) where
   closing-move es t conserved g (treats k a rest w e) o = treating k a rest _ _ e (g o)
   closing-move es t conserved g (sends k w e) o = sending k _ _ w e (g o)
   closing-move es t conserved g (reads j k labels rest w h d e) o = reading es conserved j k _ labels rest _ w h e (g o)
-  closing-move es t conserved g (hears j k q rest w h d e) o = still (aside j k rest w) (λ r i v x. x) (g o)
+  closing-move es t conserved g (takes-poll j k q rest w h d e) o = still (aside j k rest w) (λ r i v x. x) (g o)
   closing-move es t conserved g (ignores j k i rest w h d e) o = still (aside j k rest w) (λ r i v x. x) (g o)
   closing-move es t conserved g (answers k q w e r) o =
       answering k (reply (q .number)) w refl (ready-idle t o k q e r) (g o)

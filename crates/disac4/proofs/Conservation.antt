@@ -10,7 +10,7 @@ use Rattle.base.proofs.Weight.{weigh, weigh-append}
 use Rattle.base.specs.Choice.{update, update₂}
 use Rattle.network.specs.Network.{Label}
 use Rattle.disac4.proofs.Channels.{Channels, into, into-take, into-put, into-other, into-broadcast, into-broadcast-self}
-use Rattle.disac4.proofs.Moves.{Moves, treats, sends, reads, hears, ignores, answers, asks, tallies, marks, drops, discards}
+use Rattle.disac4.proofs.Moves.{Moves, treats, sends, reads, takes-poll, ignores, answers, asks, tallies, marks, drops, discards}
 use Rattle.disac4.proofs.Sound.{isList}
 use Rattle.disac4.specs.Action.{broadcast, afterTreat, afterSend, afterList, afterPoll, afterDrop, afterAnswer, afterAsk, afterCount, afterMark}
 use Rattle.disac4.specs.Event.{Event, sent, taken, treated}
@@ -86,7 +86,7 @@ module _ (sys : System) (st : State) (i : ℕ) (b : i ≤ sys .workers) where
       broadcast-conserves (sys .workers) (st .listCounter) (counted k) (st .channel) k (list (st .toSend k))
       (counts-one k) (counts-others k) (w .within) i b
   conserves (reads j k labels rest w h n e) = reading j k labels rest h e
-  conserves (hears j k q rest w h n e) = passing j k (poll q) rest h e refl
+  conserves (takes-poll j k q rest w h n e) = passing j k (poll q) rest h e refl
   conserves (ignores j k n rest w h d e) = passing j k (reply n) rest h e refl
   conserves (answers k q w e r) =
       elim (ℕ-discrete i 0) [

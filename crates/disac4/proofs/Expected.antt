@@ -12,7 +12,7 @@ use Rattle.base.proofs.Choice.{update-same, update-other, update₂-same, updat
 use Rattle.base.proofs.Members.{anyOf-left, anyOf-right}
 use Rattle.base.specs.Choice.{update, update₂}
 use Rattle.disac4.proofs.Channels.{Channels, broadcast-to, broadcast-sender, broadcast-each}
-use Rattle.disac4.proofs.Moves.{Moves, treats, sends, reads, hears, ignores, answers, asks, tallies, marks, drops, discards}
+use Rattle.disac4.proofs.Moves.{Moves, treats, sends, reads, takes-poll, ignores, answers, asks, tallies, marks, drops, discards}
 use Rattle.disac4.proofs.Replies.{isReply, replied, not-current}
 use Rattle.disac4.proofs.Typed.{Typed, not-controller, controller-count}
 use Rattle.disac4.specs.Action.{current, nextPoll, listsRead, broadcast, afterTreat, afterSend, afterList, afterPoll, afterDrop, afterAnswer, afterAsk, afterCount, afterMark}
@@ -194,7 +194,7 @@ module _ (sys : System) (st : State) where
   expected-move t g (reads j k labels rest w h d e) o =
       rw (controller-count (st .listCounter) k (suc (st .listCounter k)) w)
       (worker-takes j k (list labels) rest w e (λ x. refl) (g o))
-  expected-move t g (hears j k q rest w h d e) o =
+  expected-move t g (takes-poll j k q rest w h d e) o =
       let from-controller : j ≡ 0 = (rw e at (t .messages j k)) .0 .kind .0 in
       rw from-controller (hearing k q rest w (rw from-controller at e) (g o))
   expected-move t g (ignores j k i rest w h d e) o = worker-takes j k (reply i) rest w e (λ x. refl) (g o)

@@ -6,7 +6,7 @@ use mathlib.Core.Option.{none}
 use mathlib.Core.Path.{_≡_, refl, _∙_, ap}
 use Rattle.base.proofs.Bools.{and-left}
 use Rattle.network.specs.Consistency.{Within}
-use Rattle.disac4.proofs.Moves.{Moves, treats, sends, reads, hears, ignores, answers, asks, tallies, marks, drops, discards, after-idle, kept}
+use Rattle.disac4.proofs.Moves.{Moves, treats, sends, reads, takes-poll, ignores, answers, asks, tallies, marks, drops, discards, after-idle, kept}
 use Rattle.disac4.specs.Action.{deletes, afterTreat, afterSend, afterList, afterPoll, afterDrop, afterAnswer, afterAsk, afterCount, afterMark}
 use Rattle.disac4.specs.Event.{Event}
 use Rattle.disac4.specs.State.{State}
@@ -31,7 +31,7 @@ unfolding Within afterTreat afterSend afterList afterPoll afterDrop afterAnswer 
 move-shrinks {sys} {st} (treats k a rest w e) = λ x v h. and-left (st .domain x v) (not (deletes sys k a st x v)) h
 move-shrinks (sends k w e) = λ x v h. h
 move-shrinks (reads j k labels rest w b n e) = λ x v h. h
-move-shrinks (hears j k q rest w b n e) = λ x v h. h
+move-shrinks (takes-poll j k q rest w b n e) = λ x v h. h
 move-shrinks (ignores j k i rest w b n e) = λ x v h. h
 move-shrinks (answers k q w e r) = λ x v h. h
 move-shrinks (asks e) = λ x v h. h

@@ -28,7 +28,7 @@ pub data Moves (sys : System) (st : State) : State → List Event → Type 0 whe
       → Moves sys st (afterSend sys k st) (sent k (st .toSend k) ∷ [])
   reads : (j k : ℕ) (labels : List Label) (rest : List Message) → Worker sys k → j ≤ sys .workers → (j ≡ k → ⊥)
       → st .channel j k ≡ list labels ∷ rest → Moves sys st (afterList j k labels rest st) (taken k j labels ∷ [])
-  hears : (j k : ℕ) (q : Poll) (rest : List Message) → Worker sys k → j ≤ sys .workers → (j ≡ k → ⊥)
+  takes-poll : (j k : ℕ) (q : Poll) (rest : List Message) → Worker sys k → j ≤ sys .workers → (j ≡ k → ⊥)
       → st .channel j k ≡ poll q ∷ rest → Moves sys st (afterPoll j k q rest st) []
   ignores : (j k : ℕ) (n : Timestamp) (rest : List Message) → Worker sys k → j ≤ sys .workers → (j ≡ k → ⊥)
       → st .channel j k ≡ reply n ∷ rest → Moves sys st (afterDrop j k rest st) []
@@ -72,7 +72,7 @@ module _ (sys : System) (st : State) where
       → (s : State) → readFrom j k st l ≡ some s → To (readEvent k j l) s
   read-moves j k w h n [] p s e = none≢some e
   read-moves j k w h n (list labels ∷ rest) p s e = reached e (reads j k labels rest w h n p)
-  read-moves j k w h n (poll q ∷ rest) p s e = reached e (hears j k q rest w h n p)
+  read-moves j k w h n (poll q ∷ rest) p s e = reached e (takes-poll j k q rest w h n p)
   read-moves j k w h n (reply i ∷ rest) p s e = reached e (ignores j k i rest w h n p)
 
   answer-moves : (k : ℕ) → Worker sys k → (o : Option Poll) → st .held k ≡ o → (s : State)

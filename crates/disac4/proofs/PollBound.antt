@@ -7,7 +7,7 @@ use Rattle.base.proofs.Sums.{one-le}
 use Rattle.base.specs.Below.{one}
 use Rattle.network.specs.Network.{labelCount}
 use Rattle.disac4.proofs.Figures.{list-counter-bound, timestamp-of-run}
-use Rattle.disac4.proofs.Moves.{Moves, treats, sends, reads, hears, ignores, answers, asks, tallies, marks, drops, discards, kept}
+use Rattle.disac4.proofs.Moves.{Moves, treats, sends, reads, takes-poll, ignores, answers, asks, tallies, marks, drops, discards, kept}
 use Rattle.disac4.proofs.SendBound.{sends-bound}
 use Rattle.disac4.proofs.Typed.{controller-count}
 use Rattle.disac4.specs.Action.{afterTreat, afterSend, afterList, afterPoll, afterDrop, afterAnswer, afterAsk, afterCount, afterMark}
@@ -28,7 +28,7 @@ ended-move h (treats k a rest w e) = h
 ended-move {sys} {st} h (sends k w e) = omega (arith, controller-count (st .listCounter) k (suc (st .listCounter k)) w)
 ended-move {sys} {st} h (reads j k labels rest w b n e) =
     omega (arith, controller-count (st .listCounter) k (suc (st .listCounter k)) w)
-ended-move h (hears j k q rest w b n e) = h
+ended-move h (takes-poll j k q rest w b n e) = h
 ended-move h (ignores j k i rest w b n e) = h
 ended-move h (answers k q w e r) = h
 ended-move h (asks e) = omega (arith, ap one e)

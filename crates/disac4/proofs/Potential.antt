@@ -12,7 +12,7 @@ use Rattle.base.specs.Choice.{update, update₂}
 use Rattle.network.specs.Network.{Label, domainSize}
 use Rattle.disac4.proofs.Channels.{Channels, into, into-take, into-put, into-other, into-broadcast, into-broadcast-self}
 use Rattle.disac4.proofs.DomainSize.{treat-size}
-use Rattle.disac4.proofs.Moves.{Moves, treats, sends, reads, hears, ignores, answers, asks, tallies, marks, drops, discards}
+use Rattle.disac4.proofs.Moves.{Moves, treats, sends, reads, takes-poll, ignores, answers, asks, tallies, marks, drops, discards}
 use Rattle.disac4.proofs.Workers.{overWorkers, over-update, over-append, workers-take, workers-apart, workers-broadcast, workers-poll}
 use Rattle.disac4.specs.Action.{isEmpty, deletes, deletions, afterTreat, afterSend, afterList, afterPoll, afterDrop, afterAnswer, nextPoll, afterAsk, afterCount, afterMark}
 use Rattle.disac4.specs.Event.{Event}
@@ -199,7 +199,7 @@ module _ (sys : System) (st : State) where
   potential-falls (treats k a rest w e) = treat-falls k a rest w e
   potential-falls (sends k w e) = send-falls k w (st .toSend k) refl e
   potential-falls (reads j k labels rest w h n e) = list-falls j k labels rest w h e
-  potential-falls (hears j k q rest w h n e) = poll-falls j k q rest w h e
+  potential-falls (takes-poll j k q rest w h n e) = poll-falls j k q rest w h e
   potential-falls (ignores j k i rest w h n e) = drop-falls j k rest (worker-takes j k (reply i) rest w h e)
   potential-falls (answers k q w e r) = answer-falls k q w e
   potential-falls (asks e) = ask-falls e

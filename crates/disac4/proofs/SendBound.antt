@@ -10,7 +10,7 @@ use Rattle.disac4.proofs.Conservation.{isSent}
 use Rattle.disac4.proofs.DomainSize.{treat-size, load-size, deletions-loaded}
 use Rattle.disac4.proofs.Empty.{not-empty}
 use Rattle.disac4.proofs.Figures.{sent-count}
-use Rattle.disac4.proofs.Moves.{Moves, treats, sends, reads, hears, ignores, answers, asks, tallies, marks, drops, discards, kept}
+use Rattle.disac4.proofs.Moves.{Moves, treats, sends, reads, takes-poll, ignores, answers, asks, tallies, marks, drops, discards, kept}
 use Rattle.disac4.proofs.Workers.{overWorkers, over-part, over-update, over-append}
 use Rattle.disac4.specs.Action.{deletions, afterTreat, afterSend, afterList, afterPoll, afterDrop, afterAnswer, afterAsk, afterCount, afterMark}
 use Rattle.disac4.specs.Event.{Event}
@@ -57,7 +57,7 @@ unfolding unsentLabels afterTreat afterSend afterList afterPoll afterDrop afterA
 move-unsent {sys} {st} (treats k a rest w e) = omega (arith, treat-unsent sys st k w a rest)
 move-unsent {sys} {st} (sends k w e) = omega (arith, send-unsent sys st k w, not-empty (st .toSend k) e)
 move-unsent (reads j k labels rest w h n e) = omega arith
-move-unsent (hears j k q rest w h n e) = omega arith
+move-unsent (takes-poll j k q rest w h n e) = omega arith
 move-unsent (ignores j k i rest w h n e) = omega arith
 move-unsent (answers k q w e r) = omega arith
 move-unsent (asks e) = omega arith

@@ -15,7 +15,7 @@ use Rattle.base.specs.Choice.{update₂}
 use Rattle.network.specs.Network.{Label, Domains, isLabel, loaded}
 use Rattle.disac4.proofs.Channels.{broadcast-each}
 use Rattle.disac4.proofs.Deleted.{deletedBy, treat-deletes, treat-deletes-own}
-use Rattle.disac4.proofs.Moves.{Moves, treats, sends, reads, hears, ignores, answers, asks, tallies, marks, drops, discards}
+use Rattle.disac4.proofs.Moves.{Moves, treats, sends, reads, takes-poll, ignores, answers, asks, tallies, marks, drops, discards}
 use Rattle.disac4.proofs.Occurrences.{occurs, carried, sentBy, readBy, treatedBy}
 use Rattle.disac4.specs.Action.{deletions, afterTreat, afterSend, afterList, afterPoll, afterDrop, afterAnswer, afterAsk, afterCount, afterMark, nextPoll}
 use Rattle.disac4.specs.Event.{Event, sent, taken, treated, deleted}
@@ -241,7 +241,7 @@ module _ (sys : System) (x v : ℕ) where
       at-read st j k labels rest m n (f j k labels rest (w .within) n m)
   step-of st f _ _ (tallies k labels rest w m) = at-tally st k labels rest w m
   step-of st f _ _ (asks o) = at-ask st
-  step-of st f s _ (hears j k q rest w h n m) = at-drop st j k rest refl m s refl refl refl refl
+  step-of st f s _ (takes-poll j k q rest w h n m) = at-drop st j k rest refl m s refl refl refl refl
   step-of st f s _ (ignores j k i rest w h n m) = at-drop st j k rest refl m s refl refl refl refl
   step-of st f s _ (marks k n rest w m c) = at-drop st k 0 rest refl m s refl refl refl refl
   step-of st f s _ (drops k n rest w m c) = at-drop st k 0 rest refl m s refl refl refl refl

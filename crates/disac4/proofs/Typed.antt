@@ -10,7 +10,7 @@ use Rattle.base.proofs.Choice.{none≢some, update-other, update-each, update�
 use Rattle.base.proofs.Each.{Each, each-append, each-mono}
 use Rattle.base.specs.Choice.{update, update₂}
 use Rattle.disac4.proofs.Channels.{Channels, broadcast-each}
-use Rattle.disac4.proofs.Moves.{Moves, treats, sends, reads, hears, ignores, answers, asks, tallies, marks, drops, discards}
+use Rattle.disac4.proofs.Moves.{Moves, treats, sends, reads, takes-poll, ignores, answers, asks, tallies, marks, drops, discards}
 use Rattle.disac4.specs.Action.{broadcast, nextPoll, afterTreat, afterSend, afterList, afterPoll, afterDrop, afterAnswer, afterAsk, afterCount, afterMark}
 use Rattle.disac4.specs.Event.{Event}
 use Rattle.disac4.specs.Loading.{load}
@@ -158,7 +158,7 @@ module _ {sys : System} {st : State} (t : Typed sys st) where
     messages = rw (controller-count (st .listCounter) k (suc (st .listCounter k)) w) (taking j k (list labels) rest e);
     polls = rw (controller-count (st .listCounter) k (suc (st .listCounter k)) w) (t .polls);
   }
-  typed-move (hears j k q rest w h n e) = record {
+  typed-move (takes-poll j k q rest w h n e) = record {
     messages = taking j k (poll q) rest e;
     polls = hold-typed (sys .workers) N asked D (st .held) k (some q)
         (λ q′ same. subst (Timely N asked D) (let z : q ≡ q′ = cc in z) ((rw e at (t .messages j k)) .0 .kind .1)) (t .polls);

@@ -9,7 +9,7 @@ use Rattle.base.proofs.Choice.{update-same, update-other}
 use Rattle.base.proofs.Sums.{sum-zero}
 use Rattle.network.specs.Network.{Label, labelCount}
 use Rattle.disac4.proofs.Channels.{into, into-take, into-other, into-falls, into-broadcast, into-broadcast-self}
-use Rattle.disac4.proofs.Moves.{Moves, treats, sends, reads, hears, ignores, answers, asks, tallies, marks, drops, discards, kept}
+use Rattle.disac4.proofs.Moves.{Moves, treats, sends, reads, takes-poll, ignores, answers, asks, tallies, marks, drops, discards, kept}
 use Rattle.disac4.proofs.SendBound.{unsentLabels, treat-unsent, send-unsent, load-unsent, unsent-part, sends-and-unsent}
 use Rattle.disac4.proofs.Typed.{not-controller}
 use Rattle.disac4.specs.Action.{deletions, nextPoll, afterTreat, afterSend, afterList, afterPoll, afterDrop, afterAnswer, afterAsk, afterCount, afterMark}
@@ -114,7 +114,7 @@ module _ (sys : System) where
   coming-move {st} i v (treats k a rest w e) = coming-treat st i k w a rest e
   coming-move {st} i v (sends k w e) = coming-send st i k v w
   coming-move {st} i v (reads j k labels rest w h n e) = coming-read st i j k labels rest h e
-  coming-move {st} i v (hears j k q rest w h n e) = omega (arith, into-falls labelsIn p (st .channel) j k (poll q) rest h e i)
+  coming-move {st} i v (takes-poll j k q rest w h n e) = omega (arith, into-falls labelsIn p (st .channel) j k (poll q) rest h e i)
   coming-move {st} i v (ignores j k n rest w h d e) = omega (arith, into-falls labelsIn p (st .channel) j k (reply n) rest h e i)
   coming-move {st} i v (answers k q w e r) =
       omega (

@@ -21,9 +21,9 @@ use Rattle.refinement.specs.Inv.{Inv, LabelNumber}
 use Rattle.cells.specs.Layout.{WORKERS, HEAD}
 use Rattle.cells.specs.Memory.{memOf}
 use Rattle.refinement.specs.Run.{turnOn, Going, Plays, Playable}
-use Rattle.controller.specs.Controller.{Machine, machine, Hears}
+use Rattle.controller.specs.Controller.{Machine, machine, Controls}
 use Rattle.refinement.specs.Step.{stepM, afterM}
-use Rattle.controller.specs.declared.Heard.{Heard}
+use Rattle.controller.specs.declared.Controlled.{Controlled}
 use Rattle.refinement.specs.declared.Progress.{Progress}
 use Rattle.plan.proofs.Parts.{variables-read}
 use Rattle.plan.specs.Decode.{planFault}
@@ -55,8 +55,8 @@ module _ (b cells : List ℕ) (g : Progress) (go : Going b cells g) where
   counts-room = under-small b (go .sound) (go .before) (go .turns) cells g (go .at)
 
 -- what a turn adds to a count is at most 1
-pub adds-one : (f : Machine → Option Machine) (cells : List ℕ) (t : Tally) (cells′ : List ℕ) (h : Heard)
-    → Hears f cells t cells′ h → h .changed ≤ 1
+pub adds-one : (f : Machine → Option Machine) (cells : List ℕ) (t : Tally) (cells′ : List ℕ) (h : Controlled)
+    → Controls f cells t cells′ h → h .changed ≤ 1
 adds-one f cells t cells′ h r = omega (arith, r .count, one-le (isSome (f (machine cells t))))
 
 pub part-of : (c : Bool) (n r : ℕ) → r ≡ cond c n 0 → r ≤ n
@@ -64,8 +64,8 @@ part-of true n r e = omega arith
 part-of false n r e = omega arith
 
 -- one turn more, from what the code of a turn ensures
-pub advanced : (b cells cells′ : List ℕ) (g r : Progress) (actor action : ℕ) (h : Heard) → planFault b ≡ none
-    → Hears (turnOn (systemAt b) actor action) cells (g .tally) cells′ h → r .tally ≡ h .tally
+pub advanced : (b cells cells′ : List ℕ) (g r : Progress) (actor action : ℕ) (h : Controlled) → planFault b ≡ none
+    → Controls (turnOn (systemAt b) actor action) cells (g .tally) cells′ h → r .tally ≡ h .tally
     → r .changes ≡ g .changes + h .changed
     → r .sends ≡ g .sends + cond (isSend (turn actor action)) (h .changed) 0
     → r .polls ≡ g .polls + cond (isPoll (turn actor action)) (h .changed) 0

@@ -19,7 +19,7 @@ use Rattle.disac4.specs.System.{System}
 use Rattle.disac4.specs.Turn.{turn, allowed, isSome}
 use Rattle.disac4.specs.declared.Tally.{Tally}
 use Rattle.engine.proofs.Advancing.{advanced}
-use Rattle.engine.proofs.RunLaws.{hears-idle}
+use Rattle.engine.proofs.RunLaws.{controls-idle}
 use Rattle.engine.specs.Play.{KnownIdle}
 use Rattle.idle.specs.Table.{idleAt, Puts, enables}
 use Rattle.refinement.proofs.IdleKept.{idle-kept}
@@ -39,7 +39,7 @@ pub passed-over : (b cells : List ℕ) (g : Progress) (table : List ℕ) → Goi
     → (k d : ℕ) → k < 9 → d < 13 → idleAt table k d ≡ 1 → Plays b (turn k d ∷ []) cells g cells g
 passed-over b cells g table go known k d h e q =
     advanced b cells cells g g k d (record { changed = 0; tally = g .tally }) (go .sound)
-    (hears-idle (turnOn (systemAt b) k d) cells (g .tally) _ (known .idle k d h e q) refl refl) refl (omega arith)
+    (controls-idle (turnOn (systemAt b) k d) cells (g .tally) _ (known .idle k d h e q) refl refl) refl (omega arith)
     (adds-none (isSend (turn k d)) (g .sends)) (adds-none (isPoll (turn k d)) (g .polls))
   where
     adds-none : (c : Bool) (n : ℕ) → n ≡ n + cond c 0 0

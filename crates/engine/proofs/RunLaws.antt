@@ -20,10 +20,10 @@ use Rattle.sends.specs.Sends.{sendM}
 use Rattle.reads.specs.Reads.{readPollM, readListM}
 use Rattle.answers.specs.Answers.{answerM}
 use Rattle.refinement.specs.Run.{readOn, workerOn, turnOn}
-use Rattle.controller.specs.Controller.{Machine, machine, Hears, hearM, pollM}
+use Rattle.controller.specs.Controller.{Machine, machine, Controls, hearM, pollM}
 use Rattle.refinement.specs.Step.{withMem, readM, workerM, stepM}
 use Rattle.treating.specs.Treat.{treatM}
-use Rattle.controller.specs.declared.Heard.{Heard}
+use Rattle.controller.specs.declared.Controlled.{Controlled}
 use Rattle.plan.specs.Decode.{planOf}
 use Rattle.format.specs.Format.{workerCount}
 
@@ -66,28 +66,28 @@ module _ (t : Tally) (i d : ℕ) (m : Mem) where
 
 -- ---- a turn, by its actor and action
 
-pub hears-as : (f g : Machine → Option Machine) (before : List ℕ) (t : Tally) (after : List ℕ) (r : Heard)
-    → g (machine before t) ≡ f (machine before t) → Hears f before t after r → Hears g before t after r
-hears-as f g before t after r e a = record {
+pub controls-as : (f g : Machine → Option Machine) (before : List ℕ) (t : Tally) (after : List ℕ) (r : Controlled)
+    → g (machine before t) ≡ f (machine before t) → Controls f before t after r → Controls g before t after r
+controls-as f g before t after r e a = record {
   mem = a .mem ∙ ap (λ (o : Option Machine). Option·getD o (machine before t) .mem) (sym e);
   tally = a .tally ∙ ap (λ (o : Option Machine). Option·getD o (machine before t) .tally) (sym e);
   count = a .count ∙ ap changed (sym e);
 }
 
 -- an idle turn leaves everything as it was
-pub hears-idle : (g : Machine → Option Machine) (cells : List ℕ) (t : Tally) (r : Heard) → g (machine cells t) ≡ none
-    → r .tally ≡ t → r .changed ≡ 0 → Hears g cells t cells r
-hears-idle g cells t r e p q = record {
+pub controls-idle : (g : Machine → Option Machine) (cells : List ℕ) (t : Tally) (r : Controlled) → g (machine cells t) ≡ none
+    → r .tally ≡ t → r .changed ≡ 0 → Controls g cells t cells r
+controls-idle g cells t r e p q = record {
   mem = ap (λ (o : Option Machine). Option·getD o (machine cells t) .mem) (sym e);
   tally = p ∙ ap (λ (o : Option Machine). Option·getD o (machine cells t) .tally) (sym e);
   count = q ∙ ap changed (sym e);
 }
 
 -- a worker's action with the tally beside it
-pub hears-acts : (f : Machine → Option Mem) (before : List ℕ) (t : Tally) (after : List ℕ) (r : Heard)
+pub controls-acts : (f : Machine → Option Mem) (before : List ℕ) (t : Tally) (after : List ℕ) (r : Controlled)
     → Acts (λ m. f (record { mem = m; tally = t })) before after (r .changed) → r .tally ≡ t
-    → Hears (λ s. withMem (s .tally) (f s)) before t after r
-hears-acts f before t after r a p = record {
+    → Controls (λ s. withMem (s .tally) (f s)) before t after r
+controls-acts f before t after r a p = record {
   mem = a .mem ∙ same-mem (f (machine before t));
   tally = p ∙ same-tally (f (machine before t));
   count = a .count ∙ same-count (f (machine before t));

@@ -13,14 +13,14 @@ use Rattle.base.proofs.Choice.{cond-false}
 use Rattle.base.proofs.Sums.{one-le}
 use Rattle.base.specs.Below.{gatherBelow}
 use Rattle.cells.specs.Memory.{Mem, memOf, Acts}
-use Rattle.controller.specs.Controller.{machine, Hears}
+use Rattle.controller.specs.Controller.{machine, Controls}
 use Rattle.disac4.specs.Outcome.{systemAt}
 use Rattle.disac4.specs.Report.{isSend, isPoll}
 use Rattle.disac4.specs.Turn.{Turn, turn, allowed, isSome}
 use Rattle.disac4.specs.declared.Tally.{Tally}
 use Rattle.engine.proofs.Advancing.{playable, advanced}
 use Rattle.engine.proofs.Playing.{goes-after}
-use Rattle.engine.proofs.RunLaws.{workers-are, acts-as, worker-reads, hears-as, hears-idle, hears-acts, turn-closed, turn-works}
+use Rattle.engine.proofs.RunLaws.{workers-are, acts-as, worker-reads, controls-as, controls-idle, controls-acts, turn-closed, turn-works}
 use Rattle.engine.specs.Play.{Running, Grows, Works}
 use Rattle.format.specs.Format.{workerCount}
 use Rattle.refinement.proofs.Underway.{plays-none, plays-then}
@@ -102,12 +102,12 @@ polls-none k d r n = ap (λ (c : Bool). cond (c && eqb d 12) r 0) (ne-eqb k 0 n)
 
 module _ (b cells cells′ : List ℕ) (t : Tally) (k d r : ℕ) (run : Running b cells t) (some : k ≡ 0 → ⊥) where
   -- from what the code of a turn ensures
-  counted : Hears (turnOn (systemAt b) k d) cells t cells′ (record { changed = r; tally = t })
+  counted : Controls (turnOn (systemAt b) k d) cells t cells′ (record { changed = r; tally = t })
       → Works b (turn k d ∷ []) cells t cells′ r (cond (eqb d 10) r 0)
   unfolding Works
   counted heard g g′ a =
       advanced b cells cells′ g g′ k d (record { changed = r; tally = t }) (run .going .sound)
-      (subst (λ (u : Tally). Hears (turnOn (systemAt b) k d) cells u cells′ (record { changed = r; tally = t })) (sym (a .before)) heard)
+      (subst (λ (u : Tally). Controls (turnOn (systemAt b) k d) cells u cells′ (record { changed = r; tally = t })) (sym (a .before)) heard)
       (a .after) (a .changes) (a .sends ∙ ap (λ (n : ℕ). g .sends + n) (sym (sends-by k d r some)))
       (omega (arith, a .polls, polls-none k d r some))
 
@@ -115,18 +115,18 @@ module _ (b cells cells′ : List ℕ) (t : Tally) (k d r : ℕ) (run : Running 
   pub worked-closed : t .closed ≡ true → cells′ ≡ cells → r ≡ 0 → Works b (turn k d ∷ []) cells t cells′ r (cond (eqb d 10) r 0)
   worked-closed e same z =
       counted
-      (subst (λ (l : List ℕ). Hears (turnOn (systemAt b) k d) cells t l (record { changed = r; tally = t })) (sym same)
-      (hears-idle (turnOn (systemAt b) k d) cells t _ (turn-closed (systemAt b) k d (machine cells t) e) refl z))
+      (subst (λ (l : List ℕ). Controls (turnOn (systemAt b) k d) cells t l (record { changed = r; tally = t })) (sym same)
+      (controls-idle (turnOn (systemAt b) k d) cells t _ (turn-closed (systemAt b) k d (machine cells t) e) refl z))
 
   -- in an open one it does what its action does
   pub worked-open : t .closed ≡ false → (p : ℕ) → p ≡ workerCount b → allowed p (turn k d) ≡ true
       → Acts (workerOn (systemAt b) t (k - 1) d) cells cells′ r → Works b (turn k d ∷ []) cells t cells′ r (cond (eqb d 10) r 0)
   worked-open e p q ok act =
       counted
-      (hears-as (λ x. withMem (x .tally) (workerM (systemAt b) (k - 1) d x)) (turnOn (systemAt b) k d) cells t cells′ _
+      (controls-as (λ x. withMem (x .tally) (workerM (systemAt b) (k - 1) d x)) (turnOn (systemAt b) k d) cells t cells′ _
       (turn-works (systemAt b) k d (machine cells t) e
       (subst (λ (n : ℕ). allowed n (turn k d) ≡ true) (q ∙ sym (workers-are b)) ok) some)
-      (hears-acts (workerM (systemAt b) (k - 1) d) cells t cells′ _ act refl))
+      (controls-acts (workerM (systemAt b) (k - 1) d) cells t cells′ _ act refl))
 
 -- a read sends nothing
 module _ (b cells cells′ : List ℕ) (t : Tally) (k j r : ℕ) (run : Running b cells t) (some : k ≡ 0 → ⊥) (low : j < 9) where

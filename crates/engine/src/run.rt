@@ -1,5 +1,5 @@
 // The turns of a run.
-use controller::Heard;
+use controller::Controlled;
 use disac4::Tally;
 use refinement::Progress;
 ghost use mathlib.Core.Bool.{true, cond};
@@ -13,7 +13,7 @@ ghost use Rattle.disac4.specs.Turn.{allowed, turn};
 ghost use Rattle.cells.specs.Memory.{Acts};
 ghost use Rattle.engine.specs.Play.{Running, Works};
 ghost use Rattle.refinement.specs.Run.{Playable, readOn, workerOn, turnOn, Going, Plays};
-ghost use Rattle.controller.specs.Controller.{Hears};
+ghost use Rattle.controller.specs.Controller.{Controls};
 ghost use Rattle.format.specs.Format.{workerCount};
 
 // Row `i` reads from actor `d`: the next poll, or the next list message.
@@ -68,12 +68,12 @@ pub fn read_turn(b: &[u8], cells: &mut [u16], t: Tally, p: usize, k: usize, j: u
 }
 
 // One turn of the controller, which is an allowed one of p workers.
-fn hear_turn(b: &[u8], cells: &mut [u16], t: Tally, p: usize, d: usize) -> Heard
+fn control_turn(b: &[u8], cells: &mut [u16], t: Tally, p: usize, d: usize) -> Controlled
     requires { ⌜ Playable (now b) (now cells) t × (p ≡ workerCount (now b)) × (allowed p (turn 0 d) ≡ true) ⌝ }
-    ensures { λ r. ⌜ Hears (turnOn (systemAt (now (b .entry))) 0 d) (now (cells .entry)) t (now (cells .exit)) r ⌝ }
+    ensures { λ r. ⌜ Controls (turnOn (systemAt (now (b .entry))) 0 d) (now (cells .entry)) t (now (cells .exit)) r ⌝ }
 {
     if t.closed {
-        return Heard {
+        return Controlled {
             changed: 0,
             tally: t,
         };
@@ -90,7 +90,7 @@ pub fn control(b: &[u8], cells: &mut [u16], g: Progress, p: usize, d: usize) -> 
     ensures { λ r. ⌜ Plays (now (b .entry)) (turn 0 d ∷ []) (now (cells .entry)) g (now (cells .exit)) r ⌝ }
 {
     let t = g.tally;
-    let h = hear_turn(b, cells, t, p, d);
+    let h = control_turn(b, cells, t, p, d);
     let changed = h.changed;
     let after = h.tally;
     Progress {

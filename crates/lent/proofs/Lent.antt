@@ -5,11 +5,11 @@ use mathlib.Core.Path.{_≡_}
 use lib.ListN.{length}
 use Rattle.disac4.specs.System.{System}
 use Rattle.disac4.specs.declared.Tally.{Tally}
-use Rattle.controller.specs.Controller.{hearM, Hears}
-use Rattle.controller.specs.declared.Heard.{Heard}
+use Rattle.controller.specs.Controller.{hearM, Controls}
+use Rattle.controller.specs.declared.Controlled.{Controlled}
 
 abbrev pub Asked : List ℕ → Tally → ℕ → ℕ → Type 0
 Asked cells t p i = (24576 ≤ length cells) × (t .marks < 256) × (i < 8) × (p ≤ 8)
 
-abbrev pub Told : List ℕ → Tally → ℕ → ℕ → List ℕ → Heard → Type 0
-Told before t p i after r = (sys : System) → sys .workers ≡ p → Hears (hearM sys i) before t after r
+abbrev pub Told : List ℕ → Tally → ℕ → ℕ → List ℕ → Controlled → Type 0
+Told before t p i after r = (sys : System) → sys .workers ≡ p → Controls (hearM sys i) before t after r

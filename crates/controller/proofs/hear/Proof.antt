@@ -3,7 +3,7 @@ use Prim.Native.Nat.{_<_}
 use mathlib.Core.Path.{refl}
 use native.Mathlib.Omega.{arith}
 use borrow.Author.Needs.{needs}
-use Rattle.controller.proofs.ControllerLaws.{hears-none, hears, hear-room, hear-idle, hear-takes}
+use Rattle.controller.proofs.ControllerLaws.{controls-none, hears, hear-room, hear-idle, hear-takes}
 use Rattle.cells.proofs.Ranges.{may-get, may-put}
 use Rattle.controller.proofs.hear.Statement.{statement}
 use Rattle.controller.proofs.hear.Tie as tie
@@ -25,7 +25,7 @@ returns c =
     let at-has-out = c .before in
     let at-get2 = at-has-out .before in
     let at-get = at-get2 .before .before in
-    λ sys e. hears-none _ _ _ (hear-idle _ _ _ (at-has-out .has-out .ensures) _ _ _ (at-get .get .ensures .0)
+    λ sys e. controls-none _ _ _ (hear-idle _ _ _ (at-has-out .has-out .ensures) _ _ _ (at-get .get .ensures .0)
     (at-get2 .get2 .ensures .0) (c .if1 .taken))
 
 -- a message is there

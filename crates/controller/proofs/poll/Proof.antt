@@ -1,7 +1,7 @@
 -- `controller::poll` sends the next poll. Assumes nothing.
 use native.Mathlib.Omega.{arith}
 use borrow.Author.Needs.{needs}
-use Rattle.controller.proofs.ControllerLaws.{hears-none, hears, asks-room, poll-idle, poll-goes, next-number, poll-put}
+use Rattle.controller.proofs.ControllerLaws.{controls-none, hears, asks-room, poll-idle, poll-goes, next-number, poll-put}
 use Rattle.controller.proofs.poll.Statement.{statement}
 use Rattle.controller.proofs.poll.Tie as tie
 
@@ -11,7 +11,7 @@ asks-requires c κs = search needs
 returns : tie.Need-returns
 returns c =
     let at-asks = c .before in
-    hears-none _ _ _ (poll-idle _ (at-asks .asks .ensures) _ (c .if1 .taken))
+    controls-none _ _ _ (poll-idle _ (at-asks .asks .ensures) _ (c .if1 .taken))
 
 asked-requires : tie.Need-asked-requires
 asked-requires c κs =

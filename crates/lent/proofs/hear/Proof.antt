@@ -44,11 +44,11 @@ use denote.Exit.{yes}
 use denote.Signature.{plain}
 use Rattle.disac4.specs.declared.Tally.{Tally}
 use Rattle.lent.proofs.Lent.{Asked, Told}
-use Rattle.controller.specs.declared.Heard.{Heard}
+use Rattle.controller.specs.declared.Controlled.{Controlled}
 use Rattle.disac4.proofs.Tally as T
 use Rattle.disac4.proofs.Tally.Laws as T′
-use Rattle.controller.proofs.Heard as R
-use Rattle.controller.proofs.Heard.Laws as R′
+use Rattle.controller.proofs.Controlled as R
+use Rattle.controller.proofs.Controlled.Laws as R′
 use Rattle.controller.proofs.hear as core
 use Rattle.controller.proofs.hear.Symbol as core-def
 use Rattle.controller.proofs.hear.Symbol.{name as #core}
@@ -65,11 +65,11 @@ stayed = (gave-slice (0 ∷ []) tt (plain (λ _. u16)), (stay-ref (1 ∷ []) tt 
 abbrev Core : {M : Type 1} (𝓤 : URA M) (H : Heap 𝓤) (A : Atoms 𝓤) (mem : Memory → SProp 𝓤) (run : Routine → Fun 𝓤) → Contract 𝓤
 Core 𝓤 H A mem run = tripleOf 𝓤 H A core.signature (core.spec 𝓤 H A mem run)
 
--- what whoever holds a `Heard` knows of its parts
-tally-is : (r : Heard) (w : Val) → Is R.the-row r (w ∷ []) → Is T.the-row (r .tally) (LL.vals T.the-type T′.the-laws (r .tally))
+-- what whoever holds a `Controlled` knows of its parts
+tally-is : (r : Controlled) (w : Val) → Is R.the-row r (w ∷ []) → Is T.the-row (r .tally) (LL.vals T.the-type T′.the-laws (r .tally))
 tally-is r w is = LL.owed R.the-type R′.the-laws r (w ∷ []) is .1 .0
 
-changed-fits : (r : Heard) (w : Val) → Is R.the-row r (w ∷ []) → r .changed < 2 ^ 64
+changed-fits : (r : Controlled) (w : Val) → Is R.the-row r (w ∷ []) → r .changed < 2 ^ 64
 changed-fits r w is = LL.owed R.the-type R′.the-laws r (w ∷ []) is .0 .1
 
 module _ {M : Type 1} (𝓤 : URA M) (H : Heap 𝓤) (A : Atoms 𝓤) (W : Given 𝓤 H A) (at-mem : Memory → SProp 𝓤) (run : Routine → Fun 𝓤) (κ κ′ : Lft) (q q′ : Share) (b o : ℕ) (γ : GName) (ys : List ℕ) (b′ o′ : ℕ) (γ′ : GName) (h : Tally) (p i : ℕ) (p-fits : p < 2 ^ 64) (i-fits : i < 2 ^ 64) where
@@ -104,7 +104,7 @@ module _ {M : Type 1} (𝓤 : URA M) (H : Heap 𝓤) (A : Atoms 𝓤) (W : Given
       nothing ! $ owned ! usize (Is usize) (uint-makes 𝓤 H A W w64) i _ (refl, i-fits) $ fjoin ! $ owned ! usize (Is usize) (uint-makes 𝓤 H A W w64) p _ (refl, p-fits) $ fjoin ! $
       owned ! T.the-row (Is T.the-row) (LL.makes T.the-type T′.the-plain 𝓤 H A) h _ was $ fjoin ! $ move ! (1 ∷ 0 ∷ []) $ fjoin ! $ done !
 
-  exits : (r : Heard) (zs : List ℕ) → Told ys h p i zs r → length zs ≡ length ys → r .changed < 2 ^ 64
+  exits : (r : Controlled) (zs : List ℕ) → Told ys h p i zs r → length zs ≡ length ys → r .changed < 2 ^ 64
       → ent 𝓤 (⋆ 𝓤 H A (‵ (fobs γ′ (T.the-row .coded .code (r .tally))) ∷ ‵ (fbor κ′ (Body (mem T.the-row) b′ o′ γ′)) ∷ ‵ (flft κ′ q′) ∷ (‵ (flft κ q) ⊛ ‵ ftrue) ∷ ‵ (finally u16 γ zs) ∷ [])) (Post (vint w64 (r .changed)))
   exits r zs e l fits =
       qed W (‵ (fobs γ′ (T.the-row .coded .code (r .tally))) ∷ ‵ (fbor κ′ (Body (mem T.the-row) b′ o′ γ′)) ∷ ‵ (flft κ′ q′) ∷ (‵ (flft κ q) ⊛ ‵ ftrue) ∷ ‵ (finally u16 γ zs) ∷ []) ∵
@@ -133,7 +133,7 @@ module _ {M : Type 1} (𝓤 : URA M) (H : Heap 𝓤) (A : Atoms 𝓤) (W : Given
         move ! (5 ∷ 7 ∷ []) $ use2 W (raw (Core 𝓤 H A at-mem run .pre to-core)) (goes asked was) $
         -- [what the core asks; the tally's cell; the open borrow; obs; auth; true; p's and i's; _8; …; room for _0; …]
         calls-at ! fm (Core 𝓤 H A at-mem run) known to-core (and-then ! (load ! (from ! (stop !)) (look ! 9 refl)) (and-then ! (load ! (from ! (stop !)) (look ! 7 refl)) (and-then ! (load ! (from ! (stop !)) (look ! 17 refl)) (and-then ! (load ! (from ! (stop !)) (look ! 15 refl)) (no-more !))))) (λ w.
-        use1 W (later (some (λ (r : Heard). ((‵ (flft κ q) ⊛ ‵ ftrue) ⊛ ‵ (R.the-row .own r (w ∷ []))) ⊛ raw (ensured 𝓤 H A core.ended (core.clauses 𝓤 H A at-mem run) (κ, tt) (x, (h, (p, (i, tt)))) tt r)))) (id⊢ 𝓤 _) $ await ! tt $ pick ! (λ r.
+        use1 W (later (some (λ (r : Controlled). ((‵ (flft κ q) ⊛ ‵ ftrue) ⊛ ‵ (R.the-row .own r (w ∷ []))) ⊛ raw (ensured 𝓤 H A core.ended (core.clauses 𝓤 H A at-mem run) (κ, tt) (x, (h, (p, (i, tt)))) tt r)))) (id⊢ 𝓤 _) $ await ! tt $ pick ! (λ r.
         -- what the core says, at some last cells
         split ! $ move ! (1 ∷ []) $ use1 W (some (λ (zs : List ℕ × (Unit {0} × (Unit {0} × (Unit {0} × Unit {0})))). ‵ (lasts core.ended (κ, tt) (x, (h, (p, (i, tt)))) zs) ⊛ raw (fact 𝓤 (Told ys h p i (zs .0) r)))) (id⊢ 𝓤 _) $ pick ! (λ zs.
         split ! $ move ! (1 ∷ []) $ heard ! (Told ys h p i (zs .0) r) (λ e. fsplit ! $ fsplit ! $ move ! (1 ∷ []) $ feqL ! (λ l.

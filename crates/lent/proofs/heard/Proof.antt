@@ -46,11 +46,11 @@ use denote.Exit.{yes}
 use denote.Signature.{plain}
 use Rattle.disac4.specs.declared.Tally.{Tally}
 use Rattle.lent.proofs.Lent.{Asked, Told}
-use Rattle.controller.specs.declared.Heard.{Heard}
+use Rattle.controller.specs.declared.Controlled.{Controlled}
 use Rattle.disac4.proofs.Tally as T
 use Rattle.disac4.proofs.Tally.Laws as T′
-use Rattle.controller.proofs.Heard as R
-use Rattle.controller.proofs.Heard.Laws as R′
+use Rattle.controller.proofs.Controlled as R
+use Rattle.controller.proofs.Controlled.Laws as R′
 use Rattle.lent.proofs.hear as hear
 use Rattle.lent.proofs.hear.Symbol as hear-def
 use Rattle.lent.proofs.hear.Symbol.{name as #hear}
@@ -71,7 +71,7 @@ Hear 𝓤 H A mem run = tripleOf 𝓤 H A hear.signature (hear.spec 𝓤 H A mem
 abbrev val-of : Tally → Val
 val-of = LL.val T.the-type T′.the-laws
 
-abbrev answer : ℕ → Tally → Heard
+abbrev answer : ℕ → Tally → Controlled
 answer n t = record { changed = n; tally = t }
 
 answer-is : (n : ℕ) (t : Tally) → n < 2 ^ 64 → Is T.the-row t (val-of t ∷ []) → Is R.the-row (answer n t) (LL.vals R.the-type R′.the-laws (answer n t))

@@ -9,8 +9,8 @@ use borrow.Author.Needs.{needs}
 use Rattle.engine.proofs.run.control.Statement.{statement}
 use Rattle.engine.proofs.run.control.Tie as tie
 
-hear-turn-requires : tie.Need-hear-turn-requires
-hear-turn-requires c κs =
+control-turn-requires : tie.Need-control-turn-requires
+control-turn-requires c κs =
     let s = c .before .before .before .before in
     (playable (now (s .args .b)) (now (s .args .cells)) (s .args .g) (s .pre .0), s .pre .1, s .pre .2)
 
@@ -19,7 +19,7 @@ add-t12 c =
     let h = c .before .before .before .before in
     let s = h .before .before .before .before .before in
     let room = counts-room (now (s .args .b)) (now (s .args .cells)) (s .args .g) (s .pre .0) in
-    omega (arith, room .0, adds-one _ _ _ _ _ (h .hear-turn .ensures))
+    omega (arith, room .0, adds-one _ _ _ _ _ (h .control-turn .ensures))
 
 if-action-requires : tie.Need-if-action-requires
 if-action-requires c κs = search needs
@@ -33,8 +33,8 @@ add-t14 c =
     omega (
       arith,
       room .2,
-      adds-one _ _ _ _ _ (h .hear-turn .ensures),
-      part-of (eqb (s .args .d) 12) (h .hear-turn .result .changed) (i .if-action .result) (i .if-action .ensures),
+      adds-one _ _ _ _ _ (h .control-turn .ensures),
+      part-of (eqb (s .args .d) 12) (h .control-turn .result .changed) (i .if-action .result) (i .if-action .ensures),
     )
 
 same-length : tie.Need-same-length
@@ -46,10 +46,10 @@ returns c =
     let h = i .before .before .before .before .before in
     let s = h .before .before .before .before .before in
     let a = s .args in
-    advanced (now (a .b)) (now (a .cells)) (h .hear-turn .last .1 .0) (a .g) _ 0 (a .d) (h .hear-turn .result) (s .pre .0 .sound)
-    (h .hear-turn .ensures) refl refl (omega arith) (ap (λ (n : ℕ). a .g .polls + n) (i .if-action .ensures))
+    advanced (now (a .b)) (now (a .cells)) (h .control-turn .last .1 .0) (a .g) _ 0 (a .d) (h .control-turn .result) (s .pre .0 .sound)
+    (h .control-turn .ensures) refl refl (omega arith) (ap (λ (n : ℕ). a .g .polls + n) (i .if-action .ensures))
 
 pub control-spec : {M : Type 1} → statement M
 control-spec =
     tie.close
-    (tie.spec hear-turn-requires add-t12 if-action-requires add-t14 same-length returns)
+    (tie.spec control-turn-requires add-t12 if-action-requires add-t14 same-length returns)

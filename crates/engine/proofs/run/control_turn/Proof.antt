@@ -1,4 +1,4 @@
--- `engine::run::hear_turn` plays one turn of the controller. Assumes nothing.
+-- `engine::run::control_turn` plays one turn of the controller. Assumes nothing.
 use Prim.Native.Nat.{ℕ, _-_, _≤_}
 use mathlib.Core.Bool.{true}
 use mathlib.Core.Path.{_≡_, refl, sym, _∙_, subst}
@@ -7,11 +7,11 @@ use denote.Ref.{now}
 use Rattle.controller.specs.Controller.{machine, hearM, pollM}
 use Rattle.disac4.specs.Outcome.{systemAt}
 use Rattle.disac4.specs.Turn.{allowed, turn}
-use Rattle.engine.proofs.RunLaws.{hears-as, hears-idle, turn-closed, turn-polls, turn-hears, may-hear, workers-are}
+use Rattle.engine.proofs.RunLaws.{controls-as, controls-idle, turn-closed, turn-polls, turn-hears, may-hear, workers-are}
 use Rattle.refinement.specs.Run.{turnOn}
 use borrow.Author.Needs.{needs}
-use Rattle.engine.proofs.run.hear_turn.Statement.{statement}
-use Rattle.engine.proofs.run.hear_turn.Tie as tie
+use Rattle.engine.proofs.run.control_turn.Statement.{statement}
+use Rattle.engine.proofs.run.control_turn.Tie as tie
 
 few-at : (s : tie.Start) → s .args .p ≤ 8
 few-at s = omega (arith, s .pre .0 .workers, s .pre .1)
@@ -23,7 +23,7 @@ allowed-at s =
 returns : tie.Need-returns
 returns c =
     let a = c .before .before .before .args in
-    hears-idle (turnOn (systemAt (now (a .b))) 0 (a .d)) (now (a .cells)) (a .t) _
+    controls-idle (turnOn (systemAt (now (a .b))) 0 (a .d)) (now (a .cells)) (a .t) _
     (turn-closed (systemAt (now (a .b))) 0 (a .d) (machine (now (a .cells)) (a .t)) (c .if1 .taken)) refl refl
 
 poll-requires : tie.Need-poll-requires
@@ -38,7 +38,7 @@ returns-2 c =
     let t = q .before .before in
     let s = t .before .before .before .before in
     let a = s .args in
-    hears-as pollM (turnOn (systemAt (now (a .b))) 0 (a .d)) (now (a .cells)) (a .t) _ _
+    controls-as pollM (turnOn (systemAt (now (a .b))) 0 (a .d)) (now (a .cells)) (a .t) _ _
     (turn-polls (systemAt (now (a .b))) 0 (a .d) (machine (now (a .cells)) (a .t)) (t .before .if1 .left) (allowed-at s) refl (t .if2 .taken))
     (q .poll .ensures)
 
@@ -62,12 +62,12 @@ returns-3 c =
     let e = h .before .before in
     let s = e .before .before .before .before in
     let a = s .args in
-    hears-as (hearM (systemAt (now (a .b))) (a .d - 1)) (turnOn (systemAt (now (a .b))) 0 (a .d)) (now (a .cells)) (a .t) _ _
+    controls-as (hearM (systemAt (now (a .b))) (a .d - 1)) (turnOn (systemAt (now (a .b))) 0 (a .d)) (now (a .cells)) (a .t) _ _
     (turn-hears (systemAt (now (a .b))) 0 (a .d) (machine (now (a .cells)) (a .t)) (e .before .if1 .left) (allowed-at s) refl (e .if2 .left))
     (h .heard .ensures (systemAt (now (a .b))) (workers-are (now (a .b)) ∙ sym (s .pre .1)))
 
-pub hear-turn-spec : {M : Type 1} → statement M
-hear-turn-spec =
+pub control-turn-spec : {M : Type 1} → statement M
+control-turn-spec =
     tie.close
     (tie.spec
     returns
