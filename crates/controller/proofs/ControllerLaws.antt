@@ -5,7 +5,7 @@ use mathlib.Core.List.{List}
 use mathlib.Core.Option.{Option, none, some}
 use mathlib.Core.Path.{_≡_, sym, _∙_}
 use native.Mathlib.Omega.{arith}
-use borrow.Author.Tests.{ltb-true, le-leb, lt-leb, eqb-false, not-true, not-false}
+use borrow.Author.Tests.{ltb-true, le-leb, lt-leb, not-true, not-false}
 use lib.Dec.{ltb, eqb}
 use Rattle.base.proofs.Bools.{and-left, and-right}
 use Rattle.base.proofs.Choice.{cond-true, cond-false}

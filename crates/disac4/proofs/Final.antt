@@ -6,8 +6,9 @@ use mathlib.Core.Option.{none}
 use mathlib.Core.Path.{_≡_, refl, _∙_, ap}
 use Rattle.base.proofs.Bools.{and-left}
 use Rattle.network.specs.Consistency.{Within}
-use Rattle.disac4.proofs.Moves.{Moves, treats, sends, reads, takes-poll, ignores, answers, asks, tallies, marks, drops, discards, after-idle, kept}
-use Rattle.disac4.specs.Action.{deletes, afterTreat, afterSend, afterList, afterPoll, afterDrop, afterAnswer, afterAsk, afterCount, afterMark}
+use Rattle.disac4.proofs.ByTreat.{by-treat}
+use Rattle.disac4.proofs.Moves.{Moves, after-idle, kept}
+use Rattle.disac4.specs.Action.{deletes, afterTreat}
 use Rattle.disac4.specs.Event.{Event}
 use Rattle.disac4.specs.State.{State}
 use Rattle.disac4.specs.System.{System}
@@ -27,18 +28,11 @@ closed-stays sys st e (t ∷ ts) =
 
 -- a turn puts no label back
 pub move-shrinks : {sys : System} {st s : State} {es : List Event} → Moves sys st s es → Within (s .domain) (st .domain)
-unfolding Within afterTreat afterSend afterList afterPoll afterDrop afterAnswer afterAsk afterCount afterMark
-move-shrinks {sys} {st} (treats k a rest w e) = λ x v h. and-left (st .domain x v) (not (deletes sys k a st x v)) h
-move-shrinks (sends k w e) = λ x v h. h
-move-shrinks (reads j k labels rest w b n e) = λ x v h. h
-move-shrinks (takes-poll j k q rest w b n e) = λ x v h. h
-move-shrinks (ignores j k i rest w b n e) = λ x v h. h
-move-shrinks (answers k q w e r) = λ x v h. h
-move-shrinks (asks e) = λ x v h. h
-move-shrinks (tallies k labels rest w e) = λ x v h. h
-move-shrinks (marks k n rest w e c) = λ x v h. h
-move-shrinks (drops k n rest w e c) = λ x v h. h
-move-shrinks (discards k q rest w e) = λ x v h. h
+unfolding Within afterTreat
+move-shrinks {sys} {st} {s} {es} =
+    by-treat sys st (λ s es. Within (s .domain) (st .domain))
+    (λ k a rest w e x v h. and-left (st .domain x v) (not (deletes sys k a st x v)) h)
+    (λ s new d c n x v h. rw d at h) s es
 
 -- a deleted label stays deleted
 pub domain-shrinks : (sys : System) → sys .workers ≤ 8 → (st : State) (ts : List Turn)

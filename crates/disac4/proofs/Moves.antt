@@ -9,7 +9,7 @@ use native.Mathlib.Omega.{arith}
 use borrow.Author.Tests.{eqb-true, eqb-false, ne-eqb, le-leb, lt-leb, not-false}
 use lib.Dec.{leb, eqb}
 use Rattle.base.proofs.Bools.{or-false-left, or-false-right}
-use Rattle.base.proofs.Choice.{none≢some, by-test}
+use Rattle.base.proofs.Choice.{none≢some, by-test, if-some, unless-some, some-same}
 use Rattle.network.specs.Network.{Label}
 use Rattle.disac4.proofs.Allowed.{reads-other, reads-worker, worker-does, controller-does}
 use Rattle.disac4.specs.Action.{isEmpty, afterTreat, treat, treatFrom, afterSend, send, afterList, afterPoll, afterDrop, readFrom, readWorker, afterAnswer, ready, answerTo, answer, afterAsk, ask, afterCount, afterMark, current, controllerFrom, readController}
@@ -50,13 +50,9 @@ module _ (sys : System) (st : State) where
   abbrev To : List Event → State → Type 0
   To es s = Moves sys st s es
 
+  -- a move to a state is one to the state that it equals
   reached : {s s′ : State} {es : List Event} → some s ≡ some s′ → To es s → To es s′
-  reached {s} {s′} {es} e m = subst (To es) (let z : s ≡ s′ = cc in z) m
-
-  -- a step by a choice whose other outcome is idle
-  chosen : (b : Bool) {s s′ : State} → cond b none (some s) ≡ some s′ → (b ≡ false) × (some s ≡ some s′)
-  chosen true e = none≢some e
-  chosen false e = (refl, e)
+  reached {es = es} = some-same (To es)
 
   treat-moves : (k : ℕ) → Worker sys k → (l : List Label) → st .workList k ≡ l → (s : State)
       → treatFrom sys k st l ≡ some s → To (treatEvent k l) s
@@ -65,8 +61,7 @@ module _ (sys : System) (st : State) where
 
   send-moves : (k : ℕ) → Worker sys k → (s : State) → send sys k st ≡ some s → To (sent k (st .toSend k) ∷ []) s
   unfolding send
-  send-moves k w s e =
-      reached (chosen (isEmpty (st .toSend k)) e .1) (sends k w (chosen (isEmpty (st .toSend k)) e .0))
+  send-moves k w s e = let c = unless-some (isEmpty (st .toSend k)) e in reached (c .1) (sends k w (c .0))
 
   read-moves : (j k : ℕ) → Worker sys k → j ≤ sys .workers → (j ≡ k → ⊥) → (l : List Message) → st .channel j k ≡ l
       → (s : State) → readFrom j k st l ≡ some s → To (readEvent k j l) s
@@ -78,15 +73,11 @@ module _ (sys : System) (st : State) where
   answer-moves : (k : ℕ) → Worker sys k → (o : Option Poll) → st .held k ≡ o → (s : State)
       → answerTo k st o ≡ some s → To [] s
   answer-moves k w none p s e = none≢some e
-  answer-moves k w (some q) p s e = go (ready k q st) refl e
-    where
-      go : (b : Bool) → ready k q st ≡ b → cond b (some (afterAnswer k q st)) none ≡ some s → To [] s
-      go true r f = reached f (answers k q w p r)
-      go false r f = none≢some f
+  answer-moves k w (some q) p s e = let c = if-some (ready k q st) e in reached (c .1) (answers k q w p (c .0))
 
   ask-moves : (s : State) → ask sys st ≡ some s → To [] s
   unfolding ask
-  ask-moves s e = reached (chosen (st .controller .pollOpen) e .1) (asks (chosen (st .controller .pollOpen) e .0))
+  ask-moves s e = let c = unless-some (st .controller .pollOpen) e in reached (c .1) (asks (c .0))
 
   tally-moves : (k : ℕ) → Worker sys k → (l : List Message) → st .channel k 0 ≡ l
       → (s : State) → controllerFrom sys k st l ≡ some s → To (readEvent 0 k l) s

@@ -1,5 +1,5 @@
 -- Progress: while the plan is open, some allowed turn changes something.
-use Prim.Native.Nat.{ℕ, zero, suc, _<_, _≤_}
+use Prim.Native.Nat.{ℕ, zero, suc, _≤_}
 use mathlib.Core.Bool.{Bool, true, false, cond, _&&_, false≢true}
 use mathlib.Core.List.{List, [], _∷_}
 use mathlib.Core.Logic.{⊎-elim}
@@ -7,11 +7,11 @@ use mathlib.Core.Option.{Option, none, some}
 use mathlib.Core.Path.{_≡_, refl, sym, _∙_, ap, subst}
 use native.Mathlib.Decide.{ℕ-discrete}
 use native.Mathlib.Omega.{arith}
-use borrow.Author.Tests.{eqb-true, eq-eqb, ne-eqb}
+use borrow.Author.Tests.{eq-eqb, ne-eqb}
 use lib.Dec.{eqb}
 use Rattle.base.proofs.Below.{some-below, none-below, every-below}
 use Rattle.base.proofs.Bools.{decided, clash, and-left, and-right, and-intro, and-false, or-false, not-of-true}
-use Rattle.base.proofs.Choice.{cond-false, between-high}
+use Rattle.base.proofs.Choice.{cond-false}
 use Rattle.base.proofs.Sums.{sum-zero}
 use Rattle.base.proofs.Weight.{weigh}
 use Rattle.base.specs.Below.{anyBelow}

@@ -1,6 +1,5 @@
 -- `turns::judge_all` fills a table of the turns that are allowed. Invariant: its first i cells are filled. Assumes nothing.
 use Prim.Native.Nat.{_-_, _≤_}
-use mathlib.Core.Bool.{Bool}
 use mathlib.Core.Path.{refl, _∙_, ap}
 use native.Mathlib.Omega.{arith}
 use Rattle.base.specs.Below.{one}
