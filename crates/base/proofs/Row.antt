@@ -93,15 +93,16 @@ row-bit (suc n) t (suc w) h =
     ∙ ap (λ (r : ℕ). bit r w) (row-half n t)
     ∙ row-bit n (λ u. t (suc u)) w (le-of-suc-le-suc h)
 
+-- a row below 2 ^ n, with value n or without, is below the next power
+pub put-small : (n r : ℕ) (b : Bool) → r < 2 ^ n → r + cond b (2 ^ n) 0 < 2 ^ suc n
+put-small n r true h = omega (arith, two-pow-succ n)
+put-small n r false h = omega (arith, two-pow-succ n)
+
 -- a row of n values is below 2 ^ n
 pub row-small : (n : ℕ) (t : ℕ → Bool) → rowOf n t < 2 ^ n
 unfolding rowOf
 row-small zero t = omega arith
-row-small (suc n) t = omega (arith, row-small n t, two-pow-succ n, part (t n))
-  where
-    part : (b : Bool) → cond b (2 ^ n) 0 ≤ 2 ^ n
-    part true = omega arith
-    part false = omega arith
+row-small (suc n) t = put-small n (rowOf n t) (t n) (row-small n t)
 
 -- a row below 2 ^ n holds no value from n on
 pub bit-past : (n r w : ℕ) → r < 2 ^ n → n ≤ w → bit r w ≡ false
@@ -149,11 +150,6 @@ row-more n r p t e q = sum-more r p n (λ w. cond (t w) (2 ^ w) 0) e q
 -- a row of at most 16 values
 pub row-low : (n : ℕ) (t : ℕ → Bool) → n ≤ 16 → rowOf n t < 65536
 row-low n t h = omega (arith, row-small n t, pow-mono h)
-
--- a value's bit as a number
-pub bit-one : (r w : ℕ) → one (bit r w) ≡ r / 2 ^ w % 2
-unfolding bit
-bit-one r w = odd-rest (r / 2 ^ w)
 
 -- `2 ^ n - 1` is the row of all values below n
 pub row-full : (n : ℕ) → 2 ^ n - 1 ≡ rowOf n (λ w. true)

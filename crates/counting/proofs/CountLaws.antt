@@ -1,20 +1,17 @@
 -- Laws that the code of counting meets its definitions in memory by.
-use Prim.Native.Nat.{ℕ, _+_, _<_, _≤_}
-use mathlib.Core.Bool.{true, false, _&&_}
+use Prim.Native.Nat.{ℕ, _+_, _^_, _<_, _≤_}
+use mathlib.Core.Bool.{Bool, true, false, cond, _&&_}
 use mathlib.Core.List.{List}
 use mathlib.Core.Option.{none}
 use mathlib.Core.Path.{_≡_, refl, sym, _∙_, ap, ap₂}
 use native.Mathlib.Omega.{arith}
-use lib.ListN.{length, getD, set, length-set}
+use lib.ListN.{getD, set, length-set}
 use lib.Seq.{getD-set-same, getD-set-other}
 use Rattle.base.proofs.Below.{up-to}
 use Rattle.base.proofs.Choice.{cond-true, cond-false}
-use Rattle.base.proofs.Row.{row-bit}
-use Rattle.base.proofs.Sums.{count-ext, count-le, sum-more}
-use Rattle.base.specs.Below.{one, countBelow}
+use Rattle.base.proofs.Row.{row-bit, row-small, row-ext, row-more, row-low}
 use Rattle.base.specs.Row.{bit, rowOf}
 use Rattle.disac4.specs.System.{System}
-use Rattle.network.proofs.Supports.{support-count}
 use Rattle.network.specs.Network.{supports, supportCount}
 use Rattle.plan.proofs.Links.{linked-symmetric}
 use Rattle.plan.proofs.Pairs.{allowed-symmetric}
@@ -28,91 +25,65 @@ use Rattle.cells.specs.Memory.{Mem, store}
 use Rattle.cells.specs.View.{counterRow}
 use Rattle.index.proofs.Permitted.{linked-inside}
 use Rattle.index.proofs.Places.{few-values}
-use Rattle.counting.specs.Count.{countPairM, countAgainstM, countBothM, countVariableM, countM}
+use Rattle.counting.specs.Count.{Rows, supportRow, countPairM, countAgainstM, countBothM, countVariableM, countM}
 
--- a count is that of at most 16 values
-pub count-low : (b : List ℕ) → planFault b ≡ none → (x v y : ℕ) → shareConstraint (planOf b) x y ≡ true
-    → supportCount (networkOf (planOf b)) x v y ≤ 16
-unfolding networkOf
-count-low b sound x v y e =
-    let h = linked-inside b sound x y e .1 in
-    omega (
-      arith,
-      support-count (networkOf (planOf b)) x v y,
-      count-le (networkOf (planOf b) .size y) (supports (networkOf (planOf b)) x v y),
-      size-read b y h,
-      few-values b sound y h,
-    )
+-- a variable has at most 16 values, so a row of them fits a cell
+module _ (b : List ℕ) (sound : planFault b ≡ none) (x y : ℕ) (e : shareConstraint (planOf b) x y ≡ true) where
+  pub size-low : networkOf (planOf b) .size y ≤ 16
+  unfolding networkOf
+  size-low = let h = linked-inside b sound x y e .1 in omega (arith, size-read b y h, few-values b sound y h)
 
--- ---- a row is added to the counts
+  pub supports-fit : (v row : ℕ) → row ≡ supportRow (networkOf (planOf b)) x y v → row < 65536
+  supports-fit v row r =
+      omega (arith, row-low (networkOf (planOf b) .size y) (supports (networkOf (planOf b)) x v y) size-low)
 
--- the counts of the first `k` values are one more where the row holds them, the others are what they were
-pub record Added (old : List ℕ) (row k : ℕ) (new : List ℕ) : Type 0 where
-  pub long : length new ≡ 16
-  pub done : (w : ℕ) → w < k → getD new w 0 ≡ getD old w 0 + one (bit row w)
-  pub rest : (w : ℕ) → k ≤ w → getD new w 0 ≡ getD old w 0
+-- ---- rows
 
-module _ (old : List ℕ) (row : ℕ) where
-  pub added-none : length old ≡ 16 → Added old row 0 old
-  added-none l = record { long = l; done = λ w h. absurd (omega arith); rest = λ w h. refl }
+-- one row more
+pub rows-more : (f : ℕ → ℕ) (k : ℕ) (rows : List ℕ) (row : ℕ) → k < 16 → Rows f k rows → row ≡ f k → Rows f (k + 1) (set rows k row)
+rows-more f k rows row h r e = record {
+  long = length-set rows k row ∙ r .long;
+  each =
+      up-to (λ v. getD (set rows k row) v 0 ≡ f v) k (getD-set-same rows k row 0 (omega (arith, r .long)) ∙ e)
+      (λ v l. getD-set-other rows k v row 0 (λ q. omega arith) ∙ r .each v l);
+}
 
-  pub added-more : (k : ℕ) (new : List ℕ) (c : ℕ) → k < 16 → Added old row k new → c ≡ getD new k 0 + one (bit row k)
-      → Added old row (k + 1) (set new k c)
-  added-more k new c h a e = record {
-    long = length-set new k c ∙ a .long;
-    done =
-        up-to (λ w. getD (set new k c) w 0 ≡ getD old w 0 + one (bit row w)) k
-        (getD-set-same new k c 0 (omega (arith, a .long)) ∙ e ∙ ap (λ (t : ℕ). t + one (bit row k)) (a .rest k (omega arith)))
-        (λ w l. getD-set-other new k w c 0 (λ q. omega arith) ∙ a .done w l);
-    rest = λ w l. getD-set-other new k w c 0 (λ q. omega arith) ∙ a .rest w (omega arith);
-  }
-
--- ---- the counts of `y` against `x`, by the rows of `x`
-
--- in how many of the rows of the first `v` values of `x` each value of `y` stands
-pub record Totals (plan : Plan) (x y v : ℕ) (counts : List ℕ) : Type 0 where
-  pub long : length counts ≡ 16
-  pub each : (w : ℕ) → w < 16
-      → getD counts w 0 ≡ countBelow v (λ u. bit (rowOf (networkOf plan .size y) (supports (networkOf plan) x u y)) w)
-
+-- the rows of `y`, as they are gathered from those of `x`
 module _ (plan : Plan) (x y : ℕ) where
-  pub totals-none : (counts : List ℕ) → length counts ≡ 16 → ((w : ℕ) → w < 16 → getD counts w 0 ≡ 0) → Totals plan x y 0 counts
-  totals-none counts l z = record { long = l; each = z }
+  -- value `w` of `y` is in the row of value `v` of `x`
+  abbrev pub held : ℕ → ℕ → Bool
+  held w v = bit (supportRow (networkOf plan) x y v) w
 
-  pub totals-low : (v : ℕ) (counts : List ℕ) → v ≤ 16 → Totals plan x y v counts → (w : ℕ) → w < 16 → getD counts w 0 < 65535
-  totals-low v counts h t w k =
-      omega (
-        arith,
-        t .each w k,
-        count-le v (λ u. bit (rowOf (networkOf plan .size y) (supports (networkOf plan) x u y)) w),
-      )
+  -- the row of those of the first `v` values of `x` that have `w` in theirs
+  abbrev pub gathered : ℕ → ℕ → ℕ
+  gathered v w = rowOf v (held w)
 
-  pub totals-more : (v : ℕ) (counts new : List ℕ) (row : ℕ) → Totals plan x y v counts → length new ≡ 16
-      → row ≡ rowOf (networkOf plan .size y) (supports (networkOf plan) x v y)
-      → ((w : ℕ) → w < 16 → getD new w 0 ≡ getD counts w 0 + one (bit row w)) → Totals plan x y (v + 1) new
-  totals-more v counts new row t l e a = record {
-    long = l;
+  -- these rows hold lower values only
+  pub gathered-small : (v : ℕ) (rows : List ℕ) → Rows (gathered v) 16 rows → (w : ℕ) → w < 16 → getD rows w 0 < 2 ^ v
+  gathered-small v rows g w h = omega (arith, g .each w h, row-small v (held w))
+
+  -- one value more
+  pub gathered-more : (v : ℕ) (rows new : List ℕ) (row : ℕ) → Rows (gathered v) 16 rows → row ≡ supportRow (networkOf plan) x y v
+      → Rows (λ w. getD rows w 0 + cond (bit row w) (2 ^ v) 0) 16 new → Rows (gathered (v + 1)) 16 new
+  gathered-more v rows new row g e a = record {
+    long = a .long;
     each = λ w h.
-        a w h
-        ∙ sum-more (getD counts w 0) (one (bit row w)) v
-        (λ u. one (bit (rowOf (networkOf plan .size y) (supports (networkOf plan) x u y)) w))
-        (t .each w h) (ap (λ (r : ℕ). one (bit r w)) e);
+        a .each w h ∙ row-more v (getD rows w 0) _ (held w) (g .each w h) (ap (λ (r : ℕ). cond (bit r w) (2 ^ v) 0) e);
   }
 
-  supports-symmetric : (v w : ℕ) → supports (networkOf plan) x v y w ≡ supports (networkOf plan) y w x v
+  -- when all values are gathered, these are the rows of supports
+  pub gathered-all : (rows : List ℕ) → networkOf plan .size y ≤ 16 → Rows (gathered (networkOf plan .size x)) 16 rows
+      → Rows (supportRow (networkOf plan) y x) (networkOf plan .size y) rows
   unfolding supports networkOf
-  supports-symmetric v w = ap₂ _&&_ (linked-symmetric plan x y) (allowed-symmetric plan x v y w)
-
-  -- all rows together count the supports in the other direction
-  pub totals-all : (counts : List ℕ) → Totals plan x y (networkOf plan .size x) counts → (w : ℕ) → w < 16
-      → w < networkOf plan .size y → getD counts w 0 ≡ supportCount (networkOf plan) y w x
-  totals-all counts t w k h =
-      t .each w k
-      ∙ count-ext (networkOf plan .size x)
-      (λ u. bit (rowOf (networkOf plan .size y) (supports (networkOf plan) x u y)) w)
-      (supports (networkOf plan) y w x)
-      (λ u l. row-bit (networkOf plan .size y) (supports (networkOf plan) x u y) w h ∙ supports-symmetric u w)
-      ∙ sym (support-count (networkOf plan) y w x)
+  gathered-all rows low g = record {
+    long = g .long;
+    each = λ w h.
+        g .each w (omega arith)
+        ∙ row-ext (networkOf plan .size x) (held w) (supports (networkOf plan) y w x)
+        (λ v l.
+        row-bit (networkOf plan .size y) (supports (networkOf plan) x v y) w h
+        ∙ ap₂ _&&_ (linked-symmetric plan x y) (allowed-symmetric plan x v y w));
+  }
 
 -- ---- one value more, both directions, one variable more
 

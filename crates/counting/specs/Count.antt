@@ -1,11 +1,24 @@
 -- Counting the supports in memory, where the plan's index stands already: the counters of each two linked variables.
-use Prim.Native.Nat.{ℕ, zero, suc}
+use Prim.Native.Nat.{ℕ, zero, suc, _<_}
 use mathlib.Core.Bool.{cond}
+use mathlib.Core.List.{List}
+use mathlib.Core.Path.{_≡_}
+use lib.ListN.{length, getD}
+use Rattle.base.specs.Row.{rowOf}
 use Rattle.disac4.specs.System.{System}
-use Rattle.network.specs.Network.{supportCount}
+use Rattle.network.specs.Network.{Network, supports, supportCount}
 use Rattle.cells.specs.Layout.{COUNTERS}
 use Rattle.cells.specs.Memory.{Mem, store}
 use Rattle.cells.specs.View.{counterRow}
+
+-- the row of the supports of value `v` of `x` against `y`
+abbrev pub supportRow : Network → ℕ → ℕ → ℕ → ℕ
+supportRow net x y v = rowOf (net .size y) (supports net x v y)
+
+-- sixteen rows, of which the first `n` are those that `f` gives
+pub record Rows (f : ℕ → ℕ) (n : ℕ) (rows : List ℕ) : Type 0 where
+  pub long : length rows ≡ 16
+  pub each : (v : ℕ) → v < n → getD rows v 0 ≡ f v
 
 -- the counters of the first `n` values of `x` against `y`
 unfoldable pub countPairM : System → ℕ → ℕ → ℕ → Mem → Mem

@@ -1,72 +1,72 @@
 // Counting the supports of a plan whose index stands in the cells. Of two linked variables only the rows of the first are
-// worked out: how many values a row holds is its label's count, and how many rows hold a value is that value's count.
+// worked out; those of the second are gathered from them. Each count is that of a row.
 use base::row_count;
+use base::row_holds;
+use base::row_if;
 use cells::layout;
 use format::read;
 use index::parts;
-ghost use mathlib.Core.Bool.{true};
+ghost use mathlib.Core.Bool.{true, cond};
 ghost use mathlib.Core.Path.{_≡_};
-ghost use Prim.Native.Nat.{ℕ, _+_, _<_};
+ghost use Prim.Native.Nat.{ℕ, _+_, _^_, _<_};
 ghost use lib.ListN.{length, getD};
-ghost use Rattle.base.specs.Below.{one};
 ghost use Rattle.base.specs.Row.{bit};
 ghost use Rattle.disac4.specs.System.{systemOf};
-ghost use Rattle.network.specs.Network.{supportCount};
 ghost use Rattle.plan.specs.Decode.{planOf};
-ghost use Rattle.plan.specs.Network.{shareConstraint};
+ghost use Rattle.plan.specs.Network.{shareConstraint, networkOf};
 ghost use Rattle.plan.specs.WellFormed.{sizeOf};
 ghost use Rattle.format.specs.Format.{variableCount};
 ghost use Rattle.index.specs.Index.{Ready};
 ghost use Rattle.cells.specs.Memory.{memOf};
-ghost use Rattle.counting.specs.Count.{countPairM, countBothM, countVariableM, countM};
+ghost use Rattle.counting.specs.Count.{Rows, supportRow, countPairM, countBothM, countVariableM, countM};
 
-// No counts yet.
-fn no_counts() -> [u16; 16]
-    ensures { λ r. ⌜ (length r ≡ 16) × ((w : ℕ) → w < 16 → getD r w 0 ≡ 0) ⌝ }
+// Rows without a value.
+fn no_rows() -> [u16; 16]
+    ensures { λ r. ⌜ Rows (λ w. 0) 16 r ⌝ }
 {
     [0; 16]
 }
 
-// One more for each value that the row holds.
-fn add_row(counts: &mut [u16; 16], row: usize)
-    requires { ⌜ (length (now counts) ≡ 16) × ((w : ℕ) → w < 16 → getD (now counts) w 0 < 65535) ⌝ }
-    ensures { λ _. ⌜ (length (now (counts .exit)) ≡ 16) × ((w : ℕ) → w < 16 → getD (now (counts .exit)) w 0 ≡ getD (now (counts .entry)) w 0 + one (bit row w)) ⌝ }
+// Puts value v into the row of each value that the row of v holds. The rows have lower values only, so its bit is added.
+fn gather(rows: &mut [u16; 16], row: usize, v: usize)
+    requires { ⌜ (length (now rows) ≡ 16) × (v < 16) × ((w : ℕ) → w < 16 → getD (now rows) w 0 < 2 ^ v) ⌝ }
+    ensures { λ _. ⌜ Rows (λ w. getD (now (rows .entry)) w 0 + cond (bit row w) (2 ^ v) 0) 16 (now (rows .exit)) ⌝ }
 {
     let mut w = 0;
     while w < 16 {
-        counts[w] += ((row >> w) % 2) as u16;
+        rows[w] += row_if(row_holds(row, w), v) as u16;
         w += 1;
     }
 }
 
-// The counters of the values of x against y, which shares a constraint with x; returns those of y against x.
-fn count_rows(b: &[u8], cells: &mut [u16], x: usize, y: usize) -> [u16; 16]
-    requires { ⌜ Ready (now b) (now cells) × (shareConstraint (planOf (now b)) x y ≡ true) ⌝ }
-    ensures { λ r. ⌜ (memOf (now (cells .exit)) ≡ countPairM (systemOf (planOf (now (b .entry)))) x y (sizeOf (planOf (now (b .entry))) x) (memOf (now (cells .entry)))) × (length r ≡ 16) × ((w : ℕ) → w < sizeOf (planOf (now (b .entry))) y → getD r w 0 ≡ supportCount (systemOf (planOf (now (b .entry))) .net) y w x) ⌝ }
+// The rows of the values of x against y, which shares a constraint with x. On the way the rows of y against x are gathered
+// in `others`: that of a value of y has the values of x whose rows hold it.
+fn support_rows(b: &[u8], cells: &[u16], x: usize, y: usize, others: &mut [u16; 16]) -> [u16; 16]
+    requires { ⌜ Ready (now b) (now cells) × (shareConstraint (planOf (now b)) x y ≡ true) × Rows (λ w. 0) 16 (now others) ⌝ }
+    ensures { λ r. ⌜ Rows (supportRow (networkOf (planOf (now (b .entry)))) x y) (sizeOf (planOf (now (b .entry))) x) r × Rows (supportRow (networkOf (planOf (now (b .entry)))) y x) (sizeOf (planOf (now (b .entry))) y) (now (others .exit)) ⌝ }
 {
     let n = parts::size(b, cells, x);
-    let at = parts::counter_row(cells, x, y);
-    let mut counts = no_counts();
+    let mut rows = no_rows();
     let mut v = 0;
     while v < n {
         let row = pairs::support_row(b, cells, x, v, y);
-        layout::put(cells, layout::COUNTERS, at, v, row_count(row));
-        add_row(&mut counts, row);
+        rows[v] = row as u16;
+        gather(others, row, v);
         v += 1;
     }
-    counts
+    rows
 }
 
-// The counters of the values of x against y, which are given.
-fn put_counts(b: &[u8], cells: &mut [u16], x: usize, y: usize, counts: &[u16; 16])
-    requires { ⌜ Ready (now b) (now cells) × (shareConstraint (planOf (now b)) x y ≡ true) × (length (now counts) ≡ 16) × ((v : ℕ) → v < sizeOf (planOf (now b)) x → getD (now counts) v 0 ≡ supportCount (systemOf (planOf (now b)) .net) x v y) ⌝ }
+// The counters of the values of x against y, whose rows are given. Every count is made by the function that calls itself.
+fn put_counts(b: &[u8], cells: &mut [u16], x: usize, y: usize, rows: &[u16; 16])
+    requires { ⌜ Ready (now b) (now cells) × (shareConstraint (planOf (now b)) x y ≡ true) × Rows (supportRow (networkOf (planOf (now b))) x y) (sizeOf (planOf (now b)) x) (now rows) ⌝ }
     ensures { λ _. ⌜ memOf (now (cells .exit)) ≡ countPairM (systemOf (planOf (now (b .entry)))) x y (sizeOf (planOf (now (b .entry))) x) (memOf (now (cells .entry))) ⌝ }
 {
     let n = parts::size(b, cells, x);
     let at = parts::counter_row(cells, x, y);
     let mut v = 0;
     while v < n {
-        layout::put(cells, layout::COUNTERS, at, v, counts[v] as usize);
+        layout::put(cells, layout::COUNTERS, at, v, row_count(rows[v] as usize));
         v += 1;
     }
 }
@@ -77,8 +77,10 @@ fn count_both(b: &[u8], cells: &mut [u16], x: usize, y: usize)
     ensures { λ _. ⌜ memOf (now (cells .exit)) ≡ countBothM (systemOf (planOf (now (b .entry)))) x y (memOf (now (cells .entry))) ⌝ }
 {
     if parts::linked(cells, x, y) {
-        let counts = count_rows(b, cells, x, y);
-        put_counts(b, cells, y, x, &counts);
+        let mut others = no_rows();
+        let rows = support_rows(b, cells, x, y, &mut others);
+        put_counts(b, cells, x, y, &rows);
+        put_counts(b, cells, y, x, &others);
     }
 }
 

@@ -32,20 +32,35 @@ module _ (c : tie.After-linked) where
       let p = sym (c .linked .ensures (now (s .args .b)) (s .pre .0 .index)) ∙ e in
       (p, sym (linked-symmetric (planOf (now (s .args .b))) (s .args .x) (s .args .y)) ∙ p)
 
-count-rows-requires : tie.Need-count-rows-requires
-count-rows-requires c κs =
-    let t = c .before in (s (t .before) .pre .0, found (t .before) _ (t .if1 .taken) .0)
+no-rows-requires : tie.Need-no-rows-requires
+no-rows-requires c κs = tt
+
+support-rows-requires : tie.Need-support-rows-requires
+support-rows-requires c κs =
+    let n = c .before .before in
+    let t = n .before in
+    (s (t .before) .pre .0, found (t .before) _ (t .if1 .taken) .0, n .no-rows .ensures)
+
+-- the branch in which the rows were found
+abbrev branch : tie.After-support-rows → tie.Then1
+branch r = r .before .before .before .before
 
 put-counts-requires : tie.Need-put-counts-requires
 put-counts-requires c κs =
-    let r = c .before .before .before .before in
-    let t = r .before .before in
-    let p = s (t .before) in (
-      ready-kept (now (p .args .b)) (now (p .args .cells)) _ (p .pre .0) (r .count-rows .kept .1 .0) (r .count-rows .ensures .0)
-          (pair-kept (systemOf (planOf (now (p .args .b)))) (p .args .x) (p .args .y) _),
+    let r = c .before .before in
+    let t = branch r in
+    (s (t .before) .pre .0, found (t .before) _ (t .if1 .taken) .0, r .support-rows .ensures .0)
+
+put-counts-requires-2 : tie.Need-put-counts-requires-2
+put-counts-requires-2 c κs =
+    let p = c .before .before .before .before in
+    let r = p .before .before .before in
+    let t = branch r in
+    let a = s (t .before) in (
+      ready-kept (now (a .args .b)) (now (a .args .cells)) _ (a .pre .0) (p .put-counts .kept .1 .0) (p .put-counts .ensures)
+          (pair-kept (systemOf (planOf (now (a .args .b)))) (a .args .x) (a .args .y) _),
       found (t .before) _ (t .if1 .taken) .1,
-      r .count-rows .ensures .1,
-      r .count-rows .ensures .2,
+      r .support-rows .ensures .1,
     )
 
 same-length : tie.Need-same-length
@@ -54,12 +69,12 @@ same-length c = search needs
 returns : tie.Need-returns
 unfolding systemOf networkOf
 returns c =
-    let p = c .before .before in
-    let r = p .before .before .before .before .before in
-    let t = r .before .before in
+    let q = c .before .before in
+    let p = q .before .before .before .before .before in
+    let t = branch (p .before .before .before) in
     let a = s (t .before) .args in
     let f = found (t .before) _ (t .if1 .taken) in
-    both-linked (systemOf (planOf (now (a .b)))) (a .x) (a .y) _ _ _ (f .0) (f .1) (r .count-rows .ensures .0) (p .put-counts .ensures)
+    both-linked (systemOf (planOf (now (a .b)))) (a .x) (a .y) _ _ _ (f .0) (f .1) (p .put-counts .ensures) (q .put-counts2 .ensures)
 
 same-length-2 : tie.Need-same-length-2
 same-length-2 c = search needs
@@ -76,8 +91,10 @@ count-both-spec =
     tie.close
     (tie.spec
     linked-requires
-    count-rows-requires
+    no-rows-requires
+    support-rows-requires
     put-counts-requires
+    put-counts-requires-2
     same-length
     returns
     same-length-2

@@ -1,5 +1,5 @@
--- `counting::put_counts` stores the counts that it is given. Invariant: those of the first v values are stored. Assumes
--- nothing.
+-- `counting::put_counts` stores the counts of the rows that it is given. Invariant: those of the first v values are
+-- stored. Assumes nothing.
 use Prim.Native.Nat.{_-_, _≤_}
 use borrow.Author.Needs.{needs}
 use denote.Ref.{now}
@@ -8,22 +8,23 @@ use mathlib.Core.Path.{_≡_, refl, _∙_}
 use native.Mathlib.Omega.{arith}
 use Rattle.cells.proofs.Ranges.{may-put}
 use Rattle.cells.specs.Memory.{memOf}
-use Rattle.counting.proofs.CountLaws.{count-low, counter-more}
+use Rattle.counting.proofs.CountLaws.{supports-fit, counter-more}
 use Rattle.counting.proofs.put_counts.Statement.{statement}
 use Rattle.counting.proofs.put_counts.Tie as tie
-use Rattle.counting.specs.Count.{countPairM}
+use Rattle.counting.specs.Count.{supportRow, countPairM}
 use Rattle.disac4.specs.System.{systemOf}
 use Rattle.index.proofs.Labels.{linked-row}
-use Rattle.index.proofs.Permitted.{linked-inside}
+use Rattle.index.proofs.Permitted.{linked-inside, supports-counted}
 use Rattle.network.specs.Network.{supportCount}
 use Rattle.plan.specs.Decode.{planOf}
+use Rattle.plan.specs.Network.{networkOf}
 
 abbrev Inv-loop : tie.InvT-loop
-Inv-loop b cells₀ x y counts n at v₀ cells v =
+Inv-loop b cells₀ x y rows n at v₀ cells v =
     (v ≤ n) × (length cells ≡ length cells₀) × (memOf cells ≡ countPairM (systemOf (planOf b)) x y v (memOf cells₀))
 
 abbrev μ-loop : tie.MeasureT-loop
-μ-loop b cells₀ x y counts n at v₀ cells v = n - v
+μ-loop b cells₀ x y rows n at v₀ cells v = n - v
 
 size-requires : tie.Need-size-requires Inv-loop μ-loop
 size-requires c κs =
@@ -39,7 +40,7 @@ loop-holds : tie.Need-loop-holds Inv-loop μ-loop
 unfolding countPairM
 loop-holds c = (omega arith, refl, refl)
 
--- the count of value v, which the loop has come to
+-- the value v that the loop has come to
 module _ (t : tie.In-loop Inv-loop μ-loop) where
   abbrev l : tie.At-loop Inv-loop μ-loop
   l = t .before
@@ -50,41 +51,52 @@ module _ (t : tie.In-loop Inv-loop μ-loop) where
   abbrev s : tie.Start Inv-loop μ-loop
   s = sized .before .before .before .before
 
-  given : getD (now (s .args .counts)) (l .loop .v) 0
-      ≡ supportCount (systemOf (planOf (now (s .args .b))) .net) (s .args .x) (l .loop .v) (s .args .y)
-  given = s .pre .3 (l .loop .v) (omega (arith, t .loop-test .taken, sized .size .ensures))
+  -- its row
+  given : getD (now (s .args .rows)) (l .loop .v) 0
+      ≡ supportRow (networkOf (planOf (now (s .args .b)))) (s .args .x) (s .args .y) (l .loop .v)
+  given = s .pre .2 .each (l .loop .v) (omega (arith, t .loop-test .taken, sized .size .ensures))
 
-  low : getD (now (s .args .counts)) (l .loop .v) 0 ≤ 16
-  unfolding systemOf
-  low =
-      omega (
-        arith,
-        given,
-        count-low (now (s .args .b)) (s .pre .0 .sound) (s .args .x) (l .loop .v) (s .args .y) (s .pre .1),
-      )
+mul-row-count : tie.Need-mul-row-count Inv-loop μ-loop
+mul-row-count c = search needs
 
-mul-put : tie.Need-mul-put Inv-loop μ-loop
-mul-put c = search needs
+element-copy-out-row-count : tie.Need-element-copy-out-row-count Inv-loop μ-loop
+element-copy-out-row-count c =
+    let t = c .before in omega (arith, t .loop-test .taken, sized t .size .ensures, s t .pre .2 .long)
 
-element-copy-out-put : tie.Need-element-copy-out-put Inv-loop μ-loop
-element-copy-out-put c =
-    let t = c .before in omega (arith, t .loop-test .taken, sized t .size .ensures, s t .pre .2)
+cast-row-count : tie.Need-cast-row-count Inv-loop μ-loop
+cast-row-count c =
+    let t = c .before .before in
+    let a = s t .args in
+    omega (arith, supports-fit (now (a .b)) (s t .pre .0 .sound) (a .x) (a .y) (s t .pre .1) (l t .loop .v) _ (given t))
 
-cast-put : tie.Need-cast-put Inv-loop μ-loop
-cast-put c = omega (arith, low (c .before .before))
+row-count-requires : tie.Need-row-count-requires Inv-loop μ-loop
+row-count-requires c κs = tt
+
+-- its count
+module _ (c : tie.After-row-count Inv-loop μ-loop) where
+  abbrev t : tie.In-loop Inv-loop μ-loop
+  t = c .before .before .before
+
+  counted : (c .row-count .result ≡ supportCount (networkOf (planOf (now (s t .args .b)))) (s t .args .x) (l t .loop .v) (s t .args .y))
+      × (c .row-count .result ≤ 16)
+  unfolding networkOf
+  counted =
+      let a = s t .args in
+      supports-counted (now (a .b)) (s t .pre .0 .sound) (a .x) (l t .loop .v) (a .y) _ (c .row-count .result)
+      (linked-inside (now (a .b)) (s t .pre .0 .sound) (a .x) (a .y) (s t .pre .1) .1) (given t) (c .row-count .ensures)
 
 put-requires : tie.Need-put-requires Inv-loop μ-loop
 put-requires c κs =
-    let t = c .before .before in
+    let at = t c in
     may-put _ _ _ refl _ _
     (omega (
       arith,
-      s t .pre .0 .long,
-      l t .loop .inv .1,
-      t .loop-test .taken,
-      sized t .size .ensures,
-      l t .before .counter-row .ensures,
-      low t,
+      s at .pre .0 .long,
+      l at .loop .inv .1,
+      at .loop-test .taken,
+      sized at .size .ensures,
+      l at .before .counter-row .ensures,
+      counted c,
     ))
 
 add-v : tie.Need-add-v Inv-loop μ-loop
@@ -94,13 +106,15 @@ loop-less : tie.Need-loop-less Inv-loop μ-loop
 loop-less c = omega arith
 
 loop-again : tie.Need-loop-again Inv-loop μ-loop
+unfolding systemOf
 loop-again c =
     let p = c .before .before in
-    let t = p .before .before .before in (
+    let k = p .before in
+    let a = s (t k) .args in (
       omega arith,
       omega arith,
-      counter-more (systemOf (planOf (now (s t .args .b)))) (s t .args .x) (s t .args .y) (l t .loop .v) _ _ _ _ _ (l t .loop .inv .2)
-          (l t .before .counter-row .ensures .0) (given t) (p .put .ensures),
+      counter-more (systemOf (planOf (now (a .b)))) (a .x) (a .y) (l (t k) .loop .v) _ _ _ _ _ (l (t k) .loop .inv .2)
+          (l (t k) .before .counter-row .ensures .0) (counted k .0) (p .put .ensures),
     )
 
 same-length : tie.Need-same-length Inv-loop μ-loop
@@ -121,9 +135,10 @@ put-counts-spec =
     size-requires
     counter-row-requires
     loop-holds
-    mul-put
-    element-copy-out-put
-    cast-put
+    mul-row-count
+    element-copy-out-row-count
+    cast-row-count
+    row-count-requires
     put-requires
     add-v
     loop-less

@@ -1,0 +1,143 @@
+-- `counting::support_rows` gives the rows of a variable's values against another, and gathers those of the other's values.
+-- Invariant: the rows of the first v values are there, and these values are gathered. Assumes nothing.
+use Prim.Native.Nat.{ℕ, _-_, _<_, _≤_}
+use borrow.Author.Needs.{needs}
+use denote.Ref.{now}
+use mathlib.Core.List.{List}
+use mathlib.Core.Path.{_≡_, _∙_}
+use native.Mathlib.Omega.{arith}
+use Rattle.base.specs.Row.{rowOf}
+use Rattle.counting.proofs.CountLaws.{size-low, supports-fit, rows-more, gathered, gathered-small, gathered-more, gathered-all}
+use Rattle.counting.proofs.support_rows.Statement.{statement}
+use Rattle.counting.proofs.support_rows.Tie as tie
+use Rattle.counting.specs.Count.{Rows, supportRow}
+use Rattle.index.proofs.Permitted.{linked-inside}
+use Rattle.plan.specs.Decode.{planOf}
+use Rattle.plan.specs.Network.{networkOf}
+
+abbrev Inv-loop : tie.InvT-loop
+Inv-loop b cells x y others₀ n rows₀ v₀ others rows v =
+    (v ≤ n) × Rows (supportRow (networkOf (planOf b)) x y) v rows × Rows (gathered (planOf b) x y v) 16 others
+
+abbrev μ-loop : tie.MeasureT-loop
+μ-loop b cells x y others₀ n rows₀ v₀ others rows v = n - v
+
+size-requires : tie.Need-size-requires Inv-loop μ-loop
+size-requires c κs =
+    let s = c .before .before in
+    (s .pre .0, linked-inside (now (s .args .b)) (s .pre .0 .sound) (s .args .x) (s .args .y) (s .pre .1) .0)
+
+no-rows-requires : tie.Need-no-rows-requires Inv-loop μ-loop
+no-rows-requires c κs = tt
+
+loop-holds : tie.Need-loop-holds Inv-loop μ-loop
+unfolding rowOf
+loop-holds c = (
+  omega arith,
+  record { long = c .no-rows .ensures .long; each = λ w h. absurd (omega arith) },
+  c .before .before .before .before .pre .2,
+)
+
+-- the loop at value v, and what was known before it
+module _ (t : tie.In-loop Inv-loop μ-loop) where
+  abbrev l : tie.At-loop Inv-loop μ-loop
+  l = t .before
+
+  abbrev sized : tie.After-size Inv-loop μ-loop
+  sized = l .before .before
+
+  abbrev s : tie.Start Inv-loop μ-loop
+  s = sized .before .before .before
+
+  abbrev b : List ℕ
+  b = now (s .args .b)
+
+  abbrev row : ℕ
+  row = supportRow (networkOf (planOf b)) (s .args .x) (s .args .y) (l .loop .v)
+
+  small : l .loop .v < 16
+  small = omega (arith, t .loop-test .taken, sized .size .ensures)
+
+support-row-requires : tie.Need-support-row-requires Inv-loop μ-loop
+support-row-requires c κs = (
+  s c .pre .0,
+  record {
+    variable = linked-inside (b c) (s c .pre .0 .sound) (s c .args .x) (s c .args .y) (s c .pre .1) .0;
+    value = omega (arith, c .loop-test .taken, sized c .size .ensures);
+  },
+  s c .pre .1,
+)
+
+found : (c : tie.After-support-row Inv-loop μ-loop) → c .support-row .result ≡ row (c .before)
+unfolding networkOf
+found c = c .support-row .ensures
+
+cast-rows : tie.Need-cast-rows Inv-loop μ-loop
+cast-rows c =
+    let t = c .before in
+    omega (
+      arith,
+      supports-fit (b t) (s t .pre .0 .sound) (s t .args .x) (s t .args .y) (s t .pre .1) (l t .loop .v) _ (found c),
+    )
+
+mul-rows : tie.Need-mul-rows Inv-loop μ-loop
+mul-rows c = search needs
+
+array-write-rows : tie.Need-array-write-rows Inv-loop μ-loop
+array-write-rows c = small (c .before)
+
+gather-requires : tie.Need-gather-requires Inv-loop μ-loop
+gather-requires c κs =
+    let t = c .before .before in
+    let g = l t .loop .inv .2 in
+    (g .long, small t, gathered-small (planOf (b t)) (s t .args .x) (s t .args .y) (l t .loop .v) (l t .loop .others) g)
+
+add-v : tie.Need-add-v Inv-loop μ-loop
+add-v c = omega arith
+
+loop-less : tie.Need-loop-less Inv-loop μ-loop
+loop-less c = omega arith
+
+loop-again : tie.Need-loop-again Inv-loop μ-loop
+loop-again c =
+    let k = c .before .before in
+    let t = k .before in
+    let at = l t .loop in (
+      omega arith,
+      rows-more _ (at .v) (at .rows) _ (small t) (at .inv .1) (found k),
+      gathered-more (planOf (b t)) (s t .args .x) (s t .args .y) (at .v) (at .others) _ (k .support-row .result) (at .inv .2) (found k)
+          (c .gather .ensures),
+    )
+
+returns : tie.Need-returns Inv-loop μ-loop
+unfolding networkOf
+returns c =
+    let l = c .before in
+    let z = l .before .before in
+    let s = z .before .before .before in
+    let b = now (s .args .b) in
+    let e : l .loop .v ≡ z .size .result = omega (arith, c .loop-test .left, l .loop .inv .0) in
+    let all = e ∙ z .size .ensures .0 in (
+      rw all at (l .loop .inv .1),
+      gathered-all (planOf b) (s .args .x) (s .args .y) (l .loop .others)
+          (size-low b (s .pre .0 .sound) (s .args .x) (s .args .y) (s .pre .1)) (rw all at (l .loop .inv .2)),
+    )
+
+pub support-rows-spec : {M : Type 1} → statement M
+support-rows-spec =
+    tie.close
+    (tie.spec
+    Inv-loop
+    μ-loop
+    size-requires
+    no-rows-requires
+    loop-holds
+    support-row-requires
+    cast-rows
+    mul-rows
+    array-write-rows
+    gather-requires
+    add-v
+    loop-less
+    loop-again
+    returns)
