@@ -2,31 +2,27 @@
 use Prim.Native.Nat.{ℕ, zero, suc, _+_, _*_, _^_, _<_, _≤_}
 use mathlib.Core.Bool.{Bool, true, false, cond}
 use mathlib.Core.List.{List, []}
-use mathlib.Core.Option.{Option, none, some, Option·getD}
+use mathlib.Core.Option.{none}
 use mathlib.Core.Path.{_≡_, ap}
 use native.Mathlib.Nat.{le-step, le-refl, suc-mul}
 use native.Mathlib.Omega.{arith}
 use lib.ListN.{length, getD, length-append}
-use Rattle.base.specs.Below.{gatherBelow, anyBelow, firstBelow}
+use Rattle.base.specs.Below.{gatherBelow}
 use Rattle.base.specs.Bytes.{byteAt, wordAt}
-use Rattle.base.specs.Choice.{firstOf}
 use Rattle.base.specs.Row.{bit}
+use Rattle.plan.proofs.FaultNumbers.{number-range}
 use Rattle.plan.proofs.Faults.{decode-plan}
 use Rattle.plan.proofs.Parts.{variables-read, size-read, value-read}
 use Rattle.plan.proofs.WellFormed.{read-well-formed}
 use Rattle.plan.specs.Decode.{planFault, planOf, accepted, decode}
 use Rattle.plan.specs.Fault.{numberOf}
 use Rattle.format.specs.Format.{sectionStart}
-use Rattle.plan.specs.Network.{networkOf}
 use Rattle.plan.specs.Plan.{Plan, Value, variableOf, valueOf}
 use Rattle.plan.specs.WellFormed.{sizeOf, WellFormed}
 use Rattle.plan.specs.declared.Decline.{Decline}
-use Rattle.plan.specs.declared.Fault.{Fault}
-use Rattle.plan.specs.declared.Fault.the-variants.{Truncated, BadVersion, BadLength, BadCount, BadNumber, RepeatedCode, BadConstraint, TrailingBytes, ShortWork, ShortLists, BadTurnList, BadTurn}
 use Rattle.disac4.proofs.FiguresFit.{FiguresFit, figures-fit}
 use Rattle.disac4.specs.Outcome.{systemAt}
-use Rattle.disac4.specs.Report.{lowestEmpty, final, reportOf}
-use Rattle.disac4.specs.System.{systemOf}
+use Rattle.disac4.specs.Report.{reportOf}
 use Rattle.disac4.specs.Turn.{Turn}
 use Rattle.disac4.specs.declared.Answer.the-variants.{Reported, Declined}
 use Rattle.disac4.specs.declared.Report.{Report}
@@ -62,20 +58,6 @@ unfolding statusWord
 status-length Open = omega arith
 status-length Closed = omega arith
 status-length Bare = omega arith
-
-number-low : (f : Fault) → numberOf f ≤ 12
-number-low Truncated = omega arith
-number-low BadVersion = omega arith
-number-low BadLength = omega arith
-number-low BadCount = omega arith
-number-low BadNumber = omega arith
-number-low RepeatedCode = omega arith
-number-low BadConstraint = omega arith
-number-low TrailingBytes = omega arith
-number-low ShortWork = omega arith
-number-low ShortLists = omega arith
-number-low BadTurnList = omega arith
-number-low BadTurn = omega arith
 
 -- a report whose numbers fit 64 bits
 pub record Report64 (r : Report) : Type 0 where
@@ -125,7 +107,7 @@ module _ (b lists : List ℕ) where
       simp length-append
       (omega (
         arith,
-        spaced-length 1 (numberOf (d .fault)) (omega (arith, number-low (d .fault))),
+        spaced-length 1 (numberOf (d .fault)) (omega (arith, number-range (d .fault))),
         spaced-64 (d .place) h,
       ))
 
@@ -162,28 +144,17 @@ module _ (b lists : List ℕ) where
     unfolding printed
     report-short r h = simp length-append (omega (arith, report-length r h, lines-length))
 
--- the lowest of some variables below n, or 0
-lowest-low : (n : ℕ) (t : ℕ → Bool) → Option·getD (firstBelow n (λ x. cond (t x) none (some (suc x)))) 0 ≤ n
-lowest-low zero t = omega arith
-lowest-low (suc n) t = go (firstBelow n (λ x. cond (t x) none (some (suc x)))) (t n) (lowest-low n t)
-  where
-    go : (o : Option ℕ) (b : Bool) → Option·getD o 0 ≤ n → Option·getD (firstOf o (cond b none (some (suc n)))) 0 ≤ suc n
-    go (some a) b h = omega arith
-    go none true h = omega arith
-    go none false h = omega arith
-
 -- the text of a run's report, whatever its turns
 pub run-short : (b lists : List ℕ) (plan : Plan) → decode b ≡ accepted plan → ((i : ℕ) → byteAt b i < 256) → (ts : List Turn)
     → length (printed (Reported (reportOf (systemAt b) ts)) b lists) ≤ 4096
-unfolding systemAt reportOf systemOf networkOf lowestEmpty
+unfolding systemAt reportOf
 run-short b lists plan e bytes ts =
     let read = decode-plan b plan e in
     let fit : FiguresFit (systemAt b) ts = rw (read .1) at (figures-fit b plan e ts) in
-    let empty = lowest-low (systemAt b .net .variables) (λ x. anyBelow (systemAt b .net .size x) (final (systemAt b) ts .domain x)) in
     report-short b lists (read .0) bytes (reportOf (systemAt b) ts)
     (record {
       changes = omega (arith, fit .turns, fit .bound);
       sends = omega (arith, fit .sends);
       polls = omega (arith, fit .polls);
-      empty = omega (arith, empty, read-well-formed b (read .0) .variables-high);
+      empty = omega (arith, fit .lowest-empty);
     })

@@ -15,7 +15,7 @@ use Rattle.plan.specs.Answer.{planCheck}
 use Rattle.plan.specs.declared.Checked as checked
 use Rattle.plan.specs.declared.Checked.{Checked}
 use Rattle.plan.specs.declared.Decline.{Decline}
-use Rattle.numbers.proofs.Numbers.{some-number}
+use Rattle.plan.proofs.FaultNumbers.{number-range}
 use Rattle.numbers.specs.Numbers.{answerNumbers, checkedNumbers}
 use Rattle.tinshrew.proofs.Conclusions.{check-accepts, check-accepted, check-declined, turn-run-reports, turn-run, turn-run-declined, round-run-reports, round-run, round-run-declined}
 use Rattle.tinshrew.specs.Conclusions.{Fits, TurnsFit, DeclinedRun, Concluded}
@@ -45,7 +45,7 @@ module _ (o : Outcome) (out work lists : List ℕ) (g : GivesNumbers o out work 
     where
       go : (a : Answer) → o .answer ≡ a → (r : Report) × Gives o (Reported r) work lists × (out ≡ answerNumbers (Reported r))
       go (Reported r) e = let h = given-as (Reported r) e in (r, h .0, h .1)
-      go (Declined d) e = absurd (omega (arith, some-number (d .fault), first-number (Declined d) e))
+      go (Declined d) e = absurd (omega (arith, number-range (d .fault), first-number (Declined d) e))
 
   -- any other: it is the number of a decline
   numbers-declined : (getD out 0 0 ≡ 0 → ⊥)
@@ -107,7 +107,7 @@ check-numbers b out g = go (planCheck b) refl
         }
     go (checked.the-variants.Declined d) e =
         let r = checked.the-variants.Declined d in
-        let not-zero : getD out 0 0 ≡ 0 → ⊥ = λ z. omega (arith, some-number (d .fault), first r e) in record {
+        let not-zero : getD out 0 0 ≡ 0 → ⊥ = λ z. omega (arith, number-range (d .fault), first r e) in record {
           first-zero = (
             λ z. absurd (not-zero z),
             λ h.

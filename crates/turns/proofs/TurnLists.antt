@@ -1,16 +1,17 @@
 -- The turns of a list of bytes, and the first of them that is not allowed.
 use Prim.Native.Nat.{ℕ, _+_, _*_, _/_, _<_}
-use mathlib.Core.Bool.{Bool, true, false, cond}
+use mathlib.Core.Bool.{true, false}
 use mathlib.Core.List.{List}
 use mathlib.Core.Option.{none, some}
-use mathlib.Core.Path.{_≡_, refl, sym, _∙_, ap₂}
+use mathlib.Core.Path.{_≡_, sym, _∙_, ap₂}
 use borrow.Author.Tests.{lt-ltb, le-ltb}
 use native.Mathlib.Omega.{arith}
 use lib.ListN.{length}
-use Rattle.base.proofs.Below.{first-at, first-more, none-first}
-use Rattle.base.proofs.Choice.{none≢some, cond-true, cond-false}
+use Rattle.base.proofs.Below.{first-at, first-more}
+use Rattle.base.proofs.Choice.{cond-true, cond-false}
 use Rattle.base.specs.Below.{firstBelow}
 use Rattle.base.specs.Bytes.{byteAt}
+use Rattle.disac4.proofs.Order.{allowed-below}
 use Rattle.disac4.specs.Turn.{turn, allowed, turnAt, turnFault, faultOf}
 use Rattle.turns.specs.Bad.{badTurn}
 use Rattle.plan.specs.Fault.{decline}
@@ -46,8 +47,4 @@ module _ (p : ℕ) (list : List ℕ) where
   -- in a list without fault every turn is allowed
   pub is-allowed : turnFault p list ≡ none → (k : ℕ) → k < length list / 2 → allowed p (turnAt list k) ≡ true
   unfolding turnFault
-  is-allowed e k h = go (allowed p (turnAt list k)) (none-first (length list / 2) (faultOf p list) e k h)
-    where
-      go : (a : Bool) → cond a none (some (decline BadTurn k)) ≡ none → a ≡ true
-      go true q = refl
-      go false q = none≢some (sym q)
+  is-allowed e = allowed-below p list (length list / 2) e
