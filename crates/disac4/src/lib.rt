@@ -21,6 +21,15 @@ pub struct Report {
     pub empty: usize,
 }
 
+// The numbers of the actions that are no reads. An action below them reads from the actor of that number.
+pub const TREAT_ACTION: usize = 9;
+
+pub const SEND_ACTION: usize = 10;
+
+pub const ANSWER_ACTION: usize = 11;
+
+pub const POLL_ACTION: usize = 12;
+
 // A poll's number.
 pub struct Timestamp(pub u16);
 

@@ -1,5 +1,9 @@
 // The turns of a run.
 use controller::Controlled;
+use disac4::ANSWER_ACTION;
+use disac4::POLL_ACTION;
+use disac4::SEND_ACTION;
+use disac4::TREAT_ACTION;
 use disac4::Tally;
 use refinement::Progress;
 ghost use mathlib.Core.Bool.{true, cond};
@@ -33,13 +37,13 @@ fn work(b: &[u8], cells: &mut [u16], t: Tally, i: usize, d: usize) -> usize
     requires { ⌜ Playable (now b) (now cells) t × (i < workerCount (now b)) × (d < 12) ⌝ }
     ensures { λ r. ⌜ Acts (workerOn (systemAt (now (b .entry))) t i d) (now (cells .entry)) (now (cells .exit)) r ⌝ }
 {
-    if d == 9 {
+    if d == TREAT_ACTION {
         return treating::treat(b, cells, i);
     }
-    if d == 10 {
+    if d == SEND_ACTION {
         return sends::send(cells, i);
     }
-    if d == 11 {
+    if d == ANSWER_ACTION {
         return answers::answer(cells, i);
     }
     read(cells, t, i, d)
@@ -78,7 +82,7 @@ fn control_turn(b: &[u8], cells: &mut [u16], t: Tally, p: usize, d: usize) -> Co
             tally: t,
         };
     }
-    if d == 12 {
+    if d == POLL_ACTION {
         return controller::poll(cells, t);
     }
     lent::heard(cells, t, p, d - 1)
@@ -97,7 +101,7 @@ pub fn control(b: &[u8], cells: &mut [u16], g: Progress, p: usize, d: usize) -> 
         tally: after,
         changes: g.changes + changed,
         sends: g.sends,
-        polls: g.polls + if_action(12, d, changed),
+        polls: g.polls + if_action(POLL_ACTION, d, changed),
     }
 }
 
@@ -128,7 +132,7 @@ pub fn advance(
     Progress {
         tally: t,
         changes: g.changes + changed,
-        sends: g.sends + if_action(10, action, changed),
+        sends: g.sends + if_action(SEND_ACTION, action, changed),
         polls: g.polls,
     }
 }

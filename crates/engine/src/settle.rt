@@ -1,5 +1,8 @@
 // What the cells show at once after a changing turn: which actions of its worker are idle.
 use cells::layout;
+use disac4::ANSWER_ACTION;
+use disac4::SEND_ACTION;
+use disac4::TREAT_ACTION;
 use disac4::Tally;
 ghost use mathlib.Core.Bool.{true};
 ghost use mathlib.Core.List.{List};
@@ -71,10 +74,10 @@ pub fn settle(cells: &[u16], t: Tally, table: &mut [u8; 117], k: usize, d: usize
     ensures { λ _. ⌜ ((b : List ℕ) → KnownIdle b (now (cells .entry)) t (now (table .entry)) → KnownIdle b (now (cells .entry)) t (now (table .exit))) ⌝ }
 {
     let i = k - 1;
-    idle::note(table, k, 9, no_work(cells, i));
-    idle::note(table, k, 10, all_sent(cells, i));
-    idle::note(table, k, 11, no_answer(cells, i));
-    if d < 9 {
+    idle::note(table, k, TREAT_ACTION, no_work(cells, i));
+    idle::note(table, k, SEND_ACTION, all_sent(cells, i));
+    idle::note(table, k, ANSWER_ACTION, no_answer(cells, i));
+    if d < TREAT_ACTION {
         idle::note(table, k, d, all_read(cells, t, i, d));
     }
 }

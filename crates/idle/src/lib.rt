@@ -1,5 +1,9 @@
 // Which turns are known to be idle: a table with a cell for each actor and action. A list of turns passes over those turns.
 use base::one_if;
+use disac4::ANSWER_ACTION;
+use disac4::POLL_ACTION;
+use disac4::SEND_ACTION;
+use disac4::TREAT_ACTION;
 ghost use mathlib.Core.Bool.{_&&_};
 ghost use mathlib.Core.Path.{_≡_};
 ghost use Prim.Native.Nat.{ℕ, _<_};
@@ -45,10 +49,10 @@ fn forget_own(table: &mut [u8; 117], k: usize)
     requires { ⌜ (length (now table) ≡ 117) × (k < 9) ⌝ }
     ensures { λ _. ⌜ Puts 0 (λ j a. eqb j k && leb 9 a) (now (table .entry)) (now (table .exit)) ⌝ }
 {
-    put(table, k, 9, 0);
-    put(table, k, 10, 0);
-    put(table, k, 11, 0);
-    put(table, k, 12, 0);
+    put(table, k, TREAT_ACTION, 0);
+    put(table, k, SEND_ACTION, 0);
+    put(table, k, ANSWER_ACTION, 0);
+    put(table, k, POLL_ACTION, 0);
 }
 
 // Nor of the reads from actor k.
@@ -70,7 +74,7 @@ pub fn forget(table: &mut [u8; 117], k: usize, d: usize)
 {
     put(table, k, d, 0);
     forget_own(table, k);
-    if 9 < d {
+    if TREAT_ACTION < d {
         forget_reads(table, k);
     }
 }

@@ -1,4 +1,8 @@
 // The round, and rounds until the plan is closed.
+use disac4::ANSWER_ACTION;
+use disac4::POLL_ACTION;
+use disac4::SEND_ACTION;
+use disac4::TREAT_ACTION;
 use disac4::Tally;
 use engine::run;
 use refinement::Progress;
@@ -47,9 +51,9 @@ fn worker_round(b: &[u8], cells: &mut [u16], g: Progress, p: usize, k: usize) ->
 {
     let t = g.tally;
     let read = reads(b, cells, t, p, k);
-    let treated = run::work_turn(b, cells, t, p, k, 9);
-    let sent = run::work_turn(b, cells, t, p, k, 10);
-    let answered = run::work_turn(b, cells, t, p, k, 11);
+    let treated = run::work_turn(b, cells, t, p, k, TREAT_ACTION);
+    let sent = run::work_turn(b, cells, t, p, k, SEND_ACTION);
+    let answered = run::work_turn(b, cells, t, p, k, ANSWER_ACTION);
     Progress {
         tally: t,
         changes: g.changes + read + treated + sent + answered,
@@ -93,7 +97,7 @@ fn play_round(b: &[u8], cells: &mut [u16], g: Progress, p: usize) -> Progress
 {
     let worked = workers_round(b, cells, g, p);
     let heard = hear_all(b, cells, worked, p);
-    run::control(b, cells, heard, p, 12)
+    run::control(b, cells, heard, p, POLL_ACTION)
 }
 
 // Rounds until the plan is closed.

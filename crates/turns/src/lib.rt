@@ -2,6 +2,9 @@
 use base::between;
 use base::byte_at;
 use base::one_if;
+use disac4::ANSWER_ACTION;
+use disac4::POLL_ACTION;
+use disac4::TREAT_ACTION;
 use plan::Fault;
 use plan::Verdict;
 ghost use mathlib.Core.Path.{_≡_};
@@ -39,14 +42,14 @@ pub fn list_fits(turns: &[u8]) -> bool
 fn worker_may(p: usize, actor: usize, action: usize) -> bool
     ensures { λ r. ⌜ r ≡ workerMay p actor action ⌝ }
 {
-    ((action <= p) & (action != actor)) | between(9, 11, action)
+    ((action <= p) & (action != actor)) | between(TREAT_ACTION, ANSWER_ACTION, action)
 }
 
 // The controller reads from a worker, or polls.
 fn controller_may(p: usize, action: usize) -> bool
     ensures { λ r. ⌜ r ≡ controllerMay p action ⌝ }
 {
-    between(1, p, action) | (action == 12)
+    between(1, p, action) | (action == POLL_ACTION)
 }
 
 // Whether the actor may take this action, with p workers.
