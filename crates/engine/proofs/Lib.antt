@@ -1,5 +1,4 @@
 pub mod Advancing
-pub mod Idling
 pub mod Playing
 pub mod RunLaws
 pub mod Working

@@ -17,7 +17,7 @@ pub fn play_list(plan: &[u8], turns: &[u8], work: &mut [u16], lists: &mut [u16],
     ensures { λ r. ⌜ Gives (played (now (work .entry)) (now (lists .entry)) (systemAt (now (plan .entry))) (turnsOf (now (turns .entry)))) (Answer.Reported r) (now (work .exit)) (now (lists .exit)) ⌝ }
 {
     let start = ends::load(plan, work);
-    let g = engine::play::play_turns(plan, turns, work, start, p);
+    let g = playing::play_turns(plan, turns, work, start, p);
     ends::finish(plan, work, lists, g)
 }
 

@@ -1,9 +1,9 @@
--- `engine::settle::all_sent` sees that there is nothing to send. Assumes nothing.
+-- `playing::settle::all_sent` sees that there is nothing to send. Assumes nothing.
 use borrow.Author.Needs.{needs}
 use borrow.Author.Tests.{eqb-true}
 use Rattle.sends.proofs.SendLaws.{send-full, send-nothing}
-use Rattle.engine.proofs.settle.all_sent.Statement.{statement}
-use Rattle.engine.proofs.settle.all_sent.Tie as tie
+use Rattle.playing.proofs.settle.all_sent.Statement.{statement}
+use Rattle.playing.proofs.settle.all_sent.Tie as tie
 
 get-requires : tie.Need-get-requires
 get-requires c κs = search needs

@@ -13,7 +13,7 @@ ghost use lib.ListN.{length};
 ghost use Rattle.answers.specs.Answers.{answerM};
 ghost use Rattle.cells.specs.Memory.{memOf};
 ghost use Rattle.disac4.specs.System.{System};
-ghost use Rattle.engine.specs.Play.{KnownIdle};
+ghost use Rattle.playing.specs.Known.{KnownIdle};
 ghost use Rattle.refinement.specs.Run.{readOn};
 ghost use Rattle.sends.specs.Sends.{sendM};
 ghost use Rattle.treating.specs.Treat.{treatM};

@@ -1,4 +1,4 @@
--- `engine::play::next_turn` plays a turn, or passes it over. Assumes nothing.
+-- `playing::next_turn` plays a turn, or passes it over. Assumes nothing.
 use Prim.Native.Nat.{_<_, _≤_}
 use mathlib.Core.Bool.{true}
 use mathlib.Core.Path.{sym, _∙_}
@@ -8,11 +8,11 @@ use borrow.Author.Tests.{eqb-true}
 use denote.Ref.{now}
 use Rattle.disac4.proofs.Allowed.{allowed-bounds}
 use Rattle.disac4.specs.Turn.{turn}
 use Rattle.engine.proofs.Advancing.{playable}
-use Rattle.engine.proofs.Idling.{passed-over, noted, idle-again, known-still, forgotten}
-use Rattle.engine.specs.Play.{KnownIdle}
-use Rattle.engine.proofs.play.next_turn.Statement.{statement}
-use Rattle.engine.proofs.play.next_turn.Tie as tie
+use Rattle.playing.proofs.Idling.{passed-over, noted, idle-again, known-still, forgotten}
+use Rattle.playing.specs.Known.{KnownIdle}
+use Rattle.playing.proofs.next_turn.Statement.{statement}
+use Rattle.playing.proofs.next_turn.Tie as tie
 
 -- what holds before the turn is played
 abbrev start : tie.After-advance → tie.Start

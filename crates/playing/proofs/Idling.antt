@@ -18,9 +18,9 @@ use Rattle.disac4.specs.Report.{isSend, isPoll}
 use Rattle.disac4.specs.System.{System}
 use Rattle.disac4.specs.Turn.{turn, allowed, isSome}
 use Rattle.disac4.specs.declared.Tally.{Tally}
 use Rattle.engine.proofs.Advancing.{advanced}
 use Rattle.engine.proofs.RunLaws.{controls-idle}
-use Rattle.engine.specs.Play.{KnownIdle}
+use Rattle.playing.specs.Known.{KnownIdle}
 use Rattle.idle.specs.Table.{idleAt, Puts, enables}
 use Rattle.refinement.proofs.IdleKept.{idle-kept}
 use Rattle.refinement.proofs.Start.{fits-regions}

@@ -1,11 +1,11 @@
--- `engine::settle::all_read` sees that there is nothing to read. Assumes nothing.
+-- `playing::settle::all_read` sees that there is nothing to read. Assumes nothing.
 use mathlib.Core.Path.{_∙_}
 use borrow.Author.Needs.{needs}
 use borrow.Author.Tests.{leb-true}
 use Rattle.engine.proofs.RunLaws.{read-polls, read-lists}
 use Rattle.reads.proofs.ReadLaws.{read-no-poll, read-all}
-use Rattle.engine.proofs.settle.all_read.Statement.{statement}
-use Rattle.engine.proofs.settle.all_read.Tie as tie
+use Rattle.playing.proofs.settle.all_read.Statement.{statement}
+use Rattle.playing.proofs.settle.all_read.Tie as tie
 
 get-requires : tie.Need-get-requires
 get-requires c κs = search needs

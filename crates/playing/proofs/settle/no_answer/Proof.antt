@@ -1,12 +1,12 @@
--- `engine::settle::no_answer` sees that there is no poll to answer, or something to treat first. Assumes nothing.
+-- `playing::settle::no_answer` sees that there is no poll to answer, or something to treat first. Assumes nothing.
 use mathlib.Core.Logic.{⊎-elim}
 use mathlib.Core.Path.{sym}
 use borrow.Author.Needs.{needs}
 use borrow.Author.Tests.{eqb-true, eqb-false, not-true}
 use Rattle.answers.proofs.AnswerLaws.{answer-none, not-treated, answer-first}
 use Rattle.base.proofs.Bools.{or-cases}
-use Rattle.engine.proofs.settle.no_answer.Statement.{statement}
-use Rattle.engine.proofs.settle.no_answer.Tie as tie
+use Rattle.playing.proofs.settle.no_answer.Statement.{statement}
+use Rattle.playing.proofs.settle.no_answer.Tie as tie
 
 get-requires : tie.Need-get-requires
 get-requires c κs = search needs

@@ -1,16 +1,18 @@
-// Playing the turns of a list one after the other.
-use crate::run;
+// Plays the turns of a list one after the other, and passes over those that are known to be idle.
 use crate::settle::settle;
 use base::byte_at;
+use engine::run;
 use refinement::Progress;
 ghost use mathlib.Core.Bool.{true};
 ghost use mathlib.Core.List.{[], _∷_};
 ghost use mathlib.Core.Option.{none};
 ghost use mathlib.Core.Path.{_≡_};
 ghost use Rattle.disac4.specs.Turn.{allowed, turn, turnFault, turnsOf};
-ghost use Rattle.engine.specs.Play.{KnownIdle};
+ghost use Rattle.playing.specs.Known.{KnownIdle};
 ghost use Rattle.refinement.specs.Run.{Going, Plays};
 ghost use Rattle.format.specs.Format.{workerCount};
+
+mod settle;
 
 // One turn more, which is passed over where it is known to be idle.
 fn next_turn(

@@ -1,4 +1,4 @@
--- `engine::play::play_turns` plays the turns of a list. The loop's invariant: those passed are played, and what the table
+-- `playing::play_turns` plays the turns of a list. The loop's invariant: those passed are played, and what the table
 -- notes is so. The measure is what is left. Assumes nothing.
 use Prim.Native.Nat.{_-_}
 use mathlib.Core.List.{[], _∷_}
@@ -6,12 +6,12 @@ use mathlib.Core.Path.{_≡_, _∙_, ap}
 use native.Mathlib.Omega.{arith}
 use denote.Ref.{now}
 use Rattle.disac4.specs.Turn.{allowed, turn, turnAt, turnsOf}
-use Rattle.engine.proofs.Idling.{nothing-known}
+use Rattle.playing.proofs.Idling.{nothing-known}
 use Rattle.engine.proofs.Playing.{Playing, none-played, goes-on, one-more, all-played}
-use Rattle.engine.specs.Play.{KnownIdle}
+use Rattle.playing.specs.Known.{KnownIdle}
 use Rattle.turns.proofs.TurnLists.{turn-read, is-allowed}
-use Rattle.engine.proofs.play.play_turns.Statement.{statement}
-use Rattle.engine.proofs.play.play_turns.Tie as tie
+use Rattle.playing.proofs.play_turns.Statement.{statement}
+use Rattle.playing.proofs.play_turns.Tie as tie
 
 abbrev Inv-loop : tie.InvT-loop
 Inv-loop b list cells₀ p count table₀ at₀ i₀ cells table at i =

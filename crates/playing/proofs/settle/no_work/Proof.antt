@@ -1,9 +1,9 @@
--- `engine::settle::no_work` sees that there is nothing to treat. Assumes nothing.
+-- `playing::settle::no_work` sees that there is nothing to treat. Assumes nothing.
 use borrow.Author.Needs.{needs}
 use borrow.Author.Tests.{leb-true}
 use Rattle.treating.proofs.TreatLaws.{no-work}
-use Rattle.engine.proofs.settle.no_work.Statement.{statement}
-use Rattle.engine.proofs.settle.no_work.Tie as tie
+use Rattle.playing.proofs.settle.no_work.Statement.{statement}
+use Rattle.playing.proofs.settle.no_work.Tie as tie
 
 get-requires : tie.Need-get-requires
 get-requires c κs = search needs

@@ -1,4 +1,4 @@
--- `engine::settle::settle` notes what the cells show to be idle. Assumes nothing.
+-- `playing::settle::settle` notes what the cells show to be idle. Assumes nothing.
 use Prim.Native.Nat.{ℕ, _-_}
 use mathlib.Core.List.{List}
 use mathlib.Core.Option.{none}
@@ -10,13 +10,13 @@ use Rattle.cells.specs.Memory.{memOf}
 use Rattle.controller.specs.Controller.{machine}
 use Rattle.disac4.specs.Outcome.{systemAt}
 use Rattle.disac4.specs.Turn.{turn}
-use Rattle.engine.proofs.Idling.{noted, work-idle}
+use Rattle.playing.proofs.Idling.{noted, work-idle}
 use Rattle.engine.proofs.RunLaws.{worker-treats, worker-sends, worker-answers, worker-reads}
-use Rattle.engine.specs.Play.{KnownIdle}
+use Rattle.playing.specs.Known.{KnownIdle}
 use Rattle.refinement.specs.Run.{workerOn}
 use Rattle.refinement.specs.Step.{stepM}
-use Rattle.engine.proofs.settle.settle.Statement.{statement}
-use Rattle.engine.proofs.settle.settle.Tie as tie
+use Rattle.playing.proofs.settle.settle.Statement.{statement}
+use Rattle.playing.proofs.settle.settle.Tie as tie
 
 -- the arguments, from the third note on
 abbrev start : tie.After-note3 → tie.Start
