@@ -30,16 +30,6 @@ use Rattle.format.specs.Format.{workerCount}
 abbrev pub stateAt : List ℕ → List ℕ → Progress → State
 stateAt b cells g = viewOf (systemAt b) (machine cells (g .tally))
 
--- no turns are some turns
-pub begun-going : (b cells : List ℕ) (g : Progress) → Begun b cells g → Going b cells g
-begun-going b cells g start = record {
-  sound = start .sound;
-  long = start .long;
-  before = start .before;
-  turns = [];
-  at = start .at;
-}
-
 -- the loop's invariant
 pub record Rounding (b cells₀ : List ℕ) (g₀ : Progress) (cells : List ℕ) (g : Progress) : Type 0 where
   pub same : length cells ≡ length cells₀
@@ -52,7 +42,7 @@ module _ (b cells₀ : List ℕ) (g₀ : Progress) (start : Begun b cells₀ g�
   sys = systemAt b
 
   sound : Sound sys
-  sound = fits-regions b (start .sound) .sound
+  sound = fits-regions b (start .going .sound) .sound
 
   -- where the loop begins
   pub no-round : Rounding b cells₀ g₀ cells₀ g₀
@@ -61,20 +51,24 @@ module _ (b cells₀ : List ℕ) (g₀ : Progress) (start : Begun b cells₀ g�
     same = refl;
     turns = [];
     plays = plays-none b cells₀ g₀;
-    whole = ap (left sys) (under-view b (start .sound) (start .before) [] cells₀ g₀ (start .at)) ∙ left-loaded sys sound;
+    whole =
+        ap (left sys)
+        (under-view b (start .going .sound) (start .going .before) (start .going .turns) cells₀ g₀ (start .going .at)
+        ∙ ap (final sys) (start .fresh))
+        ∙ left-loaded sys sound;
   }
 
   module _ (cells : List ℕ) (g : Progress) (r : Rounding b cells₀ g₀ cells g) where
     pub rounding-goes : Going b cells g
     rounding-goes =
-        goes-after b (r .turns) cells₀ cells g₀ g (begun-going b cells₀ g₀ start) (r .same) (r .plays)
+        goes-after b (r .turns) cells₀ cells g₀ g (start .going) (r .same) (r .plays)
 
     abbrev played : List Turn
     played = rounding-goes .turns
 
     seen : stateAt b cells g ≡ play sys (load sys) played
     unfolding final
-    seen = under-view b (start .sound) (rounding-goes .before) played cells g (rounding-goes .at)
+    seen = under-view b (start .going .sound) (rounding-goes .before) played cells g (rounding-goes .at)
 
     reached : Reached sys (stateAt b cells g)
     reached = (played, sym seen)
@@ -102,7 +96,7 @@ module _ (b cells₀ : List ℕ) (g₀ : Progress) (start : Begun b cells₀ g�
       moved : stateAt b cells′ g′ ≡ roundOn sys (stateAt b cells g)
       unfolding final Plays
       moved =
-          under-view b (start .sound) (rounding-goes .before) (played ++ round (sys .workers)) cells′ g′
+          under-view b (start .going .sound) (rounding-goes .before) (played ++ round (sys .workers)) cells′ g′
           (whole-round (rounding-goes .before) played (rounding-goes .at))
           ∙ play-append sys played (round (sys .workers)) (load sys)
           ∙ ap (roundOn sys) (sym seen)

@@ -2,7 +2,7 @@
 use Prim.Native.Nat.{ℕ, _^_, _<_, _≤_}
 use mathlib.Core.List.{List, []}
 use mathlib.Core.Option.{none}
-use mathlib.Core.Path.{_≡_, _∙_, ap}
+use mathlib.Core.Path.{_≡_, refl, _∙_, ap}
 use lib.ListN.{length}
 use Rattle.disac4.specs.Outcome.{Gives, played, systemAt}
 use Rattle.disac4.specs.Round.{roundRunTurns}
@@ -27,14 +27,16 @@ ends b sound work cells lists work′ lists′ ts g r at same few f = record {
   list-cells = f .listed (memOf work) ts at;
 }
 
--- a loaded plan, and any run on one, is what the engine asks
-pub loaded : (b : List ℕ) (m : Mem) (cells : List ℕ) (g : Progress) → planFault b ≡ none → 24576 ≤ length cells → At b m [] cells g
-    → Begun b cells g
-loaded b m cells g sound long at = record { sound = sound; long = long; before = m; at = at }
-
+-- what a run on a loaded plan has played is what the engine asks
 pub goes : (b : List ℕ) (m : Mem) (ts : List Turn) (cells : List ℕ) (g : Progress) → planFault b ≡ none → 24576 ≤ length cells
     → At b m ts cells g → Going b cells g
 goes b m ts cells g sound long at = record { sound = sound; long = long; before = m; turns = ts; at = at }
+
+-- and no turns, at its start
+pub loaded : (b : List ℕ) (m : Mem) (cells : List ℕ) (g : Progress) → planFault b ≡ none → 24576 ≤ length cells → At b m [] cells g
+    → Begun b cells g
+unfolding goes
+loaded b m cells g sound long at = record { going = goes b m [] cells g sound long at; fresh = refl }
 
 -- where turns played from a loaded plan have come
 pub turns-from : (b : List ℕ) (m : Mem) (us : List Turn) (cells cells′ : List ℕ) (g g′ : Progress) → Plays b us cells g cells′ g′
