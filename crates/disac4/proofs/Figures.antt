@@ -179,16 +179,16 @@ timestamp-of-run sys ts = polls-add sys ts (load sys) ∙ omega arith
 -- it is at most the number of slots
 pub lowest-empty-bound : (sys : System) (st : State) → lowestEmpty sys st ≤ sys .net .variables
 unfolding lowestEmpty
-lowest-empty-bound sys st = go (firstBelow n slot) refl
+lowest-empty-bound sys st = go (firstBelow n empty-at) refl
   where
     n : ℕ
     n = sys .net .variables
 
-    slot : ℕ → Option ℕ
-    slot x = cond (anyBelow (sys .net .size x) (st .domain x)) none (some (suc x))
+    empty-at : ℕ → Option ℕ
+    empty-at x = cond (anyBelow (sys .net .size x) (st .domain x)) none (some (suc x))
 
-    go : (o : Option ℕ) → firstBelow n slot ≡ o → Option·getD o 0 ≤ n
+    go : (o : Option ℕ) → firstBelow n empty-at ≡ o → Option·getD o 0 ≤ n
     go none e = omega arith
     go (some a) e =
-        let r = first-below n slot a e in
+        let r = first-below n empty-at a e in
         some-same (λ (y : ℕ). y ≤ n) (unless-some (anyBelow (sys .net .size (r .0)) (st .domain (r .0))) (r .2) .1) (r .1)

@@ -42,7 +42,7 @@ turn-bound p l few labels =
 figures-of : {sys : System} → Sound sys → sys .net .variables ≤ 32 → labelCount (sys .net) ≤ 512 → (ts : List Turn)
     → FiguresFit sys ts
 unfolding final boundOf
-figures-of {sys} sound slots labels ts = record {
+figures-of {sys} sound few-variables labels ts = record {
   turns = changes-bounded sys sound ts;
   bound = turn-bound (sys .workers) (labelCount (sys .net)) (sound .few) labels;
   sends = omega (arith, sends-bound sound ts);
