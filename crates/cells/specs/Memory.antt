@@ -7,7 +7,7 @@ use mathlib.Core.Option.{Option, Option·getD}
 use lib.Dec.{ltb, eqb}
 use lib.ListN.{getD}
 use Rattle.base.specs.Below.{one}
-use Rattle.disac4.specs.Turn.{isSome}
+use Rattle.disac4.specs.Fold.{isSome}
 use Rattle.cells.specs.Layout.{BEHIND, regionAt, address}
 
 abbrev pub Mem : Type 0

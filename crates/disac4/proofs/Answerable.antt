@@ -15,11 +15,12 @@ use Rattle.disac4.proofs.Moves.{Moves, treats, sends, reads, takes-poll
 use Rattle.disac4.proofs.Typed.{Typed, typed-move, typed-load, not-controller}
 use Rattle.disac4.specs.Action.{broadcast, nextPoll, afterTreat, afterSend, afterList, afterPoll, afterDrop, afterAnswer, afterAsk, afterCount, afterMark}
 use Rattle.disac4.specs.Event.{Event}
+use Rattle.disac4.specs.Fold.{isSome}
 use Rattle.disac4.specs.Loading.{load}
 use Rattle.disac4.specs.Report.{isPoll}
 use Rattle.disac4.specs.State.{State, Message, list, poll, reply}
 use Rattle.disac4.specs.System.{System, Worker, Sound}
-use Rattle.disac4.specs.Turn.{Turn, play, isSome, changesWhere}
+use Rattle.disac4.specs.Turn.{Turn, play, changesWhere}
 use Rattle.disac4.specs.declared.Poll.{Poll}
 
 -- 1 for a poll
@@ -157,5 +158,5 @@ answerable-bound {sys} sound ts k w =
       timestamp-of-run sys ts,
       kept sys (sound .few) (λ st es. Typed sys st × (answerable st k ≤ st .controller .timestamp))
           (λ st es s new o h move. (typed-move (h .0) move, omega (arith, h .1, answerable-move sys st k w (h .0) move)))
-          ts (load sys) [] (typed-load sys, (unfold load in omega arith)) .1,
+          ts (load sys) (typed-load sys, (unfold load in omega arith)) .1,
     )

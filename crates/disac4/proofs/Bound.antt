@@ -1,22 +1,22 @@
 -- How many turns of a run change something: by the potential, at most 5pL + 2L + 3p + 1.
 use Prim.Native.Nat.{ℕ, suc, _+_, _*_, _≤_}
 use mathlib.Core.Bool.{true}
-use mathlib.Core.List.{List, [], _∷_}
+use mathlib.Core.List.{List, []}
 use mathlib.Core.Logic.{_↔_}
 use mathlib.Core.Path.{_≡_, refl, _∙_, ap}
 use native.Mathlib.Nat.{mul-add, add-mul}
 use native.Mathlib.Omega.{arith}
-use Rattle.base.proofs.Bools.{and-comm}
 use Rattle.base.proofs.Sums.{sum-zero}
 use Rattle.base.specs.Below.{one}
 use Rattle.disac4.proofs.Channels.{into}
 use Rattle.disac4.proofs.DomainSize.{load-size, deletions-loaded}
+use Rattle.disac4.proofs.Fold.{count-keeps}
 use Rattle.disac4.proofs.Moves.{Effect, idle, acts, effect}
 use Rattle.disac4.proofs.Potential.{workerWeight, potential, potential-falls}
 use Rattle.disac4.specs.Loading.{unsupported, load}
 use Rattle.disac4.specs.State.{State}
 use Rattle.disac4.specs.System.{System, turnBound, boundOf, Sound}
-use Rattle.disac4.specs.Turn.{Turn, after, play, changes, changesWhere}
+use Rattle.disac4.specs.Turn.{Turn, step, after, play, changes, changesWhere}
 use Rattle.network.specs.Network.{domainSize}
 
 module _ (sys : System) (few : sys .workers ≤ 8) where
@@ -43,10 +43,9 @@ module _ (sys : System) (few : sys .workers ≤ 8) where
   -- the turns that change something and what is left of the potential are at most the potential before
   pub turns-bounded : (ts : List Turn) (st : State)
       → changesWhere sys (λ t. true) st ts + potential sys (play sys st ts) ≤ potential sys st
-  unfolding changesWhere play
-  turns-bounded [] st = omega arith
-  turns-bounded (t ∷ ts) st =
-      omega (arith, turns-bounded ts (after sys st t), turn-bounded st t, ap one (and-comm (changes sys st t) true))
+  turns-bounded ts st =
+      count-keeps (step sys) (λ t. true) (λ s n. n + potential sys s ≤ potential sys st)
+      (λ s n t h. omega (arith, turn-bounded s t)) ts st (omega arith)
 
 -- `gone` labels to treat and to send, and `listed` labels in the domains, weigh as much as the bound
 loaded-weight : (p listed gone : ℕ)

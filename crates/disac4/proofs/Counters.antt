@@ -138,4 +138,4 @@ module _ (sys : System) where
   -- flow and counters are right, whatever turns are played
   pub accounts : Sound sys → (ts : List Turn) → Accounts (play sys (load sys) ts) (events sys (load sys) ts)
   accounts sound ts =
-      kept sys (sound .few) Accounts (λ st es s new o b m. move-accounts st es s new b m) ts (load sys) [] load-accounts
+      kept sys (sound .few) Accounts (λ st es s new o b m. move-accounts st es s new b m) ts (load sys) load-accounts

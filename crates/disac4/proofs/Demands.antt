@@ -19,18 +19,20 @@ use Rattle.plan.specs.WellFormed.{WellFormed}
 use Rattle.disac4.proofs.Bound.{changes-exactly, changes-bounded}
 use Rattle.disac4.proofs.Delivered.{quiet-sent, quiet-read, quiet-treated}
 use Rattle.disac4.proofs.Final.{closed-stays, domain-shrinks}
+use Rattle.disac4.proofs.Fold.{play-append}
 use Rattle.disac4.proofs.Largest.{never-lost, quiet-largest}
 use Rattle.disac4.proofs.Progress.{progress}
-use Rattle.disac4.proofs.RoundRun.{Advances, play-append, turns-closed, turns-open, round-run-closes, round-run-complete}
+use Rattle.disac4.proofs.RoundRun.{Advances, turns-closed, turns-open, round-run-closes, round-run-complete}
 use Rattle.disac4.proofs.Rounds.{round-allowed}
 use Rattle.disac4.proofs.Safety.{closed-quiet}
 use Rattle.disac4.specs.Demands.{closedAfter, Demand2, Demand3, RoundCloses}
+use Rattle.disac4.specs.Fold.{playBy}
 use Rattle.disac4.specs.Loading.{load}
 use Rattle.disac4.specs.Report.{final}
 use Rattle.disac4.specs.Round.{round, roundTurns, roundRunTurns}
 use Rattle.disac4.specs.State.{State}
 use Rattle.disac4.specs.System.{System, systemOf, boundOf, Sound}
-use Rattle.disac4.specs.Turn.{Turn, allowed, changes, play}
+use Rattle.disac4.specs.Turn.{Turn, allowed, step, changes, play}
 
 module _ (sys : System) (sound : Sound sys) (ts : List Turn) where
   -- demand 3, for a system
@@ -59,8 +61,8 @@ module _ (sys : System) (sound : Sound sys) (ts : List Turn) where
     largest = λ closed. quiet-largest sys sound ts (closed-quiet sound ts closed);
     keeps-solutions = λ s sol x h. in-largest x (s x) (solution-within (sys .net) s sol (big .0) (big .1) x h);
     stays-deleted = λ us.
-        rw (play-append sys ts us (load sys)) (domain-shrinks sys (sound .few) (play sys (load sys) ts) us);
-    stays-closed = λ closed us. play-append sys ts us (load sys) ∙ closed-stays sys (play sys (load sys) ts) closed us;
+        rw (play-append (step sys) ts us (load sys)) (domain-shrinks sys (sound .few) (play sys (load sys) ts) us);
+    stays-closed = λ closed us. play-append (step sys) ts us (load sys) ∙ closed-stays sys (play sys (load sys) ts) closed us;
     untied-kept = λ z d c x v u h. in-largest x v (untied-keeps (sys .net) z d c (big .0) (big .1) x v u h);
   }
     where
@@ -79,14 +81,14 @@ Reached sys st = (ts : List Turn) × (play sys (load sys) ts ≡ st)
 module _ (sys : System) (sound : Sound sys) where
   pub reached-advances : Advances sys (Reached sys)
   reached-advances = record {
-    carried = λ st us r. (r .0 ++ us, play-append sys (r .0) us (load sys) ∙ ap (λ (s : State). play sys s us) (r .1));
+    carried = λ st us r. (r .0 ++ us, play-append (step sys) (r .0) us (load sys) ∙ ap (λ (s : State). play sys s us) (r .1));
     progress = λ st r running.
         let p = progress sound (r .0) (subst (λ (s : State). s .controller .closed ≡ false) (sym (r .1)) running) in
         (p .0, subst (λ (s : State). changes sys s (p .0) ≡ true) (r .1) (p .2));
   }
 
   pub from-load : Reached sys (load sys)
-  unfolding play
+  unfolding playBy
   from-load = ([], refl)
 
   closes : play sys (load sys) (roundRunTurns sys) .controller .closed ≡ true
@@ -113,7 +115,7 @@ module _ (sys : System) (sound : Sound sys) where
     closes = closes;
     fuel-left = round-run-complete sys sound (Reached sys) reached-advances from-load;
     then-idle =
-        play-append sys (roundRunTurns sys) (round (sys .workers)) (load sys)
+        play-append (step sys) (roundRunTurns sys) (round (sys .workers)) (load sys)
         ∙ closed-stays sys (play sys (load sys) (roundRunTurns sys)) closes (round (sys .workers));
   }
 

@@ -4,32 +4,35 @@ use Prim.Native.Nat.{ℕ, suc, _+_, _≤_}
 use mathlib.Core.Bool.{Bool, true, false, cond, _&&_, _||_, not}
 use mathlib.Core.List.{List, [], _∷_}
 use mathlib.Core.Option.{Option, none, some, Option·getD}
-use mathlib.Core.Path.{_≡_, refl, _∙_}
+use mathlib.Core.Path.{_≡_, refl, _∙_, ap, subst}
 use native.Mathlib.Omega.{arith}
 use lib.Dec.{eqb}
 use Rattle.base.proofs.Below.{first-below}
+use Rattle.base.proofs.Bools.{and-true, and-never}
 use Rattle.base.proofs.Choice.{unless-some, some-same}
 use Rattle.base.proofs.Weight.{weigh, weigh-append}
 use Rattle.base.specs.Below.{one, anyBelow, firstBelow}
 use Rattle.network.specs.Network.{Label}
 use Rattle.disac4.proofs.Channels.{into}
 use Rattle.disac4.proofs.Conservation.{isSent}
+use Rattle.disac4.proofs.Fold.{by-step, count-keeps}
 use Rattle.disac4.proofs.Safety.{safe-run}
 use Rattle.disac4.proofs.Sound.{isList}
 use Rattle.disac4.specs.Action.{isEmpty, treat, treatFrom, afterTreat, send, afterSend, readFrom, readWorker, afterList, afterPoll, afterDrop, ready, answer, answerTo, afterAnswer, ask, afterAsk, current, controllerFrom, readController, afterCount, afterMark}
 use Rattle.disac4.specs.Event.{sent, eventsAt, events, treatEvent, readEvent, isTreat, isRead}
+use Rattle.disac4.specs.Fold.{gatherBy, countBy}
 use Rattle.disac4.specs.Loading.{load}
 use Rattle.disac4.specs.Report.{lowestEmpty, isSend, isPoll}
 use Rattle.disac4.specs.State.{State, Message, list, poll, reply}
 use Rattle.disac4.specs.System.{System, Sound}
-use Rattle.disac4.specs.Turn.{Turn, pollNumber, treatNumber, sendNumber, answerNumber, allowed, workerStep, controllerStep, step, after, play, isSome, changes, changesWhere}
+use Rattle.disac4.specs.Turn.{Turn, pollNumber, treatNumber, sendNumber, answerNumber, allowed, workerStep, controllerStep, step, after, play, changes, changesWhere}
 use Rattle.disac4.specs.declared.Poll.{Poll}
 
 -- ---- sends
 
 module _ (sys : System) where
   -- a turn's events hold a send exactly if it is a send that changed something
-  sent-at : (st : State) (t : Turn) → weigh isSent (eventsAt sys st t) ≡ one (changes sys st t && isSend t)
+  sent-at : (st : State) (t : Turn) → weigh isSent (eventsAt sys st t) ≡ one (isSend t && changes sys st t)
   unfolding eventsAt
   sent-at st t = go (changes sys st t) (isSend t) (isTreat t) (isRead (sys .workers) t)
     where
@@ -49,8 +52,9 @@ module _ (sys : System) where
           (cond b (sent (t .actor) (st .toSend (t .actor)) ∷ [])
           (cond c (treatEvent (t .actor) (st .workList (t .actor)))
           (cond d (readEvent (t .actor) (t .action) (st .channel (t .action) (t .actor))) []))) [])
-          ≡ one (a && b)
-      go false b c d = refl
+          ≡ one (b && a)
+      go false true c d = refl
+      go false false c d = refl
       go true true c d = refl
       go true false true d = no-treat (st .workList (t .actor))
       go true false false true = no-read (st .channel (t .action) (t .actor))
@@ -58,7 +62,7 @@ module _ (sys : System) where
 
   -- the sends among the events are those that the report counts
   pub sent-count : (ts : List Turn) (st : State) → weigh isSent (events sys st ts) ≡ changesWhere sys isSend st ts
-  unfolding events changesWhere
+  unfolding gatherBy countBy
   sent-count [] st = refl
   sent-count (t ∷ ts) st =
       omega (
@@ -153,26 +157,18 @@ module _ (sys : System) (st : State) where
       go false b = worker-adds (t .actor) (t .action)
 
   after-adds : (t : Turn)
-      → after sys st t .controller .timestamp ≡ st .controller .timestamp + one (changes sys st t && isPoll t)
-  unfolding after changes
-  after-adds t = go (step sys st t) (step-adds t)
-    where
-      go : (o : Option State) → Adds (one (isPoll t)) o
-          → Option·getD o st .controller .timestamp ≡ st .controller .timestamp + one (isSome o && isPoll t)
-      go none h = omega arith
-      go (some s) h = h
-
-polls-add : (sys : System) (ts : List Turn) (st : State)
-    → play sys st ts .controller .timestamp ≡ st .controller .timestamp + changesWhere sys isPoll st ts
-unfolding play changesWhere
-polls-add sys [] st = omega arith
-polls-add sys (t ∷ ts) st = omega (arith, polls-add sys ts (after sys st t), after-adds sys st t)
+      → after sys st t .controller .timestamp ≡ st .controller .timestamp + one (isPoll t && changes sys st t)
+  after-adds t =
+      by-step (step sys) (λ s c. s .controller .timestamp ≡ st .controller .timestamp + one (isPoll t && c)) st t
+      (λ e. omega (arith, ap one (and-never (isPoll t))))
+      (λ s e. omega (arith, ap one (and-true (isPoll t) {b = true} refl), subst (Adds (one (isPoll t))) e (step-adds t)))
 
 -- the timestamp is the number of polls
 pub timestamp-of-run : (sys : System) (ts : List Turn)
     → play sys (load sys) ts .controller .timestamp ≡ changesWhere sys isPoll (load sys) ts
-unfolding load
-timestamp-of-run sys ts = polls-add sys ts (load sys) ∙ omega arith
+timestamp-of-run sys ts =
+    count-keeps (step sys) isPoll (λ st n. st .controller .timestamp ≡ n)
+    (λ st n t e. omega (arith, after-adds sys st t)) ts (load sys) (unfold load in refl)
 
 -- ---- the lowest empty slot
 

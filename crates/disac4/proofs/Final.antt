@@ -1,13 +1,14 @@
 -- What stays: a closed plan, and every deletion.
 use Prim.Native.Nat.{_≤_}
 use mathlib.Core.Bool.{true, not}
-use mathlib.Core.List.{List, [], _∷_}
+use mathlib.Core.List.{List}
 use mathlib.Core.Option.{none}
-use mathlib.Core.Path.{_≡_, refl, _∙_, ap}
+use mathlib.Core.Path.{_≡_}
 use Rattle.base.proofs.Bools.{and-left}
 use Rattle.network.specs.Consistency.{Within}
 use Rattle.disac4.proofs.ByTreat.{by-treat}
-use Rattle.disac4.proofs.Moves.{Moves, after-idle, kept}
+use Rattle.disac4.proofs.Fold.{idle-stays}
+use Rattle.disac4.proofs.Moves.{Moves, kept}
 use Rattle.disac4.specs.Action.{deletes, afterTreat}
 use Rattle.disac4.specs.Event.{Event}
 use Rattle.disac4.specs.State.{State}
@@ -21,10 +22,7 @@ closed-idle sys st e t = rw e
 
 -- a closed plan never changes
 pub closed-stays : (sys : System) (st : State) → st .controller .closed ≡ true → (ts : List Turn) → play sys st ts ≡ st
-unfolding play
-closed-stays sys st e [] = refl
-closed-stays sys st e (t ∷ ts) =
-    ap (λ s. play sys s ts) (after-idle sys st t (closed-idle sys st e t)) ∙ closed-stays sys st e ts
+closed-stays sys st e = idle-stays (step sys) st (closed-idle sys st e)
 
 -- a turn puts no label back
 pub move-shrinks : {sys : System} {st s : State} {es : List Event} → Moves sys st s es → Within (s .domain) (st .domain)
@@ -39,5 +37,5 @@ pub domain-shrinks : (sys : System) → sys .workers ≤ 8 → (st : State) (ts 
     → Within (play sys st ts .domain) (st .domain)
 unfolding Within
 domain-shrinks sys few st ts =
-    kept sys few (λ s es. Within (s .domain) (st .domain)) (λ s es s′ new c i m x v h. i x v (move-shrinks m x v h)) ts st []
+    kept sys few (λ s es. Within (s .domain) (st .domain)) (λ s es s′ new c i m x v h. i x v (move-shrinks m x v h)) ts st
     (λ x v h. h)

@@ -84,4 +84,4 @@ module _ (sys : System) (x v : ℕ) where
 
   -- every label flows once, whatever turns are played
   pub flows : Sound sys → (ts : List Turn) → Flow (play sys (load sys) ts) (events sys (load sys) ts)
-  flows sound ts = kept sys (sound .few) Flow (λ st es s new c f m. move-flow st es s new f m) ts (load sys) [] load-flow
+  flows sound ts = kept sys (sound .few) Flow (λ st es s new c f m. move-flow st es s new f m) ts (load sys) load-flow

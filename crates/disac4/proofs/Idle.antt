@@ -15,10 +15,11 @@ use Rattle.network.specs.Network.{Label}
 use Rattle.disac4.proofs.Channels.{broadcast-sender}
 use Rattle.disac4.proofs.Progress.{none-chosen, some-refused, none-taken, read-takes, hear-takes}
 use Rattle.disac4.specs.Action.{isEmpty, treatFrom, treat, afterTreat, send, afterSend, readFrom, readWorker, afterList, afterPoll, afterDrop, answerTo, answer, ready, afterAnswer, ask, afterAsk, controllerFrom, readController, current, afterCount, afterMark}
+use Rattle.disac4.specs.Fold.{isSome}
 use Rattle.disac4.specs.State.{State, Message, list, poll, reply}
 use Rattle.disac4.specs.declared.Poll.{Poll}
 use Rattle.disac4.specs.System.{System}
-use Rattle.disac4.specs.Turn.{Turn, treatNumber, sendNumber, answerNumber, pollNumber, allowed, workerStep, controllerStep, step, isSome}
+use Rattle.disac4.specs.Turn.{Turn, treatNumber, sendNumber, answerNumber, pollNumber, allowed, workerStep, controllerStep, step}
 
 -- what an actor keeps for itself: its work list, its labels to send, the poll that it holds, its count of lists
 abbrev pub ownOf : State → ℕ → List Label × List Label × Option Poll × ℕ

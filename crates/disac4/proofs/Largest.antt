@@ -124,7 +124,7 @@ module _ (sys : System) (e : Domains) (c : ConsistentWithin (sys .net) e) where
 pub never-lost : (sys : System) → Sound sys → (ts : List Turn) (e : Domains) → ConsistentWithin (sys .net) e
     → Within e (play sys (load sys) ts .domain)
 never-lost sys sound ts e c =
-    kept sys (sound .few) (Contained sys e c) (λ st es s new o h m. move-keeps sys e c st es s new h m) ts (load sys) []
+    kept sys (sound .few) (Contained sys e c) (λ st es s new o h m. move-keeps sys e c st es s new h m) ts (load sys)
     (record { known = load-accounts sys; inner = load-keeps sys e c })
     .inner
 

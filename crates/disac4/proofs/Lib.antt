@@ -17,6 +17,7 @@ pub mod Figures
 pub mod FiguresFit
 pub mod Final
 pub mod Flow
+pub mod Fold
 pub mod Idle
 pub mod Largest
 pub mod Moves

@@ -12,11 +12,13 @@ use Rattle.base.proofs.Bools.{or-false-left, or-false-right}
 use Rattle.base.proofs.Choice.{none≢some, by-test, if-some, unless-some, some-same}
 use Rattle.network.specs.Network.{Label}
 use Rattle.disac4.proofs.Allowed.{reads-other, reads-worker, worker-does, controller-does}
+use Rattle.disac4.proofs.Fold.{after-idle, after-move, gather-keeps}
 use Rattle.disac4.specs.Action.{isEmpty, afterTreat, treat, treatFrom, afterSend, send, afterList, afterPoll, afterDrop, readFrom, readWorker, afterAnswer, ready, answerTo, answer, afterAsk, ask, afterCount, afterMark, current, controllerFrom, readController}
 use Rattle.disac4.specs.Event.{Event, sent, taken, treated, eventsAt, events, treatEvent, readEvent}
+use Rattle.disac4.specs.Fold.{isSome}
 use Rattle.disac4.specs.State.{State, Message, list, poll, reply}
 use Rattle.disac4.specs.System.{System, Worker}
-use Rattle.disac4.specs.Turn.{Turn, turn, treatNumber, sendNumber, answerNumber, pollNumber, workerMay, controllerMay, allowed, workerStep, controllerStep, step, after, play, isSome, changes}
+use Rattle.disac4.specs.Turn.{Turn, turn, treatNumber, sendNumber, answerNumber, pollNumber, workerMay, controllerMay, allowed, workerStep, controllerStep, step, after, play, changes}
 use Rattle.disac4.specs.declared.Poll.{Poll}
 use Rattle.disac4.specs.declared.Timestamp.{Timestamp}
 
@@ -167,7 +169,7 @@ module _ (sys : System) (st : State) where
     -- a turn that is not idle was played in an open plan, and is one of the cases
     pub moves : (t : Turn) (s : State) → step sys st t ≡ some s
         → (st .controller .closed ≡ false) × (allowed (sys .workers) t ≡ true) × Moves sys st s (eventsAt sys st t)
-    unfolding step changes
+    unfolding step
     moves t s e = go (st .controller .closed || not (allowed (sys .workers) t)) refl e
       where
         changed : changes sys st t ≡ true
@@ -199,18 +201,8 @@ module _ (sys : System) (st : State) where
 
 -- an idle turn has no events
 idle-events : (sys : System) (st : State) (t : Turn) → step sys st t ≡ none → eventsAt sys st t ≡ []
-unfolding eventsAt changes
+unfolding eventsAt
 idle-events sys st t e = rw e
-
--- and leaves the state as it is
-pub after-idle : (sys : System) (st : State) (t : Turn) → step sys st t ≡ none → after sys st t ≡ st
-unfolding after
-after-idle sys st t e = rw e
-
--- a turn that is not idle leads to the next state
-pub after-move : (sys : System) (st : State) (t : Turn) (s : State) → step sys st t ≡ some s → after sys st t ≡ s
-unfolding after
-after-move sys st t s e = rw e
 
 -- what a turn does: nothing, or one of the moves
 pub data Effect (sys : System) (st : State) (t : Turn) : Type 0 where
@@ -220,25 +212,22 @@ pub data Effect (sys : System) (st : State) (t : Turn) : Type 0 where
 
 -- every turn is idle, or allowed and one of the moves of an open plan
 pub effect : (sys : System) (st : State) → sys .workers ≤ 8 → (t : Turn) → Effect sys st t
-unfolding changes
 effect sys st few t = go (step sys st t) refl
   where
     go : (o : Option State) → step sys st t ≡ o → Effect sys st t
-    go none e = idle (ap isSome e) (after-idle sys st t e) (idle-events sys st t e)
+    go none e = idle (ap isSome e) (after-idle (step sys) st t e) (idle-events sys st t e)
     go (some s) e =
-        let m = moves sys st few t s e in acts (ap isSome e) (m .0) (m .1) (rw (after-move sys st t s e) (m .2))
+        let m = moves sys st few t s e in acts (ap isSome e) (m .0) (m .1) (rw (after-move (step sys) st t s e) (m .2))
 
--- what every case of `Moves` keeps holds after any list of turns, with the events so far
+-- what every case of `Moves` keeps holds after any list of turns, with their events
 pub kept : (sys : System) → sys .workers ≤ 8 → (I : State → List Event → Type 0)
     → ((st : State) (es : List Event) (s : State) (new : List Event) → st .controller .closed ≡ false → I st es
     → Moves sys st s new → I s (es ++ new))
-    → (ts : List Turn) (st : State) (es : List Event) → I st es → I (play sys st ts) (es ++ events sys st ts)
-unfolding play events
-kept sys few I one-move [] st es h = rw append-nil h
-kept sys few I one-move (t ∷ ts) st es h =
-    rw (← append-assoc es (eventsAt sys st t) (events sys (after sys st t) ts))
-    (kept sys few I one-move ts (after sys st t) (es ++ eventsAt sys st t) (next (effect sys st few t)))
+    → (ts : List Turn) (st : State) → I st [] → I (play sys st ts) (events sys st ts)
+kept sys few I one-move ts st start =
+    gather-keeps (step sys) [] _++_ append-nil append-assoc (eventsAt sys) I
+    (λ s es t i. next s es t i (effect sys s few t)) ts st [] start
   where
-    next : Effect sys st t → I (after sys st t) (es ++ eventsAt sys st t)
-    next (idle c a e) = rw (a, e, append-nil) h
-    next (acts c o l m) = one-move st es (after sys st t) (eventsAt sys st t) o h m
+    next : (s : State) (es : List Event) (t : Turn) → I s es → Effect sys s t → I (after sys s t) (es ++ eventsAt sys s t)
+    next s es t i (idle c a e) = rw (a, e, append-nil) i
+    next s es t i (acts c o l m) = one-move s es (after sys s t) (eventsAt sys s t) o i m

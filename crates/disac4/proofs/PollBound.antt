@@ -1,6 +1,6 @@
 -- How many polls a run asks: at most one more than the loaded labels, as between two polls the controller reads a list.
 use Prim.Native.Nat.{suc, _+_, _≤_}
-use mathlib.Core.List.{List, []}
+use mathlib.Core.List.{List}
 use mathlib.Core.Path.{ap}
 use native.Mathlib.Omega.{arith}
 use Rattle.base.proofs.Sums.{one-le}
@@ -45,7 +45,7 @@ timestamp-bound {sys} sound ts =
     omega (
       arith,
       one-le (st .controller .pollOpen),
-      kept sys (sound .few) (λ st es. Ended st) (λ st es s new o h move. ended-move h move) ts (load sys) []
+      kept sys (sound .few) (λ st es. Ended st) (λ st es s new o h move. ended-move h move) ts (load sys)
           (unfold load in omega arith),
     )
 

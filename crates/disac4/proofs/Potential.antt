@@ -16,9 +16,9 @@ use Rattle.disac4.proofs.Moves.{Moves, treats, sends, reads, takes-poll
 use Rattle.disac4.proofs.Workers.{overWorkers, over-update, over-append, workers-take, workers-apart, workers-broadcast, workers-poll}
 use Rattle.disac4.specs.Action.{isEmpty, deletes, deletions, afterTreat, afterSend, afterList, afterPoll, afterDrop, afterAnswer, nextPoll, afterAsk, afterCount, afterMark}
 use Rattle.disac4.specs.Event.{Event}
+use Rattle.disac4.specs.Fold.{isSome}
 use Rattle.disac4.specs.State.{State, Message, list, poll, reply}
 use Rattle.disac4.specs.System.{System, Worker}
-use Rattle.disac4.specs.Turn.{isSome}
 use Rattle.disac4.specs.declared.Poll.{Poll}
 
 -- what a message to a worker weighs

@@ -25,10 +25,11 @@ use Rattle.disac4.proofs.Sound.{isList}
 use Rattle.disac4.proofs.Typed.{no-self, not-controller}
 use Rattle.disac4.specs.Action.{isEmpty, treat, treatFrom, send, readFrom, readWorker, ready, answer, answerTo, ask, allMarked, controllerFrom, readController}
 use Rattle.disac4.specs.Event.{Event, events}
+use Rattle.disac4.specs.Fold.{isSome}
 use Rattle.disac4.specs.Loading.{load}
 use Rattle.disac4.specs.State.{State, Message, list, poll, reply}
 use Rattle.disac4.specs.System.{System, Worker, Sound}
-use Rattle.disac4.specs.Turn.{Turn, turn, treatNumber, sendNumber, answerNumber, pollNumber, allowed, workerStep, controllerStep, step, play, isSome, changes}
+use Rattle.disac4.specs.Turn.{Turn, turn, treatNumber, sendNumber, answerNumber, pollNumber, allowed, workerStep, controllerStep, step, play, changes}
 use Rattle.disac4.specs.declared.Poll.{Poll}
 
 -- a state in which no allowed turn changes anything
@@ -68,7 +69,7 @@ module _ (sys : System) (st : State) (few : sys .workers ≤ 8) (running : st .c
   -- an allowed turn is idle
   step-idle : (t : Turn) → allowed (sys .workers) t ≡ true
       → isSome (cond (eqb (t .actor) 0) (controllerStep sys (t .action) st) (workerStep sys (t .actor) (t .action) st)) ≡ false
-  unfolding changes step
+  unfolding step
   step-idle t ok = sym (ap isSome (cond-false none _ (or-false running (not-of-true ok)))) ∙ stuck t ok
 
   worker-idle : (k d : ℕ) → Worker sys k → allowed (sys .workers) (turn k d) ≡ true → isSome (workerStep sys k d st) ≡ false

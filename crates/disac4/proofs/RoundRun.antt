@@ -1,10 +1,9 @@
 -- A round that changes nothing shows that no turn would; so where an open plan always has a turn that changes something, the
 -- round run closes it.
 use Prim.Native.Nat.{ℕ, zero, suc, _<_, _≤_}
-use mathlib.Core.Bool.{true, false, _&&_}
+use mathlib.Core.Bool.{true, false}
 use mathlib.Core.List.{List, [], _∷_, _++_}
 use mathlib.Core.Logic.{_⊎_, inl, inr}
-use mathlib.Core.Option.{Option, none, some}
 use mathlib.Core.Path.{_≡_, refl, sym, _∙_, ap, subst}
 use native.Mathlib.Nat.{not-suc-le-zero}
 use native.Mathlib.Omega.{arith}
@@ -12,14 +11,16 @@ use Rattle.base.proofs.Bools.{decided, clash, refuted}
 use Rattle.base.proofs.Each.{Each, each-member}
 use Rattle.base.specs.Below.{one}
 use Rattle.disac4.proofs.Bound.{turns-bounded, potential-loaded}
-use Rattle.disac4.proofs.Moves.{after-idle, Effect, idle, acts, effect}
+use Rattle.disac4.proofs.Fold.{after-same, play-append}
+use Rattle.disac4.proofs.Moves.{Effect, idle, acts, effect}
 use Rattle.disac4.proofs.Potential.{potential}
 use Rattle.disac4.proofs.Rounds.{allowed-round}
+use Rattle.disac4.specs.Fold.{playBy, gatherBy, countBy}
 use Rattle.disac4.specs.Loading.{load}
 use Rattle.disac4.specs.Round.{round, roundTurns, roundRunTurns}
 use Rattle.disac4.specs.State.{State}
 use Rattle.disac4.specs.System.{System, boundOf, Sound}
-use Rattle.disac4.specs.Turn.{Turn, allowed, step, after, play, isSome, changes, changesWhere}
+use Rattle.disac4.specs.Turn.{Turn, allowed, step, after, play, changes, changesWhere}
 
 -- what the round run asks of a statement about states: every list of turns keeps it, and while the plan is open some turn
 -- changes something
@@ -38,28 +39,13 @@ module _ (sys : System) where
   abbrev Idle : State → Turn → Type 0
   Idle st t = changes sys st t ≡ false
 
-  -- an idle turn leaves the state as it is
-  pub idle-stays : (st : State) (t : Turn) → Idle st t → after sys st t ≡ st
-  unfolding changes
-  idle-stays st t e = go (step sys st t) refl
-    where
-      go : (o : Option State) → step sys st t ≡ o → after sys st t ≡ st
-      go none p = after-idle sys st t p
-      go (some s) p = clash (ap isSome p) e
-
   -- where a list of turns changes nothing, each of them is idle in the state before the list
   pub all-idle : (ts : List Turn) (st : State) → changesWhere sys (λ t. true) st ts ≡ 0 → Each (Idle st) ts
-  unfolding changesWhere
+  unfolding countBy gatherBy
   all-idle [] st e = tt
   all-idle (t ∷ ts) st e =
-      let first : Idle st t = refuted (changes sys st t) (λ c. omega (arith, ap (λ b. one (b && true)) c)) in
-      (first, subst (λ s. Each (Idle s) ts) (idle-stays st t first) (all-idle ts (after sys st t) (omega arith)))
-
-  -- the turns of two lists, one after the other
-  pub play-append : (ts us : List Turn) (st : State) → play sys st (ts ++ us) ≡ play sys (play sys st ts) us
-  unfolding play
-  play-append [] us st = refl
-  play-append (t ∷ ts) us st = play-append ts us (after sys st t)
+      let first : Idle st t = refuted (changes sys st t) (λ c. omega (arith, ap one c)) in
+      (first, subst (λ s. Each (Idle s) ts) (after-same (step sys) st t first) (all-idle ts (after sys st t) (omega arith)))
 
   -- a closed plan plays no further round
   pub turns-closed : (fuel : ℕ) (st : State) → st .controller .closed ≡ true → roundTurns sys (suc fuel) st ≡ []
@@ -111,9 +97,9 @@ module _ (sys : System) where
               → (potential sys (next st) < fuel
               → play sys (next st) (roundTurns sys fuel (next st)) .controller .closed ≡ true)
               → play sys st (roundTurns sys (suc fuel) st) .controller .closed ≡ true
-          go (inl e) below = rw (turns-closed fuel st e) (unfold play in e)
+          go (inl e) below = rw (turns-closed fuel st e) (unfold playBy in e)
           go (inr e) below =
-              rw (turns-open fuel st e, play-append oneRound (roundTurns sys fuel (next st)) st)
+              rw (turns-open fuel st e, play-append (step sys) oneRound (roundTurns sys fuel (next st)) st)
               (below (omega (arith, round-lowers st i e)))
 
       -- and still more rounds play no further turn

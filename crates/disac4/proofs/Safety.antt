@@ -45,7 +45,7 @@ safe-run {sys} sound ts =
       closure = closure-move (sound .some-worker) o (g .closure) move;
       expected = expected-move sys st (g .typed) (g .expected) move;
     })
-    ts (load sys) [] (safe-load sys)
+    ts (load sys) (safe-load sys)
 
 -- in a closed plan no worker has a label to treat or to send, and no list message is on its way
 pub closed-quiet : {sys : System} → Sound sys → (ts : List Turn) → play sys (load sys) ts .controller .closed ≡ true

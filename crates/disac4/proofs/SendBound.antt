@@ -75,7 +75,7 @@ sends-and-unsent {sys} sound ts =
       sent-count sys ts (load sys),
       kept sys (sound .few) (λ st es. weigh isSent es + unsentLabels sys st ≤ labelCount (sys .net))
           (λ st es s new o h move. omega (arith, weigh-append isSent es new, move-unsent move))
-          ts (load sys) [] (omega (arith, load-unsent sys sound)),
+          ts (load sys) (omega (arith, load-unsent sys sound)),
     )
 
 -- a run sends at most as many lists as labels were loaded

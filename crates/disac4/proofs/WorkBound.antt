@@ -150,7 +150,7 @@ work-bound {sys} sound ts k w =
       arith,
       kept sys (sound .few) (λ st es. coming sys st k ≤ labelCount (sys .net) + length (st .toSend k))
           (λ st es s new o h move. omega (arith, coming-move sys k w move))
-          ts (load sys) [] (coming-load sys sound k),
+          ts (load sys) (coming-load sys sound k),
       unsent-part sys (play sys (load sys) ts) k w,
     )
 

@@ -6,10 +6,11 @@ use lib.Dec.{leb, eqb}
 use Rattle.base.specs.Below.{allBelow}
 use Rattle.base.specs.Choice.{anyOf}
 use Rattle.network.specs.Network.{Label, isLabel, loaded}
+use Rattle.disac4.specs.Fold.{gatherBy}
 use Rattle.disac4.specs.Report.{isSend}
 use Rattle.disac4.specs.State.{State, Message, list, poll, reply}
 use Rattle.disac4.specs.System.{System}
-use Rattle.disac4.specs.Turn.{Turn, treatNumber, changes, after}
+use Rattle.disac4.specs.Turn.{Turn, treatNumber, step, changes}
 
 pub data Event : Type 0 where
   -- a worker sent a list message with these labels
@@ -46,9 +47,8 @@ eventsAt sys st t =
     []
 
 -- the events of a list of turns, in their order
-unfoldable pub events : System → State → List Turn → List Event
-events sys st [] = []
-events sys st (t ∷ ts) = eventsAt sys st t ++ events sys (after sys st t) ts
+abbrev pub events : System → State → List Turn → List Event
+events sys = gatherBy (step sys) [] _++_ (eventsAt sys)
 
 -- the label is in the list
 unfoldable pub holds : List Label → ℕ → ℕ → Bool

@@ -2,6 +2,7 @@ pub mod Action
 pub mod Computes
 pub mod Demands
 pub mod Event
+pub mod Fold
 pub mod Loading
 pub mod Outcome
 pub mod Report

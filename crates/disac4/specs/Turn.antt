@@ -1,17 +1,18 @@
 -- Turns: which are allowed, what one does, and what a list of them does.
 use Prim.Native.Nat.{ℕ, _+_, _*_, _/_, _%_}
-use mathlib.Core.Bool.{Bool, true, false, cond, _&&_, _||_, not}
-use mathlib.Core.List.{List, [], _∷_}
-use mathlib.Core.Option.{Option, none, some, Option·getD}
+use mathlib.Core.Bool.{Bool, cond, _&&_, _||_, not}
+use mathlib.Core.List.{List}
+use mathlib.Core.Option.{Option, none, some}
 use lib.Dec.{leb, eqb}
 use lib.ListN.{length}
-use Rattle.base.specs.Below.{one, listBelow, firstBelow}
+use Rattle.base.specs.Below.{listBelow, firstBelow}
 use Rattle.base.specs.Bytes.{byteAt}
 use Rattle.base.specs.Choice.{between}
 use Rattle.plan.specs.Fault.{decline}
 use Rattle.plan.specs.declared.Decline.{Decline}
 use Rattle.plan.specs.declared.Fault.the-variants.{BadTurn}
 use Rattle.disac4.specs.Action.{treat, send, readWorker, answer, ask, readController}
+use Rattle.disac4.specs.Fold.{isSome, afterBy, playBy, countBy}
 use Rattle.disac4.specs.State.{State}
 use Rattle.disac4.specs.System.{System}
 
@@ -64,26 +65,20 @@ step sys st t =
     cond (st .controller .closed || not (allowed (sys .workers) t)) none
     (cond (eqb (t .actor) 0) (controllerStep sys (t .action) st) (workerStep sys (t .actor) (t .action) st))
 
-unfoldable pub after : System → State → Turn → State
-after sys st t = Option·getD (step sys st t) st
+abbrev pub after : System → State → Turn → State
+after sys = afterBy (step sys)
 
 -- the state after a list of turns, of any length
-unfoldable pub play : System → State → List Turn → State
-play sys st [] = st
-play sys st (t ∷ ts) = play sys (after sys st t) ts
-
-abbrev pub isSome {ℓ} : {A : Type ℓ} → Option A → Bool
-isSome none = false
-isSome (some a) = true
+abbrev pub play : System → State → List Turn → State
+play sys = playBy (step sys)
 
 -- the turn is not idle; `changes-exactly` proves that this is exactly "the state after differs from the state before"
-unfoldable pub changes : System → State → Turn → Bool
+abbrev pub changes : System → State → Turn → Bool
 changes sys st t = isSome (step sys st t)
 
 -- how many turns of the list pass a test and changed something
-unfoldable pub changesWhere : System → (Turn → Bool) → State → List Turn → ℕ
-changesWhere sys test st [] = 0
-changesWhere sys test st (t ∷ ts) = one (changes sys st t && test t) + changesWhere sys test (after sys st t) ts
+abbrev pub changesWhere : System → (Turn → Bool) → State → List Turn → ℕ
+changesWhere sys = countBy (step sys)
 
 -- ---- the turn list as bytes: two for each turn
 

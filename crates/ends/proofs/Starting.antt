@@ -6,6 +6,7 @@ use mathlib.Core.Path.{_≡_, refl, sym, _∙_, ap, subst}
 use lib.ListN.{length, replicate}
 use Rattle.cells.specs.Memory.{Mem, memOf, clearedM}
 use Rattle.controller.specs.Controller.{machine}
+use Rattle.disac4.specs.Fold.{playBy, gatherBy, countBy}
 use Rattle.disac4.specs.Outcome.{overwrite, workNeed, systemAt}
 use Rattle.disac4.specs.System.{systemOf}
 use Rattle.disac4.specs.declared.Tally.{Tally}
@@ -14,7 +15,7 @@ use Rattle.index.specs.Index.{Ready, Indexed, indexM}
 use Rattle.loading.specs.Load.{loadM}
 use Rattle.plan.specs.Decode.{planFault, planOf}
 use Rattle.refinement.proofs.Behind.{cleared-memory}
-use Rattle.refinement.specs.Run.{freshTally, startM, playM, countM, At}
+use Rattle.refinement.specs.Run.{freshTally, startM, At}
 
 module _ (b c₀ c₁ c₂ : List ℕ) (sound : planFault b ≡ none) (cleared : c₁ ≡ overwrite (replicate workNeed 0) c₀)
     (made : memOf c₂ ≡ indexM b (memOf c₁)) where
@@ -39,5 +40,5 @@ module _ (b c₀ c₁ c₂ : List ℕ) (sound : planFault b ≡ none) (cleared :
 -- a loaded plan has played no turns
 pub begins : (b : List ℕ) (m : Mem) (cells : List ℕ) (t : Tally) → machine cells t ≡ startM b m
     → At b m [] cells (record { tally = t; changes = 0; sends = 0; polls = 0 })
-unfolding playM countM
+unfolding playBy gatherBy countBy
 begins b m cells t e = record { stands = e; changes = refl; sends = refl; polls = refl }

@@ -8,10 +8,11 @@ use native.Mathlib.Nat.{pow-le-pow-right}
 use native.Mathlib.Omega.{arith}
 use Rattle.base.proofs.Sums.{one-le}
 use Rattle.base.specs.Below.{one}
+use Rattle.disac4.specs.Fold.{isSome, afterBy}
 use Rattle.disac4.specs.Outcome.{systemAt}
 use Rattle.disac4.specs.Report.{isSend, isPoll}
 use Rattle.disac4.specs.System.{systemOf}
-use Rattle.disac4.specs.Turn.{Turn, turn, isSome}
+use Rattle.disac4.specs.Turn.{Turn, turn}
 use Rattle.disac4.specs.declared.Tally.{Tally}
 use Rattle.engine.proofs.RunLaws.{workers-are, one-and}
 use Rattle.refinement.proofs.Start.{fits-regions}
@@ -22,7 +23,7 @@ use Rattle.cells.specs.Layout.{WORKERS, HEAD}
 use Rattle.cells.specs.Memory.{memOf}
 use Rattle.refinement.specs.Run.{turnOn, Going, Plays, Playable}
 use Rattle.controller.specs.Controller.{Machine, machine, Controls}
-use Rattle.refinement.specs.Step.{stepM, afterM}
+use Rattle.refinement.specs.Step.{stepM}
 use Rattle.controller.specs.declared.Controlled.{Controlled}
 use Rattle.refinement.specs.declared.Progress.{Progress}
 use Rattle.plan.proofs.Parts.{variables-read}
@@ -70,7 +71,7 @@ pub advanced : (b cells cells′ : List ℕ) (g r : Progress) (actor action : �
     → r .sends ≡ g .sends + cond (isSend (turn actor action)) (h .changed) 0
     → r .polls ≡ g .polls + cond (isPoll (turn actor action)) (h .changed) 0
     → Plays b (turn actor action ∷ []) cells g cells′ r
-unfolding Plays afterM
+unfolding Plays afterBy
 advanced b cells cells′ g r actor action h sound heard tally changes sends polls m ts at =
     at-next b sound m ts cells g at t cells′ r
     (λ i. record { mem = heard .mem i; tally = (tally ∙ heard .tally) i })
@@ -82,7 +83,7 @@ advanced b cells cells′ g r actor action h sound heard tally changes sends pol
     t = turn actor action
 
     kind : (test : Turn → Bool)
-        → cond (test t) (h .changed) 0 ≡ one (isSome (stepM (systemAt b) (machine cells (g .tally)) t) && test t)
+        → cond (test t) (h .changed) 0 ≡ one (test t && isSome (stepM (systemAt b) (machine cells (g .tally)) t))
     kind test =
         ap (λ (n : ℕ). cond (test t) n 0) (heard .count)
-        ∙ sym (one-and (isSome (stepM (systemAt b) (machine cells (g .tally)) t)) (test t))
+        ∙ sym (one-and (test t) (isSome (stepM (systemAt b) (machine cells (g .tally)) t)))

@@ -129,11 +129,9 @@ module _ (sys : System) (actor action : ℕ) (s : Machine) where
 -- ---- counting a turn
 
 -- a changing turn of a kind counts as the turn does, if it is of that kind
-pub one-and : (a c : Bool) → one (a && c) ≡ cond c (one a) 0
-one-and true true = refl
-one-and true false = refl
-one-and false true = refl
-one-and false false = refl
+pub one-and : (c a : Bool) → one (c && a) ≡ cond c (one a) 0
+one-and true a = refl
+one-and false a = refl
 
 -- ---- what an allowed turn's numbers are
 

@@ -14,9 +14,10 @@ use Rattle.base.proofs.Sums.{one-le}
 use Rattle.base.specs.Below.{gatherBelow}
 use Rattle.cells.specs.Memory.{Mem, memOf, Acts}
 use Rattle.controller.specs.Controller.{machine, Controls}
+use Rattle.disac4.specs.Fold.{isSome}
 use Rattle.disac4.specs.Outcome.{systemAt}
 use Rattle.disac4.specs.Report.{isSend, isPoll}
-use Rattle.disac4.specs.Turn.{Turn, turn, allowed, isSome}
+use Rattle.disac4.specs.Turn.{Turn, turn, allowed}
 use Rattle.disac4.specs.declared.Tally.{Tally}
 use Rattle.engine.proofs.Advancing.{playable, advanced}
 use Rattle.engine.proofs.Playing.{goes-after}

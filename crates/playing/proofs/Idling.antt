@@ -13,10 +13,12 @@ use Rattle.base.proofs.Choice.{by-test, cond-same, cond-false}
 use Rattle.base.specs.Below.{one}
 use Rattle.cells.specs.Memory.{memOf}
 use Rattle.controller.specs.Controller.{Machine, machine}
+use Rattle.disac4.proofs.Fold.{after-idle}
+use Rattle.disac4.specs.Fold.{isSome}
 use Rattle.disac4.specs.Outcome.{systemAt}
 use Rattle.disac4.specs.Report.{isSend, isPoll}
 use Rattle.disac4.specs.System.{System}
-use Rattle.disac4.specs.Turn.{turn, allowed, isSome}
+use Rattle.disac4.specs.Turn.{turn, allowed}
 use Rattle.disac4.specs.declared.Tally.{Tally}
 use Rattle.engine.proofs.Advancing.{advanced}
 use Rattle.engine.proofs.RunLaws.{controls-idle}
@@ -98,8 +100,7 @@ module _ (b cells cells′ : List ℕ) (g r : Progress) (go : Going b cells g) (
         uncounted (some x) e = absurd (omega arith)
 
     stays : machine cells′ (r .tally) ≡ s
-    unfolding afterM
-    stays = done .0 ∙ rw nothing
+    stays = done .0 ∙ after-idle (stepM sys) s (turn k d) nothing
 
     pub idle-again : stepM sys (machine cells′ (r .tally)) (turn k d) ≡ none
     idle-again = subst (λ (x : Machine). stepM sys x (turn k d) ≡ none) (sym stays) nothing

@@ -1,17 +1,17 @@
 -- An idle turn in memory stays idle until a turn enables it.
 use Prim.Native.Nat.{_<_}
 use mathlib.Core.Bool.{false, _&&_, _||_}
-use mathlib.Core.Option.{Option, none, some, Option·getD, map-eq-none-iff}
-use mathlib.Core.Path.{_≡_, refl, sym, _∙_, ap}
+use mathlib.Core.Option.{none, map-eq-none-iff}
+use mathlib.Core.Path.{_≡_, sym, _∙_, ap}
 use borrow.Author.Tests.{leb-false, eqb-false, lt-ltb, eq-eqb}
 use lib.Dec.{leb, eqb}
 use Rattle.base.proofs.Bools.{clash, and-intro, or-false-left, or-false-right}
+use Rattle.disac4.proofs.Fold.{after-keeps}
 use Rattle.disac4.proofs.Idle.{idle-still}
 use Rattle.disac4.specs.System.{System}
 use Rattle.disac4.specs.Turn.{Turn, treatNumber}
 use Rattle.controller.specs.Controller.{Machine}
-use Rattle.refinement.proofs.Refined.{refined}
-use Rattle.refinement.proofs.Runs.{Refines}
+use Rattle.refinement.proofs.Refined.{Refines, refined}
 use Rattle.refinement.proofs.ViewParts.{mapO}
 use Rattle.idle.specs.Table.{enables}
 use Rattle.refinement.specs.Inv.{Small, Inv}
@@ -41,17 +41,14 @@ module _ (t u : Turn) (apart : enables t u ≡ false) where
 -- an idle turn that another turn does not enable is idle after it
 pub idle-kept : (sys : System) → Small sys → (s : Machine) → Inv sys s → (t u : Turn) → enables t u ≡ false
     → stepM sys s u ≡ none → stepM sys (afterM sys s t) u ≡ none
-unfolding afterM
-idle-kept sys small s inv t u apart idle = go (stepM sys s t) refl
+idle-kept sys small s inv t u apart idle =
+    after-keeps (stepM sys) (λ (s′ : Machine). stepM sys s′ u ≡ none) s t idle
+    (λ s′ e.
+    map-eq-none-iff (viewOf sys) (stepM sys s′ u) .0
+    (does .turn s′ u (does .keeps s t s′ inv e)
+    ∙ idle-still sys (viewOf sys s) t u (viewOf sys s′) (another-read t u apart) (another-sender t u apart)
+    (sym (does .turn s t inv) ∙ ap (mapO (viewOf sys)) e)
+    (sym (does .turn s u inv) ∙ ap (mapO (viewOf sys)) idle)))
   where
     does : Refines sys
     does = refined sys small
-
-    go : (o : Option Machine) → stepM sys s t ≡ o → stepM sys (Option·getD o s) u ≡ none
-    go none e = idle
-    go (some s′) e =
-        map-eq-none-iff (viewOf sys) (stepM sys s′ u) .0
-        (does .turn s′ u (does .keeps s t s′ inv e)
-        ∙ idle-still sys (viewOf sys s) t u (viewOf sys s′) (another-read t u apart) (another-sender t u apart)
-        (sym (does .turn s t inv) ∙ ap (mapO (viewOf sys)) e)
-        (sym (does .turn s u inv) ∙ ap (mapO (viewOf sys)) idle))

@@ -25,9 +25,9 @@ pub mod PollReadKeeps
 pub mod PollReadRefines
 pub mod PollRefines
 pub mod Refined
-pub mod Runs
 pub mod SendKeeps
 pub mod SendRefines
+pub mod Simulation
 pub mod Start
 pub mod Static
 pub mod StepKeeps

@@ -3,28 +3,29 @@ use Prim.Native.Nat.{ℕ, _+_, _<_, _≤_}
 use mathlib.Core.Bool.{Bool, true, _&&_}
 use mathlib.Core.List.{List, [], _∷_, _++_, append-assoc, append-nil}
 use mathlib.Core.Option.{none}
-use mathlib.Core.Path.{_≡_, refl, sym, _∙_, ap, subst}
+use mathlib.Core.Path.{_≡_, sym, _∙_, ap, subst}
 use native.Mathlib.Omega.{arith}
 use lib.ListN.{length}
-use Rattle.base.proofs.Bools.{and-true}
 use Rattle.base.specs.Below.{one}
 use Rattle.disac4.proofs.FiguresFit.{figures-fit}
+use Rattle.disac4.proofs.Fold.{play-next, count-next}
+use Rattle.disac4.specs.Fold.{isSome}
 use Rattle.disac4.specs.Loading.{load}
 use Rattle.disac4.specs.Outcome.{systemAt}
 use Rattle.disac4.specs.Report.{isSend, isPoll, final}
 use Rattle.disac4.specs.State.{State}
 use Rattle.disac4.specs.System.{System}
-use Rattle.disac4.specs.Turn.{Turn, isSome, play, changesWhere}
+use Rattle.disac4.specs.Turn.{Turn, play, changesWhere}
 use Rattle.index.proofs.Chains.{indexed-kept}
-use Rattle.refinement.proofs.Refined.{refined}
-use Rattle.refinement.proofs.Runs.{Refines, playM-append, countM-append, run-view, run-keeps, run-counts}
+use Rattle.refinement.proofs.Refined.{Refines, refined}
+use Rattle.refinement.proofs.Simulation.{run-view, run-keeps, run-counts}
 use Rattle.refinement.proofs.Start.{fits-regions, start-inv, start-view, start-indexed, start-behind}
 use Rattle.refinement.proofs.Static.{play-static}
 use Rattle.index.specs.Index.{Ready}
 use Rattle.refinement.specs.Inv.{Inv}
 use Rattle.cells.specs.Layout.{HEADS, BEHIND}
 use Rattle.cells.specs.Memory.{Mem, memOf}
-use Rattle.refinement.specs.Run.{viewOf, playM, countM, startM, At, Going, Plays}
+use Rattle.refinement.specs.Run.{viewOf, changesWhereM, startM, At, Going, Plays}
 use Rattle.controller.specs.Controller.{Machine, machine}
 use Rattle.refinement.specs.Step.{stepM, afterM}
 use Rattle.refinement.specs.declared.Progress.{Progress}
@@ -41,14 +42,14 @@ module _ (b : List ℕ) (sound : planFault b ≡ none) where
   module _ (m : Mem) (ts : List Turn) (cells : List ℕ) (g : Progress) (at : At b m ts cells g) where
     -- the invariant holds
     pub under-inv : Inv sys (machine cells (g .tally))
-    under-inv = subst (Inv sys) (sym (at .stands)) (run-keeps sys refines ts (startM b m) (start-inv b sound m))
+    under-inv = subst (Inv sys) (sym (at .stands)) (run-keeps refines ts (startM b m) (start-inv b sound m))
 
     -- the cells stand for the state after the turns
     pub under-view : viewOf sys (machine cells (g .tally)) ≡ final sys ts
     unfolding final
     under-view =
         ap (viewOf sys) (at .stands)
-        ∙ run-view sys refines ts (startM b m) (start-inv b sound m)
+        ∙ run-view refines ts (startM b m) (start-inv b sound m)
         ∙ ap (λ (st : State). play sys st ts) (start-view b sound m)
 
     -- nothing of the index or behind it has changed
@@ -69,9 +70,9 @@ module _ (b : List ℕ) (sound : planFault b ≡ none) where
     under-behind i j = same-since BEHIND i j (omega arith) ∙ start-behind b sound m i j
 
     -- the counts are those of document 01's turns
-    counted : (test : Turn → Bool) → countM sys test (startM b m) ts ≡ changesWhere sys test (load sys) ts
+    counted : (test : Turn → Bool) → changesWhereM sys test (startM b m) ts ≡ changesWhere sys test (load sys) ts
     counted test =
-        run-counts sys refines test ts (startM b m) (start-inv b sound m)
+        run-counts refines test ts (startM b m) (start-inv b sound m)
         ∙ ap (λ (st : State). changesWhere sys test st ts) (start-view b sound m)
 
     pub under-changes : g .changes ≡ changesWhere sys (λ t. true) (load sys) ts
@@ -93,51 +94,33 @@ module _ (b : List ℕ) (sound : planFault b ≡ none) where
           omega (arith, under-polls, f .polls),
         )
 
+    -- what one turn more adds to a count
+    more : (test : Turn → Bool) (t : Turn)
+        → changesWhereM sys test (startM b m) (ts ++ (t ∷ []))
+        ≡ changesWhereM sys test (startM b m) ts + one (test t && isSome (stepM sys (machine cells (g .tally)) t))
+    more test t = rw (at .stands) (count-next (stepM sys) test ts t (startM b m))
+
     -- one turn more
     pub at-next : (t : Turn) (cells′ : List ℕ) (g′ : Progress)
         → machine cells′ (g′ .tally) ≡ afterM sys (machine cells (g .tally)) t
         → g′ .changes ≡ g .changes + one (isSome (stepM sys (machine cells (g .tally)) t))
-        → g′ .sends ≡ g .sends + one (isSome (stepM sys (machine cells (g .tally)) t) && isSend t)
-        → g′ .polls ≡ g .polls + one (isSome (stepM sys (machine cells (g .tally)) t) && isPoll t)
+        → g′ .sends ≡ g .sends + one (isSend t && isSome (stepM sys (machine cells (g .tally)) t))
+        → g′ .polls ≡ g .polls + one (isPoll t && isSome (stepM sys (machine cells (g .tally)) t))
         → At b m (ts ++ (t ∷ [])) cells′ g′
-    unfolding playM countM
     at-next t cells′ g′ moved changes sends polls = record {
-      stands =
-          moved ∙ ap (λ (s : Machine). afterM sys s t) (at .stands) ∙ sym (playM-append sys ts (t ∷ []) (startM b m));
-      changes =
-          more (λ t. true) (g .changes) (g′ .changes) (at .changes)
-          (changes
-          ∙ ap (λ (c : Bool). g .changes + one c)
-          (sym (and-true (isSome (stepM sys (machine cells (g .tally)) t)) {b = true} refl)));
-      sends = more isSend (g .sends) (g′ .sends) (at .sends) sends;
-      polls = more isPoll (g .polls) (g′ .polls) (at .polls) polls;
+      stands = moved ∙ ap (λ (s : Machine). afterM sys s t) (at .stands) ∙ sym (play-next (stepM sys) ts t (startM b m));
+      changes = omega (arith, at .changes, more (λ t. true) t);
+      sends = omega (arith, at .sends, more isSend t);
+      polls = omega (arith, at .polls, more isPoll t);
     }
-      where
-        more : (test : Turn → Bool) (n n′ : ℕ) → n ≡ countM sys test (startM b m) ts
-            → n′ ≡ n + one (isSome (stepM sys (machine cells (g .tally)) t) && test t)
-            → n′ ≡ countM sys test (startM b m) (ts ++ (t ∷ []))
-        more test n n′ p q =
-            omega (
-              arith,
-              countM-append sys test ts (t ∷ []) (startM b m),
-              ap (λ (s : Machine). one (isSome (stepM sys s t) && test t)) (at .stands),
-            )
 
     -- and what one turn more has done
     pub at-after : (t : Turn) (cells′ : List ℕ) (g′ : Progress) → At b m (ts ++ (t ∷ [])) cells′ g′
         → (machine cells′ (g′ .tally) ≡ afterM sys (machine cells (g .tally)) t)
         × (g′ .changes ≡ g .changes + one (isSome (stepM sys (machine cells (g .tally)) t)))
-    unfolding playM countM
     at-after t cells′ g′ later = (
-      later .stands ∙ playM-append sys ts (t ∷ []) (startM b m) ∙ ap (λ (s : Machine). afterM sys s t) (sym (at .stands)),
-      omega (
-        arith,
-        later .changes,
-        at .changes,
-        countM-append sys (λ t. true) ts (t ∷ []) (startM b m),
-        ap (λ (s : Machine). one (isSome (stepM sys s t))) (at .stands),
-        ap one (and-true (isSome (stepM sys (playM sys (startM b m) ts) t)) {b = true} refl),
-      ),
+      later .stands ∙ play-next (stepM sys) ts t (startM b m) ∙ ap (λ (s : Machine). afterM sys s t) (sym (at .stands)),
+      omega (arith, later .changes, at .changes, more (λ t. true) t),
     )
 
 -- ---- lists of turns, one after the other

@@ -1,16 +1,16 @@
 -- A list of turns in memory: the machine after it, and how many of its turns that pass a test changed something.
-use Prim.Native.Nat.{ℕ, _+_, _/_, _%_, _<_, _≤_}
-use mathlib.Core.Bool.{Bool, true, false, _&&_}
-use mathlib.Core.List.{List, [], _∷_, _++_}
+use Prim.Native.Nat.{ℕ, _/_, _%_, _<_, _≤_}
+use mathlib.Core.Bool.{Bool, true, false}
+use mathlib.Core.List.{List, _++_}
 use mathlib.Core.Option.{Option, none}
 use mathlib.Core.Path.{_≡_}
 use lib.ListN.{length, replicate}
-use Rattle.base.specs.Below.{one}
+use Rattle.disac4.specs.Fold.{playBy, countBy}
 use Rattle.disac4.specs.Outcome.{overwrite, workNeed, systemAt}
 use Rattle.disac4.specs.Report.{final, isPoll, isSend, listCells, lowestEmpty, reportOf, statusOf}
 use Rattle.disac4.specs.State.{State}
 use Rattle.disac4.specs.System.{System}
-use Rattle.disac4.specs.Turn.{Turn, turn, isSome}
+use Rattle.disac4.specs.Turn.{Turn, turn}
 use Rattle.disac4.specs.declared.Report.{Report}
 use Rattle.disac4.specs.declared.Tally.{Tally}
 use Rattle.index.specs.Allowed.{Listed}
@@ -19,7 +19,7 @@ use Rattle.cells.specs.Layout.{WORKERS, WORK, HEAD, TAIL}
 use Rattle.cells.specs.Memory.{clearedM, Mem, memOf}
 use Rattle.loading.specs.Load.{loadM}
 use Rattle.controller.specs.Controller.{Machine, machine}
-use Rattle.refinement.specs.Step.{readM, workerM, stepM, afterM}
+use Rattle.refinement.specs.Step.{readM, workerM, stepM}
 use Rattle.cells.specs.View.{view}
 use Rattle.refinement.specs.declared.Progress.{Progress}
 use Rattle.plan.specs.Decode.{planFault}
@@ -39,13 +39,13 @@ freshTally = record {
   closed = false;
 }
 
-unfoldable pub playM : System → Machine → List Turn → Machine
-playM sys s [] = s
-playM sys s (t ∷ ts) = playM sys (afterM sys s t) ts
+-- the machine after a list of turns
+abbrev pub playM : System → Machine → List Turn → Machine
+playM sys = playBy (stepM sys)
 
-unfoldable pub countM : System → (Turn → Bool) → Machine → List Turn → ℕ
-countM sys test s [] = 0
-countM sys test s (t ∷ ts) = one (isSome (stepM sys s t) && test t) + countM sys test (afterM sys s t) ts
+-- how many turns of the list pass a test and changed something
+abbrev pub changesWhereM : System → (Turn → Bool) → Machine → List Turn → ℕ
+changesWhereM sys = countBy (stepM sys)
 
 -- the machine as loaded from an accepted plan's bytes, whatever the memory held before
 unfoldable pub startM : List ℕ → Mem → Machine
@@ -54,9 +54,9 @@ startM b m = record { mem = loadM (systemAt b) (indexM b (clearedM m)); tally = 
 -- how far a run has come: from the loaded plan it has played these turns, with their counts
 pub record At (b : List ℕ) (m : Mem) (ts : List Turn) (cells : List ℕ) (g : Progress) : Type 0 where
   pub stands : machine cells (g .tally) ≡ playM (systemAt b) (startM b m) ts
-  pub changes : g .changes ≡ countM (systemAt b) (λ t. true) (startM b m) ts
-  pub sends : g .sends ≡ countM (systemAt b) isSend (startM b m) ts
-  pub polls : g .polls ≡ countM (systemAt b) isPoll (startM b m) ts
+  pub changes : g .changes ≡ changesWhereM (systemAt b) (λ t. true) (startM b m) ts
+  pub sends : g .sends ≡ changesWhereM (systemAt b) isSend (startM b m) ts
+  pub polls : g .polls ≡ changesWhereM (systemAt b) isPoll (startM b m) ts
 
 -- what the code asks of cells and tally to play a turn: the plan's index, marks of workers only, and on every work list
 -- labels of the plan

@@ -1,8 +1,9 @@
 -- One turn in memory.
 use Prim.Native.Nat.{ℕ, _-_}
 use mathlib.Core.Bool.{cond, _||_, not}
-use mathlib.Core.Option.{Option, none, some, Option·getD}
+use mathlib.Core.Option.{Option, none, some}
 use lib.Dec.{eqb}
+use Rattle.disac4.specs.Fold.{afterBy}
 use Rattle.disac4.specs.System.{System}
 use Rattle.disac4.specs.Turn.{Turn, treatNumber, sendNumber, answerNumber, pollNumber, allowed}
 use Rattle.disac4.specs.declared.Tally.{Tally}
@@ -35,5 +36,6 @@ stepM sys s t =
     (cond (eqb (t .action) pollNumber) (pollM s) (hearM sys (t .action - 1) s))
     (withMem (s .tally) (workerM sys (t .actor - 1) (t .action) s)))
 
-unfoldable pub afterM : System → Machine → Turn → Machine
-afterM sys s t = Option·getD (stepM sys s t) s
+-- the machine after a turn
+abbrev pub afterM : System → Machine → Turn → Machine
+afterM sys = afterBy (stepM sys)

@@ -5,15 +5,16 @@ use mathlib.Core.List.{List, [], _++_, append-assoc, append-nil}
 use mathlib.Core.Path.{_≡_, refl, sym, _∙_, ap, subst}
 use lib.ListN.{length}
 use Rattle.disac4.proofs.Demands.{Reached}
+use Rattle.disac4.proofs.Fold.{play-append}
 use Rattle.disac4.proofs.Potential.{potential}
-use Rattle.disac4.proofs.RoundRun.{play-append}
+use Rattle.disac4.specs.Fold.{playBy}
 use Rattle.disac4.specs.Loading.{load}
 use Rattle.disac4.specs.Outcome.{systemAt}
 use Rattle.disac4.specs.Report.{final}
 use Rattle.disac4.specs.Round.{round, roundRunTurns}
 use Rattle.disac4.specs.State.{State}
 use Rattle.disac4.specs.System.{System, Sound}
-use Rattle.disac4.specs.Turn.{Turn, play}
+use Rattle.disac4.specs.Turn.{Turn, step, play}
 use Rattle.engine.proofs.Playing.{goes-after}
 use Rattle.rounds.proofs.RoundsLeft.{left, roundOn, left-loaded, left-closed, left-lowers, left-open}
 use Rattle.engine.proofs.RunLaws.{workers-are}
@@ -46,7 +47,7 @@ module _ (b cells₀ : List ℕ) (g₀ : Progress) (start : Begun b cells₀ g�
 
   -- where the loop begins
   pub no-round : Rounding b cells₀ g₀ cells₀ g₀
-  unfolding final play
+  unfolding final playBy
   no-round = record {
     same = refl;
     turns = [];
@@ -98,7 +99,7 @@ module _ (b cells₀ : List ℕ) (g₀ : Progress) (start : Begun b cells₀ g�
       moved =
           under-view b (start .going .sound) (rounding-goes .before) (played ++ round (sys .workers)) cells′ g′
           (whole-round (rounding-goes .before) played (rounding-goes .at))
-          ∙ play-append sys played (round (sys .workers)) (load sys)
+          ∙ play-append (step sys) played (round (sys .workers)) (load sys)
           ∙ ap (roundOn sys) (sym seen)
 
       -- so the loop ends
