@@ -155,7 +155,7 @@ pub answerable-bound : {sys : System} → Sound sys → (ts : List Turn) (k : �
 answerable-bound {sys} sound ts k w =
     omega (
       arith,
-      timestamp-of-run sys ts,
+      timestamp-of-run sound ts,
       kept sys (sound .few) (λ st es. Typed sys st × (answerable st k ≤ st .controller .timestamp))
           (λ st es s new o h move. (typed-move (h .0) move, omega (arith, h .1, answerable-move sys st k w (h .0) move)))
           ts (load sys) (typed-load sys, (unfold load in omega arith)) .1,

@@ -27,7 +27,7 @@ module _ (sys : System) (few : sys .workers ≤ 8) where
     where
       go : Effect sys st t → one (changes sys st t) + potential sys (after sys st t) ≤ potential sys st
       go (idle c a e) = omega (arith, ap one c, ap (potential sys) a)
-      go (acts c o l m) = omega (arith, ap one c, potential-falls sys st m)
+      go (acts c o l m u) = omega (arith, ap one c, potential-falls sys st m)
 
   -- the report counts a turn exactly if the state after it differs from the state before
   pub changes-exactly : (st : State) (t : Turn) → (changes sys st t ≡ true) ↔ (after sys st t ≡ st → ⊥)
@@ -38,7 +38,7 @@ module _ (sys : System) (few : sys .workers ≤ 8) where
     where
       go : Effect sys st t → (after sys st t ≡ st → ⊥) → changes sys st t ≡ true
       go (idle c a e) h = absurd (h a)
-      go (acts c o l m) h = c
+      go (acts c o l m u) h = c
 
   -- the turns that change something and what is left of the potential are at most the potential before
   pub turns-bounded : (ts : List Turn) (st : State)

@@ -10,7 +10,7 @@ use Rattle.base.proofs.Bools.{clash, refuted, and-left}
 use Rattle.base.proofs.Sums.{sum-none}
 use Rattle.base.proofs.Weight.{weigh}
 use Rattle.disac4.proofs.Channels.{into}
-use Rattle.disac4.proofs.Closing.{Agreed, Idle, Closing}
+use Rattle.disac4.proofs.Closing.{Agreed, AtRest, Closing}
 use Rattle.disac4.proofs.Conservation.{Conserved}
 use Rattle.disac4.proofs.Moves.{Moves, treats, sends, reads, takes-poll, ignores, answers, asks, tallies, marks, drops, discards}
 use Rattle.disac4.proofs.Sound.{isList, Quiet}
@@ -59,20 +59,20 @@ all-marked-quiet {sys} {st} es conserved g o all =
     quiet : Agreed sys (st .controller .timestamp) (st .controller .marked) (st .channel) (st .listCounter) (st .workList)
         (st .toSend) → Quiet sys st
     quiet x = record {
-      no-work = λ k w. idle k w .no-work;
-      no-send = λ k w. idle k w .no-send;
+      no-work = λ k w. rests k w .no-work;
+      no-send = λ k w. rests k w .no-send;
       no-list = λ j k h b. sum-none (suc (sys .workers)) (λ j. weigh isList (st .channel j k)) (none-to k b) j (omega arith);
     }
       where
-        idle : (k : ℕ) → Worker sys k → Idle (st .listCounter) (st .workList) (st .toSend) k
-        idle k w = ⊎-elim (λ y. clash (is-marked k w) (y .unmarked)) (λ y. y) (x .each k w)
+        rests : (k : ℕ) → Worker sys k → AtRest (st .listCounter) (st .workList) (st .toSend) k
+        rests k w = ⊎-elim (λ y. clash (is-marked k w) (y .unmarked)) (λ y. y) (x .each k w)
 
         none-to : (k : ℕ) → k ≤ sys .workers → into isList (sys .workers) (st .channel) k ≡ 0
         none-to zero b = x .all-read
         none-to (suc k) b =
             omega (
               arith,
-              idle (suc k) (record { above = omega arith; within = b }) .counts,
+              rests (suc k) (record { above = omega arith; within = b }) .counts,
               conserved (suc k) b,
               conserved 0 (omega arith),
               x .all-read,

@@ -44,15 +44,15 @@ pub record Waiting (n : ℕ) (marked : ℕ → Bool) (c : Channels) (k : ℕ) : 
   pub no-reply : replied n (c k 0) ≡ false
 
 -- worker `k` has nothing to do, and counts as many lists as the controller
-pub record Idle (C : ℕ → ℕ) (W O : ℕ → List Label) (k : ℕ) : Type 0 where
+pub record AtRest (C : ℕ → ℕ) (W O : ℕ → List Label) (k : ℕ) : Type 0 where
   pub no-work : W k ≡ []
   pub no-send : O k ≡ []
   pub counts : C k ≡ C 0
 
--- the controller has read every list message, and whoever replied is idle
+-- the controller has read every list message, and whoever replied is at rest
 pub record Agreed (sys : System) (n : ℕ) (marked : ℕ → Bool) (c : Channels) (C : ℕ → ℕ) (W O : ℕ → List Label) : Type 0 where
   pub all-read : into isList (sys .workers) c 0 ≡ 0
-  pub each : (k : ℕ) → Worker sys k → Waiting n marked c k ⊎ Idle C W O k
+  pub each : (k : ℕ) → Worker sys k → Waiting n marked c k ⊎ AtRest C W O k
 
 -- what holds of an open poll
 abbrev pub Poised : System → ℕ → (ℕ → Bool) → Channels → (ℕ → ℕ) → (ℕ → List Label) → (ℕ → List Label) → Type 0
@@ -75,14 +75,14 @@ module _ {sys : System} {n : ℕ} {marked marked′ : ℕ → Bool} {c d : Chann
 
   agreed-map : {C C′ : ℕ → ℕ} {W W′ O O′ : ℕ → List Label}
       → into isList (sys .workers) d 0 ≡ into isList (sys .workers) c 0
-      → ((k : ℕ) → Worker sys k → Waiting n marked c k ⊎ Idle C W O k → Waiting n marked′ d k ⊎ Idle C′ W′ O′ k)
+      → ((k : ℕ) → Worker sys k → Waiting n marked c k ⊎ AtRest C W O k → Waiting n marked′ d k ⊎ AtRest C′ W′ O′ k)
       → Agreed sys n marked c C W O → Agreed sys n marked′ d C′ W′ O′
   agreed-map e f x = record { all-read = e ∙ x .all-read; each = λ k w. f k w (x .each k w) }
 
--- no channel to the controller changes, and no worker that is idle gets something to do
+-- no channel to the controller changes, and no worker that is at rest gets something to do
 still : {sys : System} {n : ℕ} {marked : ℕ → Bool} {c d : Channels} {C C′ : ℕ → ℕ} {W W′ O O′ : ℕ → List Label}
     → ((k : ℕ) → d k 0 ≡ c k 0)
-    → (into isList (sys .workers) c 0 ≡ 0 → (k : ℕ) → Worker sys k → Idle C W O k → Idle C′ W′ O′ k)
+    → (into isList (sys .workers) c 0 ≡ 0 → (k : ℕ) → Worker sys k → AtRest C W O k → AtRest C′ W′ O′ k)
     → Poised sys n marked c C W O → Poised sys n marked d C′ W′ O′
 still {sys} {n} {marked} {c} {d} same f (inl x) = inl (doomed-map (λ k w u e. (u, rw (same k) e)) x)
 still {sys} {n} {marked} {c} {d} same f (inr x) =
@@ -113,7 +113,7 @@ module _ (sys : System) (st : State) where
   aside : (j k : ℕ) (l : List Message) → Worker sys k → (i : ℕ) → update₂ (st .channel) j k l i 0 ≡ st .channel i 0
   aside j k l w i = update₂-second (st .channel) j k l i 0 (not-controller w)
 
-  -- worker `k` treats a label: it was not idle
+  -- worker `k` treats a label: it was not at rest
   treating : (k : ℕ) (a : Label) (rest W O : List Label) → st .workList k ≡ a ∷ rest → Now
       → With marked (st .channel) (st .listCounter) (update (st .workList) k W) (update (st .toSend) k O)
   treating k a rest W O e =
@@ -128,7 +128,7 @@ module _ (sys : System) (st : State) where
         }
       ])
 
-  -- worker `k` reads a list message: with all read by the controller, it was not idle
+  -- worker `k` reads a list message: with all read by the controller, it was not at rest
   reading : (es : List Event) → Conserved sys st es
       → (j k m : ℕ) (labels : List Label) (rest : List Message) (W : List Label) → Worker sys k → j ≤ sys .workers
       → st .channel j k ≡ list labels ∷ rest → Now
@@ -162,7 +162,7 @@ module _ (sys : System) (st : State) where
       → Doomed sys n marked (st .channel) → Doomed sys n marked d
   doomed-still d keeps = doomed-map (λ i v u f. (u, keeps i 0 f))
 
-  -- worker `k` sends: it was not idle, so it had not replied, and its list message dooms the poll
+  -- worker `k` sends: it was not at rest, so it had not replied, and its list message dooms the poll
   sending : (k : ℕ) (C : ℕ → ℕ) (O : ℕ → List Label) → Worker sys k → isEmpty (st .toSend k) ≡ false → Now
       → With marked (broadcast (sys .workers) k (list (st .toSend k)) (st .channel)) C (st .workList) O
   sending k C O w e (inl x) =
@@ -214,26 +214,26 @@ module _ (sys : System) (st : State) where
       inr)
       x)
 
-  -- worker `k`, which is idle if this is the open poll, replies to it
+  -- worker `k`, which is at rest if this is the open poll, replies to it
   answering : (k : ℕ) (m : Message) → Worker sys k → isList m ≡ 0
-      → (isReply n m ≡ true → Idle (st .listCounter) (st .workList) (st .toSend) k) → Now
+      → (isReply n m ≡ true → AtRest (st .listCounter) (st .workList) (st .toSend) k) → Now
       → With marked (update₂ (st .channel) k 0 (st .channel k 0 ++ (m ∷ []))) (st .listCounter) (st .workList) (st .toSend)
-  answering k m w no-list idle (inl x) =
+  answering k m w no-list rests (inl x) =
       inl
       (doomed-still _
       (update₂-each (λ j i l. listFirst n (st .channel j i) ≡ true → listFirst n l ≡ true) (st .channel) k 0 _
       (first-append n (st .channel k 0) (m ∷ [])) (λ j i n y. y))
       x)
-  answering k m w no-list idle (inr x) =
+  answering k m w no-list rests (inr x) =
       inr
       (agreed-map (omega (arith, into-put isList (sys .workers) (st .channel) k 0 m (w .within)))
       (λ i v. ⊎-elim (λ y. waiting i y (decided (isReply n m))) inr) x)
     where
-      after : Channels
-      after = update₂ (st .channel) k 0 (st .channel k 0 ++ (m ∷ []))
+      grown : Channels
+      grown = update₂ (st .channel) k 0 (st .channel k 0 ++ (m ∷ []))
 
       waiting : (i : ℕ) → Waiting n marked (st .channel) i → (isReply n m ≡ true) ⊎ (isReply n m ≡ false)
-          → Waiting n marked after i ⊎ Idle (st .listCounter) (st .workList) (st .toSend) i
+          → Waiting n marked grown i ⊎ AtRest (st .listCounter) (st .workList) (st .toSend) i
       waiting i y (inr r) =
           inl
           (record {
@@ -244,7 +244,7 @@ module _ (sys : System) (st : State) where
           })
       waiting i y (inl r) =
           elim (ℕ-discrete i k) [
-            | yes same ↦ inr (rw same (idle r))
+            | yes same ↦ inr (rw same (rests r))
             | no other ↦ inl (record {
               unmarked = y .unmarked;
               no-reply = rw (update₂-first (st .channel) k 0 (st .channel k 0 ++ (m ∷ [])) i 0 other) (y .no-reply);
@@ -320,11 +320,11 @@ module _ (sys : System) (st : State) where
             first = rw (same (r .0)) (first-some (suc n) (st .channel (r .0) 0) (none-yet (r .0)) (r .2));
           })
 
-  -- a worker that can answer the open poll is idle
-  ready-idle : Typed sys st → st .controller .pollOpen ≡ true → (k : ℕ) (q : Poll) → st .held k ≡ some q
-      → ready k q st ≡ true → eqb (q .number .0) n ≡ true → Idle (st .listCounter) (st .workList) (st .toSend) k
+  -- a worker that can answer the open poll is at rest
+  ready-rests : Typed sys st → st .controller .pollOpen ≡ true → (k : ℕ) (q : Poll) → st .held k ≡ some q
+      → ready k q st ≡ true → eqb (q .number .0) n ≡ true → AtRest (st .listCounter) (st .workList) (st .toSend) k
   unfolding ready
-  ready-idle t o k q e r same =
+  ready-rests t o k q e r same =
       let no-work : Bool = isEmpty (st .workList k) in
       let no-send : Bool = isEmpty (st .toSend k) in
       let counts : Bool = eqb (st .listCounter k) (q .wanted .0) in
@@ -347,7 +347,7 @@ module _ (sys : System) (st : State) where
   closing-move es t conserved g (takes-poll j k q rest w h d e) o = still (aside j k rest w) (λ r i v x. x) (g o)
   closing-move es t conserved g (ignores j k i rest w h d e) o = still (aside j k rest w) (λ r i v x. x) (g o)
   closing-move es t conserved g (answers k q w e r) o =
-      answering k (reply (q .number)) w refl (ready-idle t o k q e r) (g o)
+      answering k (reply (q .number)) w refl (ready-rests t o k q e r) (g o)
   closing-move es t conserved g (asks e) o = asking t _ (λ i. broadcast-self (sys .workers) 0 _ (st .channel) i)
   closing-move es t conserved g (tallies k labels rest w e) o = absurd (false≢true o)
   closing-move es t conserved g (marks k i rest w e r) o =

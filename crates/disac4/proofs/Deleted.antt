@@ -6,6 +6,7 @@ use mathlib.Core.Path.{_≡_, refl, sym, _∙_, ap}
 use native.Mathlib.Decide.{ℕ-discrete}
 use borrow.Author.Tests.{ne-eqb}
 use lib.Dec.{eqb}
+use Rattle.base.proofs.Bools.{and-true}
 use Rattle.base.specs.Below.{one}
 use Rattle.network.proofs.Labels.{labels-once}
 use Rattle.network.specs.Network.{Label, loaded, supports}
@@ -64,10 +65,6 @@ module _ (sys : System) (x v : ℕ) where
     treat-deletes-own j n =
         elim (ℕ-discrete (sys .owner x) j) [
           | yes e ↦ rw (ne-eqb (sys .owner x) k (λ p. n (sym e ∙ p))) (
-              ap (λ (b : Bool). one (eqb (sys .owner x) j && (loaded (sys .net) x v && not b))) (kept (st .domain x v)))
+              ap (λ (b : Bool). one (eqb (sys .owner x) j && (loaded (sys .net) x v && not b))) (and-true (st .domain x v) {b = true} refl))
           | no d ↦ rw (ne-eqb (sys .owner x) j d)
         ]
-      where
-        kept : (d : Bool) → d && true ≡ d
-        kept true = refl
-        kept false = refl

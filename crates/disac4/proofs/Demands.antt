@@ -1,9 +1,9 @@
 -- Demands 2 and 3 and the round, for every accepted plan, from the plan's bytes.
 use Prim.Native.Nat.{ℕ, zero, suc}
-use mathlib.Core.Bool.{true, false}
-use mathlib.Core.List.{List, [], _++_}
+use mathlib.Core.Bool.{true}
+use mathlib.Core.List.{List}
 use mathlib.Core.Logic.{⊎-elim}
-use mathlib.Core.Path.{_≡_, refl, sym, _∙_, ap, subst}
+use mathlib.Core.Path.{_≡_, _∙_}
 use Rattle.base.proofs.Bools.{decided}
 use Rattle.base.proofs.Each.{Each, each-append, each-all}
 use Rattle.network.proofs.Chain.{untied-keeps}
@@ -22,17 +22,16 @@ use Rattle.disac4.proofs.Final.{closed-stays, domain-shrinks}
 use Rattle.disac4.proofs.Fold.{play-append}
 use Rattle.disac4.proofs.Largest.{never-lost, quiet-largest}
 use Rattle.disac4.proofs.Progress.{progress}
-use Rattle.disac4.proofs.RoundRun.{Advances, turns-closed, turns-open, round-run-closes, round-run-complete}
+use Rattle.disac4.proofs.RoundRun.{turns-closed, turns-open, round-run-closes, round-run-complete}
 use Rattle.disac4.proofs.Rounds.{round-allowed}
 use Rattle.disac4.proofs.Safety.{closed-quiet}
 use Rattle.disac4.specs.Demands.{closedAfter, Demand2, Demand3, RoundCloses}
-use Rattle.disac4.specs.Fold.{playBy}
 use Rattle.disac4.specs.Loading.{load}
 use Rattle.disac4.specs.Report.{final}
 use Rattle.disac4.specs.Round.{round, roundTurns, roundRunTurns}
 use Rattle.disac4.specs.State.{State}
 use Rattle.disac4.specs.System.{System, systemOf, boundOf, Sound}
-use Rattle.disac4.specs.Turn.{Turn, allowed, step, changes, play}
+use Rattle.disac4.specs.Turn.{Turn, allowed, step, play}
 
 module _ (sys : System) (sound : Sound sys) (ts : List Turn) where
   -- demand 3, for a system
@@ -74,26 +73,7 @@ module _ (sys : System) (sound : Sound sys) (ts : List Turn) where
 
 -- ---- the round
 
--- a state that some turns reach
-abbrev pub Reached : System → State → Type 0
-Reached sys st = (ts : List Turn) × (play sys (load sys) ts ≡ st)
-
 module _ (sys : System) (sound : Sound sys) where
-  pub reached-advances : Advances sys (Reached sys)
-  reached-advances = record {
-    carried = λ st us r. (r .0 ++ us, play-append (step sys) (r .0) us (load sys) ∙ ap (λ (s : State). play sys s us) (r .1));
-    progress = λ st r running.
-        let p = progress sound (r .0) (subst (λ (s : State). s .controller .closed ≡ false) (sym (r .1)) running) in
-        (p .0, subst (λ (s : State). changes sys s (p .0) ≡ true) (r .1) (p .2));
-  }
-
-  pub from-load : Reached sys (load sys)
-  unfolding playBy
-  from-load = ([], refl)
-
-  closes : play sys (load sys) (roundRunTurns sys) .controller .closed ≡ true
-  closes = round-run-closes sys sound (Reached sys) reached-advances from-load
-
   -- the turns of any number of rounds are allowed
   rounds-allowed : (fuel : ℕ) (st : State) → Each (λ t. allowed (sys .workers) t ≡ true) (roundTurns sys fuel st)
   unfolding roundTurns
@@ -112,11 +92,11 @@ module _ (sys : System) (sound : Sound sys) where
   unfolding final closedAfter roundRunTurns
   round-closes = record {
     all-allowed = each-all (allowed (sys .workers)) (roundRunTurns sys) (rounds-allowed (suc (boundOf sys)) (load sys));
-    closes = closes;
-    fuel-left = round-run-complete sys sound (Reached sys) reached-advances from-load;
+    closes = round-run-closes sys sound;
+    fuel-left = round-run-complete sys sound;
     then-idle =
         play-append (step sys) (roundRunTurns sys) (round (sys .workers)) (load sys)
-        ∙ closed-stays sys (play sys (load sys) (roundRunTurns sys)) closes (round (sys .workers));
+        ∙ closed-stays sys (play sys (load sys) (roundRunTurns sys)) (round-run-closes sys sound) (round (sys .workers));
   }
 
 -- ---- accepted plans

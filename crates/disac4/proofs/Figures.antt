@@ -1,32 +1,33 @@
 -- The figures of a run: the timestamp is the number of polls that changed something, no count of lists is above the number
 -- of such sends, and the lowest empty slot is one of the plan's, or 0.
 use Prim.Native.Nat.{ℕ, suc, _+_, _≤_}
-use mathlib.Core.Bool.{Bool, true, false, cond, _&&_, _||_, not}
+use mathlib.Core.Bool.{Bool, true, false, cond, _&&_}
 use mathlib.Core.List.{List, [], _∷_}
 use mathlib.Core.Option.{Option, none, some, Option·getD}
-use mathlib.Core.Path.{_≡_, refl, _∙_, ap, subst}
+use mathlib.Core.Path.{_≡_, refl, _∙_, ap}
 use native.Mathlib.Omega.{arith}
+use borrow.Author.Tests.{ne-eqb}
 use lib.Dec.{eqb}
 use Rattle.base.proofs.Below.{first-below}
-use Rattle.base.proofs.Bools.{and-true, and-never}
+use Rattle.base.proofs.Bools.{and-true, and-false-right}
 use Rattle.base.proofs.Choice.{unless-some, some-same}
 use Rattle.base.proofs.Weight.{weigh, weigh-append}
 use Rattle.base.specs.Below.{one, anyBelow, firstBelow}
 use Rattle.network.specs.Network.{Label}
 use Rattle.disac4.proofs.Channels.{into}
 use Rattle.disac4.proofs.Conservation.{isSent}
-use Rattle.disac4.proofs.Fold.{by-step, count-keeps}
+use Rattle.disac4.proofs.Fold.{count-keeps}
+use Rattle.disac4.proofs.Moves.{Moves, treats, sends, reads, takes-poll, ignores, answers, asks, tallies, marks, drops, discards, turnOf, Effect, idle, acts, effect}
 use Rattle.disac4.proofs.Safety.{safe-run}
 use Rattle.disac4.proofs.Sound.{isList}
-use Rattle.disac4.specs.Action.{isEmpty, treat, treatFrom, afterTreat, send, afterSend, readFrom, readWorker, afterList, afterPoll, afterDrop, ready, answer, answerTo, afterAnswer, ask, afterAsk, current, controllerFrom, readController, afterCount, afterMark}
-use Rattle.disac4.specs.Event.{sent, eventsAt, events, treatEvent, readEvent, isTreat, isRead}
+use Rattle.disac4.specs.Action.{afterTreat, afterSend, afterList, afterPoll, afterDrop, afterAnswer, afterAsk, afterCount, afterMark}
+use Rattle.disac4.specs.Event.{Event, sent, eventsAt, events, treatEvent, readEvent, isTreat, isRead}
 use Rattle.disac4.specs.Fold.{gatherBy, countBy}
 use Rattle.disac4.specs.Loading.{load}
 use Rattle.disac4.specs.Report.{lowestEmpty, isSend, isPoll}
 use Rattle.disac4.specs.State.{State, Message, list, poll, reply}
-use Rattle.disac4.specs.System.{System, Sound}
-use Rattle.disac4.specs.Turn.{Turn, pollNumber, treatNumber, sendNumber, answerNumber, allowed, workerStep, controllerStep, step, after, play, changes, changesWhere}
-use Rattle.disac4.specs.declared.Poll.{Poll}
+use Rattle.disac4.specs.System.{System, Worker, Sound}
+use Rattle.disac4.specs.Turn.{Turn, turn, treatNumber, sendNumber, answerNumber, pollNumber, step, after, play, changes, changesWhere}
 
 -- ---- sends
 
@@ -85,90 +86,46 @@ list-counter-bound sound ts k b = omega (arith, lists-of-run sound ts k b)
 
 -- ---- polls
 
-module _ (sys : System) (st : State) where
-  -- a step that is not idle adds `n` to the timestamp
-  abbrev Adds : ℕ → Option State → Type 0
-  Adds n none = Unit
-  Adds n (some s) = s .controller .timestamp ≡ st .controller .timestamp + n
+module _ (sys : System) (few : sys .workers ≤ 8) where
+  -- a worker's turn is no poll
+  of-worker : (k d : ℕ) → Worker sys k → one (isPoll (turn k d)) ≡ 0
+  of-worker k d w = ap (λ (b : Bool). one (b && eqb d pollNumber)) (ne-eqb k 0 (λ e. omega (arith, w .above)))
 
-  adds-cond : (n : ℕ) (b : Bool) (x y : Option State) → Adds n x → Adds n y → Adds n (cond b x y)
-  adds-cond n true x y h g = h
-  adds-cond n false x y h g = g
+  -- nor is the controller's read
+  from-worker : (k : ℕ) → Worker sys k → one (isPoll (turn 0 k)) ≡ 0
+  from-worker k w = ap one (ne-eqb k pollNumber (λ e. omega (arith, w .within)))
 
-  treat-adds : (k : ℕ) (l : List Label) → Adds 0 (treatFrom sys k st l)
-  unfolding afterTreat
-  treat-adds k [] = tt
-  treat-adds k (a ∷ l) = omega arith
+  -- a poll adds one to the timestamp, and no other move does
+  move-adds : {st s : State} {es : List Event} (m : Moves sys st s es)
+      → s .controller .timestamp ≡ st .controller .timestamp + one (isPoll (turnOf m))
+  unfolding afterTreat afterSend afterList afterPoll afterDrop afterAnswer afterAsk afterCount afterMark
+  move-adds (treats k a rest w e) = omega (arith, of-worker k treatNumber w)
+  move-adds (sends k w e) = omega (arith, of-worker k sendNumber w)
+  move-adds (reads j k labels rest w h n e) = omega (arith, of-worker k j w)
+  move-adds (takes-poll j k q rest w h n e) = omega (arith, of-worker k j w)
+  move-adds (ignores j k i rest w h n e) = omega (arith, of-worker k j w)
+  move-adds (answers k q w e r) = omega (arith, of-worker k answerNumber w)
+  move-adds (asks e) = omega arith
+  move-adds (tallies k labels rest w e) = omega (arith, from-worker k w)
+  move-adds (marks k n rest w e c) = omega (arith, from-worker k w)
+  move-adds (drops k n rest w e c) = omega (arith, from-worker k w)
+  move-adds (discards k q rest w e) = omega (arith, from-worker k w)
 
-  send-adds : (k : ℕ) → Adds 0 (send sys k st)
-  unfolding send afterSend
-  send-adds k = adds-cond 0 (isEmpty (st .toSend k)) none (some (afterSend sys k st)) tt (omega arith)
-
-  answer-adds : (k : ℕ) (o : Option Poll) → Adds 0 (answerTo k st o)
-  unfolding afterAnswer
-  answer-adds k none = tt
-  answer-adds k (some q) = adds-cond 0 (ready k q st) (some (afterAnswer k q st)) none (omega arith) tt
-
-  read-adds : (j k : ℕ) (l : List Message) → Adds 0 (readFrom j k st l)
-  unfolding afterList afterPoll afterDrop
-  read-adds j k [] = tt
-  read-adds j k (list labels ∷ l) = omega arith
-  read-adds j k (poll q ∷ l) = omega arith
-  read-adds j k (reply n ∷ l) = omega arith
-
-  worker-adds : (k d : ℕ) → Adds 0 (workerStep sys k d st)
-  unfolding workerStep treat answer readWorker
-  worker-adds k d =
-      adds-cond 0 (eqb d treatNumber) (treat sys k st)
-      (cond (eqb d sendNumber) (send sys k st) (cond (eqb d answerNumber) (answer k st) (readWorker d k st)))
-      (treat-adds k (st .workList k))
-      (adds-cond 0 (eqb d sendNumber) (send sys k st) (cond (eqb d answerNumber) (answer k st) (readWorker d k st))
-      (send-adds k)
-      (adds-cond 0 (eqb d answerNumber) (answer k st) (readWorker d k st)
-      (answer-adds k (st .held k)) (read-adds d k (st .channel d k))))
-
-  tally-adds : (k : ℕ) (l : List Message) → Adds 0 (controllerFrom sys k st l)
-  unfolding afterCount afterDrop afterMark
-  tally-adds k [] = tt
-  tally-adds k (list labels ∷ l) = omega arith
-  tally-adds k (poll q ∷ l) = omega arith
-  tally-adds k (reply n ∷ l) = go (current n st)
-    where
-      go : (b : Bool) → Adds 0 (some (cond b (afterMark sys k l st) (afterDrop k 0 l st)))
-      go true = omega arith
-      go false = omega arith
-
-  ask-adds : Adds 1 (ask sys st)
-  unfolding ask afterAsk
-  ask-adds = adds-cond 1 (st .controller .pollOpen) none (some (afterAsk sys st)) tt (omega arith)
-
-  step-adds : (t : Turn) → Adds (one (isPoll t)) (step sys st t)
-  unfolding step controllerStep readController
-  step-adds t =
-      adds-cond (one (isPoll t)) (st .controller .closed || not (allowed (sys .workers) t)) none
-      (cond (eqb (t .actor) 0) (controllerStep sys (t .action) st) (workerStep sys (t .actor) (t .action) st))
-      tt (go (eqb (t .actor) 0) (eqb (t .action) pollNumber))
-    where
-      go : (a b : Bool)
-          → Adds (one (a && b))
-          (cond a (cond b (ask sys st) (readController sys (t .action) st)) (workerStep sys (t .actor) (t .action) st))
-      go true true = ask-adds
-      go true false = tally-adds (t .action) (st .channel (t .action) 0)
-      go false b = worker-adds (t .actor) (t .action)
-
-  after-adds : (t : Turn)
+  after-adds : (st : State) (t : Turn)
       → after sys st t .controller .timestamp ≡ st .controller .timestamp + one (isPoll t && changes sys st t)
-  after-adds t =
-      by-step (step sys) (λ s c. s .controller .timestamp ≡ st .controller .timestamp + one (isPoll t && c)) st t
-      (λ e. omega (arith, ap one (and-never (isPoll t))))
-      (λ s e. omega (arith, ap one (and-true (isPoll t) {b = true} refl), subst (Adds (one (isPoll t))) e (step-adds t)))
+  after-adds st t = go (effect sys st few t)
+    where
+      go : Effect sys st t
+          → after sys st t .controller .timestamp ≡ st .controller .timestamp + one (isPoll t && changes sys st t)
+      go (idle c a e) = omega (arith, ap (λ (s : State). s .controller .timestamp) a, ap one (and-false-right (isPoll t) c))
+      go (acts c o l m u) = omega (arith, move-adds m, ap (λ (v : Turn). one (isPoll v)) u, ap one (and-true (isPoll t) c))
 
 -- the timestamp is the number of polls
-pub timestamp-of-run : (sys : System) (ts : List Turn)
+pub timestamp-of-run : {sys : System} → Sound sys → (ts : List Turn)
     → play sys (load sys) ts .controller .timestamp ≡ changesWhere sys isPoll (load sys) ts
-timestamp-of-run sys ts =
+timestamp-of-run {sys} sound ts =
     count-keeps (step sys) isPoll (λ st n. st .controller .timestamp ≡ n)
-    (λ st n t e. omega (arith, after-adds sys st t)) ts (load sys) (unfold load in refl)
+    (λ st n t e. omega (arith, after-adds sys (sound .few) st t)) ts (load sys) (unfold load in refl)
 
 -- ---- the lowest empty slot
 

@@ -49,7 +49,7 @@ figures-of {sys} sound few-variables labels ts = record {
   polls = omega (arith, polls-bound sound ts);
   lowest-empty = omega (arith, lowest-empty-bound sys (play sys (load sys) ts));
   list-counters = λ k h. omega (arith, list-counter-bound sound ts k h, sends-bound sound ts);
-  timestamp = omega (arith, timestamp-of-run sys ts, polls-bound sound ts);
+  timestamp = omega (arith, timestamp-of-run sound ts, polls-bound sound ts);
   queues = queues-within labels (queue-lengths sound ts);
 }
 

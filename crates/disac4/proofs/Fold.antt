@@ -23,7 +23,7 @@ module _ {S T : Type 0} (step : S → T → Option S) where
   after-move s t s′ e = rw e
 
   -- what holds of the state before an idle turn, and of the next state where it is not idle, holds of the state after it
-  pub by-step : (P : S → Bool → Type 0) (s : S) (t : T) → (step s t ≡ none → P s false)
+  by-step : (P : S → Bool → Type 0) (s : S) (t : T) → (step s t ≡ none → P s false)
       → ((s′ : S) → step s t ≡ some s′ → P s′ true) → P (afterBy step s t) (isSome (step s t))
   unfolding afterBy
   by-step P s t idle moves = go (step s t) refl

@@ -1,22 +1,24 @@
 -- An idle turn stays idle while other turns leave alone what it looks at.
 use Prim.Native.Nat.{ℕ, _<_, _≤_}
 use mathlib.Core.Bool.{Bool, true, false, cond, _&&_, _||_, not}
-use mathlib.Core.List.{List, [], _∷_}
+use mathlib.Core.List.{List}
 use mathlib.Core.Logic.{⊎-elim}
 use mathlib.Core.Option.{Option, none, some}
-use mathlib.Core.Path.{_≡_, refl, sym, _∙_, ap}
+use mathlib.Core.Path.{_≡_, refl, sym, _∙_, ap, subst}
 use native.Mathlib.Omega.{arith}
 use borrow.Author.Tests.{eqb-true, ne-eqb}
 use lib.Dec.{eqb}
-use Rattle.base.proofs.Bools.{decided, or-false, or-false-left, or-false-right}
-use Rattle.base.proofs.Choice.{none≢some, by-test, cond-true, cond-false, if-some, unless-some, some-same, update₂-first, update₂-each}
+use Rattle.base.proofs.Bools.{decided, or-false, or-false-right}
+use Rattle.base.proofs.Choice.{cond-true, cond-false, update₂-first, update₂-each}
 use Rattle.base.specs.Choice.{update₂}
 use Rattle.network.specs.Network.{Label}
 use Rattle.disac4.proofs.Channels.{broadcast-sender}
+use Rattle.disac4.proofs.Moves.{Moves, treats, sends, reads, takes-poll, ignores, answers, asks, tallies, marks, drops, discards, turnOf, moves}
 use Rattle.disac4.proofs.Progress.{none-chosen, some-refused, none-taken, read-takes, hear-takes}
-use Rattle.disac4.specs.Action.{isEmpty, treatFrom, treat, afterTreat, send, afterSend, readFrom, readWorker, afterList, afterPoll, afterDrop, answerTo, answer, ready, afterAnswer, ask, afterAsk, controllerFrom, readController, current, afterCount, afterMark}
+use Rattle.disac4.specs.Action.{isEmpty, treatFrom, treat, afterTreat, send, afterSend, readFrom, readWorker, afterList, afterPoll, afterDrop, answerTo, answer, ready, afterAnswer, ask, afterAsk, controllerFrom, readController, afterCount, afterMark}
+use Rattle.disac4.specs.Event.{Event}
 use Rattle.disac4.specs.Fold.{isSome}
-use Rattle.disac4.specs.State.{State, Message, list, poll, reply}
+use Rattle.disac4.specs.State.{State, Message}
 use Rattle.disac4.specs.declared.Poll.{Poll}
 use Rattle.disac4.specs.System.{System}
 use Rattle.disac4.specs.Turn.{Turn, treatNumber, sendNumber, answerNumber, pollNumber, allowed, workerStep, controllerStep, step}
@@ -34,93 +36,39 @@ pub record Leaves (k d : ℕ) (st s : State) : Type 0 where
   pub channel : (j i : ℕ) → (treatNumber < d → j ≡ k → ⊥) → (j ≡ d → i ≡ k → ⊥) → s .channel j i ≡ st .channel j i
   pub controller : 0 < k → s .controller ≡ st .controller
 
-module _ (sys : System) (st s : State) (k d : ℕ) where
-  -- a result that leaves all this alone, part by part
-  leaves : {a : State} → some a ≡ some s → ((i : ℕ) → (i ≡ k → ⊥) → ownOf a i ≡ ownOf st i)
-      → ((j i : ℕ) → (treatNumber < d → j ≡ k → ⊥) → (j ≡ d → i ≡ k → ⊥) → a .channel j i ≡ st .channel j i)
-      → (0 < k → a .controller ≡ st .controller) → Leaves k d st s
-  leaves e own box same = some-same (Leaves k d st) e (record { own = own; channel = box; controller = same })
+module _ (sys : System) (st : State) where
+  -- part by part
+  leaves : {k d : ℕ} {s : State} → ((i : ℕ) → (i ≡ k → ⊥) → ownOf s i ≡ ownOf st i)
+      → ((j i : ℕ) → (treatNumber < d → j ≡ k → ⊥) → (j ≡ d → i ≡ k → ⊥) → s .channel j i ≡ st .channel j i)
+      → (0 < k → s .controller ≡ st .controller) → Leaves k d st s
+  leaves own box same = record { own = own; channel = box; controller = same }
 
   -- a read changes no other channel
-  read-channel : (rest : List Message) (j i : ℕ) → (treatNumber < d → j ≡ k → ⊥) → (j ≡ d → i ≡ k → ⊥)
+  read-channel : (d k : ℕ) (rest : List Message) (j i : ℕ) → (treatNumber < d → j ≡ k → ⊥) → (j ≡ d → i ≡ k → ⊥)
       → update₂ (st .channel) d k rest j i ≡ st .channel j i
-  read-channel rest j i f =
+  read-channel d k rest j i f =
       update₂-each (λ j i l. (j ≡ d → i ≡ k → ⊥) → l ≡ st .channel j i) (st .channel) d k rest
       (λ g. absurd (g refl refl)) (λ j i n g. refl) j i
 
-  -- a worker treats
-  treat-leaves : (l : List Label) → treatFrom sys k st l ≡ some s → Leaves k d st s
-  unfolding afterTreat
-  treat-leaves [] e = none≢some e
-  treat-leaves (a ∷ rest) e = leaves e (λ i n. rw (ne-eqb i k n)) (λ j i f g. refl) (λ h. refl)
-
-  -- it sends
-  send-leaves : treatNumber < d → send sys k st ≡ some s → Leaves k d st s
-  unfolding send afterSend
-  send-leaves above e =
-      leaves (unless-some (isEmpty (st .toSend k)) e .1) (λ i n. rw (ne-eqb i k n))
-      (λ j i f g. broadcast-sender (sys .workers) k _ (st .channel) j i (f above)) (λ h. refl)
-
-  -- it answers
-  answer-leaves : treatNumber < d → (o : Option Poll) → answerTo k st o ≡ some s → Leaves k d st s
-  unfolding afterAnswer
-  answer-leaves above none e = none≢some e
-  answer-leaves above (some q) e =
-      leaves (if-some (ready k q st) e .1) (λ i n. rw (ne-eqb i k n))
-      (λ j i f g. update₂-first (st .channel) k 0 _ j i (f above)) (λ h. refl)
-
-  -- it reads
-  read-leaves : (l : List Message) → readFrom d k st l ≡ some s → Leaves k d st s
-  unfolding afterList afterPoll afterDrop
-  read-leaves [] e = none≢some e
-  read-leaves (list labels ∷ rest) e = leaves e (λ i n. rw (ne-eqb i k n)) (read-channel rest) (λ h. refl)
-  read-leaves (poll q ∷ rest) e = leaves e (λ i n. rw (ne-eqb i k n)) (read-channel rest) (λ h. refl)
-  read-leaves (reply n ∷ rest) e = leaves e (λ i n. refl) (read-channel rest) (λ h. refl)
-
-  -- by the number of its action
-  worker-leaves : workerStep sys k d st ≡ some s → Leaves k d st s
-  unfolding workerStep treat answer readWorker
-  worker-leaves e =
-      by-test (eqb d treatNumber) e (λ p f. treat-leaves (st .workList k) f)
-      (λ p e₁.
-      by-test (eqb d sendNumber) e₁ (λ q f. send-leaves (omega (arith, eqb-true d sendNumber q)) f)
-      (λ q e₂.
-      by-test (eqb d answerNumber) e₂
-      (λ r f. answer-leaves (omega (arith, eqb-true d answerNumber r)) (st .held k) f)
-      (λ r f. read-leaves (st .channel d k) f)))
-
-module _ (sys : System) (st s : State) where
-  -- the controller polls
-  ask-leaves : (d : ℕ) → treatNumber < d → ask sys st ≡ some s → Leaves 0 d st s
-  unfolding ask afterAsk
-  ask-leaves d above e =
-      leaves sys st s 0 d (unless-some (st .controller .pollOpen) e .1) (λ i n. refl)
-      (λ j i f g. broadcast-sender (sys .workers) 0 _ (st .channel) j i (f above)) (λ h. absurd (omega arith))
-
-  -- it reads
-  hear-leaves : (d : ℕ) (l : List Message) → controllerFrom sys d st l ≡ some s → Leaves 0 d st s
-  unfolding afterCount afterMark afterDrop
-  hear-leaves d [] e = none≢some e
-  hear-leaves d (list labels ∷ rest) e =
-      leaves sys st s 0 d e (λ i n. rw (ne-eqb i 0 n)) (read-channel sys st s 0 d rest) (λ h. absurd (omega arith))
-  hear-leaves d (poll q ∷ rest) e = leaves sys st s 0 d e (λ i n. refl) (read-channel sys st s 0 d rest) (λ h. refl)
-  hear-leaves d (reply n ∷ rest) e = go (current n st) e
-    where
-      go : (b : Bool) → some (cond b (afterMark sys d rest st) (afterDrop d 0 rest st)) ≡ some s → Leaves 0 d st s
-      go true e = leaves sys st s 0 d e (λ i n. refl) (read-channel sys st s 0 d rest) (λ h. absurd (omega arith))
-      go false e = leaves sys st s 0 d e (λ i n. refl) (read-channel sys st s 0 d rest) (λ h. refl)
-
-  -- every turn that is not idle
-  pub turn-leaves : (t : Turn) → step sys st t ≡ some s → Leaves (t .actor) (t .action) st s
-  unfolding step controllerStep readController
-  turn-leaves t e =
-      by-test (eqb (t .actor) 0) (unless-some (st .controller .closed || not (allowed (sys .workers) t)) e .1)
-      (λ p f.
-      rw (eqb-true (t .actor) 0 p)
-      (by-test (eqb (t .action) pollNumber) f
-      (λ q g. ask-leaves (t .action) (omega (arith, eqb-true (t .action) pollNumber q)) g)
-      (λ q g. hear-leaves (t .action) (st .channel (t .action) 0) g)))
-      (λ p f. worker-leaves sys st s (t .actor) (t .action) f)
+  move-leaves : {s : State} {es : List Event} (m : Moves sys st s es) → Leaves (turnOf m .actor) (turnOf m .action) st s
+  unfolding afterTreat afterSend afterList afterPoll afterDrop afterAnswer afterAsk afterCount afterMark
+  move-leaves (treats k a rest w e) = leaves (λ i n. rw (ne-eqb i k n)) (λ j i f g. refl) (λ h. refl)
+  move-leaves (sends k w e) =
+      leaves (λ i n. rw (ne-eqb i k n))
+      (λ j i f g. broadcast-sender (sys .workers) k _ (st .channel) j i (f (omega arith))) (λ h. refl)
+  move-leaves (reads j k labels rest w h n e) = leaves (λ i n. rw (ne-eqb i k n)) (read-channel j k rest) (λ h. refl)
+  move-leaves (takes-poll j k q rest w h n e) = leaves (λ i n. rw (ne-eqb i k n)) (read-channel j k rest) (λ h. refl)
+  move-leaves (ignores j k i rest w h n e) = leaves (λ i n. refl) (read-channel j k rest) (λ h. refl)
+  move-leaves (answers k q w e r) =
+      leaves (λ i n. rw (ne-eqb i k n)) (λ j i f g. update₂-first (st .channel) k 0 _ j i (f (omega arith))) (λ h. refl)
+  move-leaves (asks e) =
+      leaves (λ i n. refl) (λ j i f g. broadcast-sender (sys .workers) 0 _ (st .channel) j i (f (omega arith)))
+      (λ h. absurd (omega arith))
+  move-leaves (tallies k labels rest w e) =
+      leaves (λ i n. rw (ne-eqb i 0 n)) (read-channel k 0 rest) (λ h. absurd (omega arith))
+  move-leaves (marks k n rest w e c) = leaves (λ i n. refl) (read-channel k 0 rest) (λ h. absurd (omega arith))
+  move-leaves (drops k n rest w e c) = leaves (λ i n. refl) (read-channel k 0 rest) (λ h. refl)
+  move-leaves (discards k q rest w e) = leaves (λ i n. refl) (read-channel k 0 rest) (λ h. refl)
 
 -- ---- what an idle turn looks at
 
@@ -175,13 +123,13 @@ module _ (sys : System) (st s : State) where
 
 -- after a turn `t` an idle turn `u` is idle still, unless both are of one actor and `u` is the same action or no read, or `t`
 -- sent a message and `u` reads from that actor
-pub idle-still : (sys : System) (st : State) (t u : Turn) (s : State)
+pub idle-still : (sys : System) → sys .workers ≤ 8 → (st : State) (t u : Turn) (s : State)
     → (u .actor ≡ t .actor → (u .action ≡ t .action → ⊥) × (u .action < treatNumber))
     → (treatNumber < t .action → u .action ≡ t .actor → ⊥) → step sys st t ≡ some s → step sys st u ≡ none → step sys s u ≡ none
 unfolding step
-idle-still sys st t u s same sent e i =
-    let left = turn-leaves sys st s t e in
-    let running = or-false-left (st .controller .closed) _ (unless-some _ e .0) in
+idle-still sys few st t u s same sent e i =
+    let (running, ok, by) = moves sys st few t s e in
+    let left = subst (λ (v : Turn). Leaves (v .actor) (v .action) st s) (by .1) (move-leaves sys st (by .0)) in
     let box = left .channel (u .action) (u .actor) sent (λ f g. same g .0 f) in
     ⊎-elim (λ b. cond-true none _ b)
     (λ b.

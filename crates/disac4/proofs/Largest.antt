@@ -135,10 +135,10 @@ unfolding Supported ArcConsistent supports deleted
 quiet-consistent sys sound st es b q x v d y h l =
     let (w, i, s, z) =
     remains-support sys es x v y (omega (arith, b .counters .counts x v d y, b .counters .positive x v d y h l)) in
-    (w, stands w i (omega (arith, untreated w)), and-right (sys .net .linked x y) (sys .net .allows x v y w) s)
+    (w, stands w i (omega (arith, if-deleted w)), and-right (sys .net .linked x y) (sys .net .allows x v y w) s)
   where
-    untreated : (w : ℕ) → weigh (treatedBy y w (sys .owner x)) es ≡ one (deleted sys st y w)
-    untreated w =
+    if-deleted : (w : ℕ) → weigh (treatedBy y w (sys .owner x)) es ≡ one (deleted sys st y w)
+    if-deleted w =
         treated-exactly sys y w st es (b .flow y w) (sound .owned y h) q (sys .owner x)
         (sound .owned x (loaded-variable (sys .net) x v (b .counters .inside x v d)))
 

@@ -6,7 +6,7 @@ use mathlib.Core.List.{List, [], _∷_, _++_, append-assoc, append-nil}
 use mathlib.Core.Option.{Option, none, some}
 use mathlib.Core.Path.{_≡_, refl, sym, ap, subst}
 use native.Mathlib.Omega.{arith}
-use borrow.Author.Tests.{eqb-true, eqb-false, ne-eqb, le-leb, lt-leb, not-false}
+use borrow.Author.Tests.{eqb-true, eqb-false, le-leb, lt-leb, not-false}
 use lib.Dec.{leb, eqb}
 use Rattle.base.proofs.Bools.{or-false-left, or-false-right}
 use Rattle.base.proofs.Choice.{none≢some, by-test, if-some, unless-some, some-same}
@@ -46,52 +46,67 @@ pub data Moves (sys : System) (st : State) : State → List Event → Type 0 whe
   discards : (k : ℕ) (q : Poll) (rest : List Message) → Worker sys k → st .channel k 0 ≡ poll q ∷ rest
       → Moves sys st (afterDrop k 0 rest st) []
 
+-- the turn that makes the move
+abbrev pub turnOf : {sys : System} {st s : State} {es : List Event} → Moves sys st s es → Turn
+turnOf (treats k a rest w e) = turn k treatNumber
+turnOf (sends k w e) = turn k sendNumber
+turnOf (reads j k labels rest w h n e) = turn k j
+turnOf (takes-poll j k q rest w h n e) = turn k j
+turnOf (ignores j k i rest w h n e) = turn k j
+turnOf (answers k q w e r) = turn k answerNumber
+turnOf (asks e) = turn 0 pollNumber
+turnOf (tallies k labels rest w e) = turn 0 k
+turnOf (marks k n rest w e c) = turn 0 k
+turnOf (drops k n rest w e c) = turn 0 k
+turnOf (discards k q rest w e) = turn 0 k
+
 -- ---- from the step to its case
 
 module _ (sys : System) (st : State) where
-  abbrev To : List Event → State → Type 0
-  To es s = Moves sys st s es
+  -- turn `t` moves to a state
+  abbrev By : Turn → List Event → State → Type 0
+  By t es s = (m : Moves sys st s es) × (turnOf m ≡ t)
 
   -- a move to a state is one to the state that it equals
-  reached : {s s′ : State} {es : List Event} → some s ≡ some s′ → To es s → To es s′
-  reached {es = es} = some-same (To es)
+  reached : {t : Turn} {s s′ : State} {es : List Event} → some s ≡ some s′ → By t es s → By t es s′
+  reached {t} {es = es} = some-same (By t es)
 
   treat-moves : (k : ℕ) → Worker sys k → (l : List Label) → st .workList k ≡ l → (s : State)
-      → treatFrom sys k st l ≡ some s → To (treatEvent k l) s
+      → treatFrom sys k st l ≡ some s → By (turn k treatNumber) (treatEvent k l) s
   treat-moves k w [] p s e = none≢some e
-  treat-moves k w (a ∷ rest) p s e = reached e (treats k a rest w p)
+  treat-moves k w (a ∷ rest) p s e = reached e (treats k a rest w p, refl)
 
-  send-moves : (k : ℕ) → Worker sys k → (s : State) → send sys k st ≡ some s → To (sent k (st .toSend k) ∷ []) s
+  send-moves : (k : ℕ) → Worker sys k → (s : State) → send sys k st ≡ some s → By (turn k sendNumber) (sent k (st .toSend k) ∷ []) s
   unfolding send
-  send-moves k w s e = let c = unless-some (isEmpty (st .toSend k)) e in reached (c .1) (sends k w (c .0))
+  send-moves k w s e = let c = unless-some (isEmpty (st .toSend k)) e in reached (c .1) (sends k w (c .0), refl)
 
   read-moves : (j k : ℕ) → Worker sys k → j ≤ sys .workers → (j ≡ k → ⊥) → (l : List Message) → st .channel j k ≡ l
-      → (s : State) → readFrom j k st l ≡ some s → To (readEvent k j l) s
+      → (s : State) → readFrom j k st l ≡ some s → By (turn k j) (readEvent k j l) s
   read-moves j k w h n [] p s e = none≢some e
-  read-moves j k w h n (list labels ∷ rest) p s e = reached e (reads j k labels rest w h n p)
-  read-moves j k w h n (poll q ∷ rest) p s e = reached e (takes-poll j k q rest w h n p)
-  read-moves j k w h n (reply i ∷ rest) p s e = reached e (ignores j k i rest w h n p)
+  read-moves j k w h n (list labels ∷ rest) p s e = reached e (reads j k labels rest w h n p, refl)
+  read-moves j k w h n (poll q ∷ rest) p s e = reached e (takes-poll j k q rest w h n p, refl)
+  read-moves j k w h n (reply i ∷ rest) p s e = reached e (ignores j k i rest w h n p, refl)
 
   answer-moves : (k : ℕ) → Worker sys k → (o : Option Poll) → st .held k ≡ o → (s : State)
-      → answerTo k st o ≡ some s → To [] s
+      → answerTo k st o ≡ some s → By (turn k answerNumber) [] s
   answer-moves k w none p s e = none≢some e
-  answer-moves k w (some q) p s e = let c = if-some (ready k q st) e in reached (c .1) (answers k q w p (c .0))
+  answer-moves k w (some q) p s e = let c = if-some (ready k q st) e in reached (c .1) (answers k q w p (c .0), refl)
 
-  ask-moves : (s : State) → ask sys st ≡ some s → To [] s
+  ask-moves : (s : State) → ask sys st ≡ some s → By (turn 0 pollNumber) [] s
   unfolding ask
-  ask-moves s e = let c = unless-some (st .controller .pollOpen) e in reached (c .1) (asks (c .0))
+  ask-moves s e = let c = unless-some (st .controller .pollOpen) e in reached (c .1) (asks (c .0), refl)
 
   tally-moves : (k : ℕ) → Worker sys k → (l : List Message) → st .channel k 0 ≡ l
-      → (s : State) → controllerFrom sys k st l ≡ some s → To (readEvent 0 k l) s
+      → (s : State) → controllerFrom sys k st l ≡ some s → By (turn 0 k) (readEvent 0 k l) s
   tally-moves k w [] p s e = none≢some e
-  tally-moves k w (list labels ∷ rest) p s e = reached e (tallies k labels rest w p)
-  tally-moves k w (poll q ∷ rest) p s e = reached e (discards k q rest w p)
+  tally-moves k w (list labels ∷ rest) p s e = reached e (tallies k labels rest w p, refl)
+  tally-moves k w (poll q ∷ rest) p s e = reached e (discards k q rest w p, refl)
   tally-moves k w (reply n ∷ rest) p s e = go (current n st) refl e
     where
       go : (b : Bool) → current n st ≡ b
-          → some (cond b (afterMark sys k rest st) (afterDrop k 0 rest st)) ≡ some s → To [] s
-      go true c f = reached f (marks k n rest w p c)
-      go false c f = reached f (drops k n rest w p c)
+          → some (cond b (afterMark sys k rest st) (afterDrop k 0 rest st)) ≡ some s → By (turn 0 k) [] s
+      go true c f = reached f (marks k n rest w p c, refl)
+      go false c f = reached f (drops k n rest w p c, refl)
 
   -- ---- the events of a turn that is not idle, by its actor and action
 
@@ -105,7 +120,7 @@ module _ (sys : System) (st : State) where
     -- a worker that does none of the three other actions reads
     other-moves : (k d : ℕ) → Worker sys k → workerMay (sys .workers) k d ≡ true → eqb d treatNumber ≡ false
         → eqb d sendNumber ≡ false → eqb d answerNumber ≡ false → (s : State) → readWorker d k st ≡ some s
-        → To (workerEvents k d) s
+        → By (turn k d) (workerEvents k d) s
     unfolding readWorker
     other-moves k d w ok p q r s e =
         let other = reads-other (sys .workers) k d ok p q r in
@@ -113,29 +128,27 @@ module _ (sys : System) (st : State) where
 
     -- what a worker does, by the number of its action
     worker-moves : (k d : ℕ) → Worker sys k → workerMay (sys .workers) k d ≡ true → (s : State)
-        → workerStep sys k d st ≡ some s → To (workerEvents k d) s
+        → workerStep sys k d st ≡ some s → By (turn k d) (workerEvents k d) s
     unfolding workerStep treat answer
     worker-moves k d w ok s e =
         by-test (eqb d treatNumber) e
-        (λ p f.
-        rw (ne-eqb d sendNumber (λ x. omega (arith, eqb-true d treatNumber p)), p)
-        (treat-moves k w (st .workList k) refl s f))
+        (λ p f. rw (eqb-true d treatNumber p) (treat-moves k w (st .workList k) refl s f))
         (λ p e₁.
-        by-test (eqb d sendNumber) e₁ (λ q f. rw q (send-moves k w s f))
+        by-test (eqb d sendNumber) e₁ (λ q f. rw (eqb-true d sendNumber q) (send-moves k w s f))
         (λ q e₂.
         by-test (eqb d answerNumber) e₂
         (λ r f.
-        rw (p, q, lt-leb d (sys .workers) (omega (arith, eqb-true d answerNumber r)))
+        rw (eqb-true d answerNumber r, lt-leb answerNumber (sys .workers) (omega arith))
         (answer-moves k w (st .held k) refl s f))
         (λ r f. other-moves k d w ok p q r s f)))
 
     -- what the controller does
     controller-moves : (d : ℕ) → controllerMay (sys .workers) d ≡ true → (s : State)
-        → controllerStep sys d st ≡ some s → To (cond (leb d (sys .workers)) (readEvent 0 d (st .channel d 0)) []) s
+        → controllerStep sys d st ≡ some s → By (turn 0 d) (cond (leb d (sys .workers)) (readEvent 0 d (st .channel d 0)) []) s
     unfolding controllerStep readController
     controller-moves d ok s e =
         by-test (eqb d pollNumber) e
-        (λ p f. rw (lt-leb d (sys .workers) (omega (arith, eqb-true d pollNumber p))) (ask-moves s f))
+        (λ p f. rw (eqb-true d pollNumber p, lt-leb pollNumber (sys .workers) (omega arith)) (ask-moves s f))
         (λ p f.
         let from = reads-worker (sys .workers) d ok p in
         rw (le-leb d (sys .workers) (from .1))
@@ -153,12 +166,12 @@ module _ (sys : System) (st : State) where
     events-of-controller d c = rw c
 
     controller-turn : (d : ℕ) (s : State) → allowed (sys .workers) (turn 0 d) ≡ true → changes sys st (turn 0 d) ≡ true
-        → controllerStep sys d st ≡ some s → Moves sys st s (eventsAt sys st (turn 0 d))
+        → controllerStep sys d st ≡ some s → By (turn 0 d) (eventsAt sys st (turn 0 d)) s
     controller-turn d s ok c f =
         rw (events-of-controller d c) (controller-moves d (controller-does (sys .workers) (turn 0 d) ok refl) s f)
 
     worker-turn : (t : Turn) (s : State) → eqb (t .actor) 0 ≡ false → allowed (sys .workers) t ≡ true
-        → changes sys st t ≡ true → workerStep sys (t .actor) (t .action) st ≡ some s → Moves sys st s (eventsAt sys st t)
+        → changes sys st t ≡ true → workerStep sys (t .actor) (t .action) st ≡ some s → By t (eventsAt sys st t) s
     worker-turn t s p ok c f =
         let a = worker-does (sys .workers) t ok p in
         rw (events-of-worker t c p)
@@ -168,7 +181,7 @@ module _ (sys : System) (st : State) where
 
     -- a turn that is not idle was played in an open plan, and is one of the cases
     pub moves : (t : Turn) (s : State) → step sys st t ≡ some s
-        → (st .controller .closed ≡ false) × (allowed (sys .workers) t ≡ true) × Moves sys st s (eventsAt sys st t)
+        → (st .controller .closed ≡ false) × (allowed (sys .workers) t ≡ true) × By t (eventsAt sys st t) s
     unfolding step
     moves t s e = go (st .controller .closed || not (allowed (sys .workers) t)) refl e
       where
@@ -177,10 +190,10 @@ module _ (sys : System) (st : State) where
 
         acts : (b : Bool) → eqb (t .actor) 0 ≡ b → allowed (sys .workers) t ≡ true
             → cond b (controllerStep sys (t .action) st) (workerStep sys (t .actor) (t .action) st) ≡ some s
-            → Moves sys st s (eventsAt sys st t)
+            → By t (eventsAt sys st t) s
         acts true p ok f =
             let z : t ≡ turn 0 (t .action) = λ i. record { actor = eqb-true (t .actor) 0 p i; action = t .action } in
-            subst (λ (u : Turn). Moves sys st s (eventsAt sys st u)) (sym z)
+            subst (λ (u : Turn). By u (eventsAt sys st u) s) (sym z)
             (controller-turn (t .action) s
             (subst (λ (u : Turn). allowed (sys .workers) u ≡ true) z ok)
             (subst (λ (u : Turn). changes sys st u ≡ true) z changed)
@@ -191,7 +204,7 @@ module _ (sys : System) (st : State) where
             → cond b none
             (cond (eqb (t .actor) 0) (controllerStep sys (t .action) st) (workerStep sys (t .actor) (t .action) st))
             ≡ some s
-            → (st .controller .closed ≡ false) × (allowed (sys .workers) t ≡ true) × Moves sys st s (eventsAt sys st t)
+            → (st .controller .closed ≡ false) × (allowed (sys .workers) t ≡ true) × By t (eventsAt sys st t) s
         go true p f = none≢some f
         go false p f =
             let ok = not-false (allowed (sys .workers) t) (or-false-right (st .controller .closed) _ p) in
@@ -208,7 +221,7 @@ idle-events sys st t e = rw e
 pub data Effect (sys : System) (st : State) (t : Turn) : Type 0 where
   idle : changes sys st t ≡ false → after sys st t ≡ st → eventsAt sys st t ≡ [] → Effect sys st t
   acts : changes sys st t ≡ true → st .controller .closed ≡ false → allowed (sys .workers) t ≡ true
-      → Moves sys st (after sys st t) (eventsAt sys st t) → Effect sys st t
+      → (m : Moves sys st (after sys st t) (eventsAt sys st t)) → turnOf m ≡ t → Effect sys st t
 
 -- every turn is idle, or allowed and one of the moves of an open plan
 pub effect : (sys : System) (st : State) → sys .workers ≤ 8 → (t : Turn) → Effect sys st t
@@ -217,7 +230,9 @@ effect sys st few t = go (step sys st t) refl
     go : (o : Option State) → step sys st t ≡ o → Effect sys st t
     go none e = idle (ap isSome e) (after-idle (step sys) st t e) (idle-events sys st t e)
     go (some s) e =
-        let m = moves sys st few t s e in acts (ap isSome e) (m .0) (m .1) (rw (after-move (step sys) st t s e) (m .2))
+        let m = moves sys st few t s e in
+        let b = subst (By sys st t (eventsAt sys st t)) (sym (after-move (step sys) st t s e)) (m .2) in
+        acts (ap isSome e) (m .0) (m .1) (b .0) (b .1)
 
 -- what every case of `Moves` keeps holds after any list of turns, with their events
 pub kept : (sys : System) → sys .workers ≤ 8 → (I : State → List Event → Type 0)
@@ -230,4 +245,4 @@ kept sys few I one-move ts st start =
   where
     next : (s : State) (es : List Event) (t : Turn) → I s es → Effect sys s t → I (after sys s t) (es ++ eventsAt sys s t)
     next s es t i (idle c a e) = rw (a, e, append-nil) i
-    next s es t i (acts c o l m) = one-move s es (after sys s t) (eventsAt sys s t) o i m
+    next s es t i (acts c o l m u) = one-move s es (after sys s t) (eventsAt sys s t) o i m

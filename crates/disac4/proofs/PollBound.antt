@@ -55,7 +55,7 @@ pub polls-bound : {sys : System} → Sound sys → (ts : List Turn)
 polls-bound {sys} sound ts =
     omega (
       arith,
-      timestamp-of-run sys ts,
+      timestamp-of-run sound ts,
       timestamp-bound sound ts,
       list-counter-bound sound ts 0 (omega arith),
       sends-bound sound ts,

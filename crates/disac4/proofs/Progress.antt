@@ -193,22 +193,22 @@ progress {sys} sound ts running = ⊎-elim found (λ e. clash (stuck-closed soun
     st : State
     st = play sys (load sys) ts
 
-    moves : ℕ → ℕ → Bool
-    moves k d = allowed (sys .workers) (turn k d) && changes sys st (turn k d)
+    changing : ℕ → ℕ → Bool
+    changing k d = allowed (sys .workers) (turn k d) && changes sys st (turn k d)
 
     any : Bool
-    any = anyBelow (suc (sys .workers)) (λ k. anyBelow 13 (moves k))
+    any = anyBelow (suc (sys .workers)) (λ k. anyBelow 13 (changing k))
 
     found : any ≡ true → (t : Turn) × (allowed (sys .workers) t ≡ true) × (changes sys st t ≡ true)
     found e =
-        let k = some-below (suc (sys .workers)) (λ k. anyBelow 13 (moves k)) e in
-        let d = some-below 13 (moves (k .0)) (k .2) in
+        let k = some-below (suc (sys .workers)) (λ k. anyBelow 13 (changing k)) e in
+        let d = some-below 13 (changing (k .0)) (k .2) in
         let t = turn (k .0) (d .0) in
         (t, and-left (allowed (sys .workers) t) _ (d .2), and-right (allowed (sys .workers) t) _ (d .2))
 
     none-found : any ≡ false → Stuck sys st
     none-found e t ok =
         let b = allowed-bounds (sys .workers) t (sound .few) ok in
-        let row = none-below (suc (sys .workers)) (λ k. anyBelow 13 (moves k)) e (t .actor) (b .0) in
+        let row = none-below (suc (sys .workers)) (λ k. anyBelow 13 (changing k)) e (t .actor) (b .0) in
         ⊎-elim (λ x. clash ok x) (λ x. x)
-        (and-false (allowed (sys .workers) t) (changes sys st t) (none-below 13 (moves (t .actor)) row (t .action) (b .1)))
+        (and-false (allowed (sys .workers) t) (changes sys st t) (none-below 13 (changing (t .actor)) row (t .action) (b .1)))

@@ -25,7 +25,7 @@ use Rattle.disac4.specs.Turn.{Turn, play}
 pub record QueueLengths (sys : System) (st : State) (labels : ℕ) : Type 0 where
   -- what a worker has to treat, and to send
   pub work : (k : ℕ) → Worker sys k → length (st .workList k) ≤ labels
-  pub unsent : (k : ℕ) → Worker sys k → length (st .toSend k) ≤ labels
+  pub to-send : (k : ℕ) → Worker sys k → length (st .toSend k) ≤ labels
   -- messages from one worker to another
   pub between-workers : (j k : ℕ) → Worker sys j → Worker sys k → length (st .channel j k) ≤ labels
   -- messages from the controller to a worker
@@ -98,7 +98,7 @@ module _ {sys : System} (sound : Sound sys) (ts : List Turn) where
       let t : Typed sys now = safe-run sound ts .typed in
       record {
         work = λ k w. omega (arith, work-bound sound ts k w);
-        unsent = to-send-bound sound ts;
+        to-send = to-send-bound sound ts;
         between-workers = λ j k v w. omega (
           arith,
           by-kind (now .channel j k),
@@ -129,7 +129,7 @@ pub queues-within : {sys : System} {st : State} {labels most : ℕ} → labels �
     → QueueLengths sys st most
 queues-within h q = record {
   work = λ k w. omega (arith, q .work k w);
-  unsent = λ k w. omega (arith, q .unsent k w);
+  to-send = λ k w. omega (arith, q .to-send k w);
   between-workers = λ j k v w. omega (arith, q .between-workers j k v w);
   to-worker = λ k w. omega (arith, q .to-worker k w);
   to-controller = λ k w. omega (arith, q .to-controller k w);

@@ -171,10 +171,10 @@ module _ (sys : System) (st : State) (es : List Event) (flow : (x v : ℕ) → F
   unfolding loses
   same-supports x v y d n =
       sum-ext (sys .net .size y) (untreatedSupport sys now x v y) (untreatedSupport sys es x v y)
-      (λ w h. support-ext sys es now x v y w (λ p. omega (arith, now-treated (sys .owner x) y w, ap one (untreated w p))))
+      (λ w h. support-ext sys es now x v y w (λ p. omega (arith, now-treated (sys .owner x) y w, ap one (not-now w p))))
     where
-      untreated : (w : ℕ) → supports (sys .net) x v y w ≡ true → (eqb k (sys .owner x) && isLabel y w a) ≡ false
-      untreated w p =
+      not-now : (w : ℕ) → supports (sys .net) x v y w ≡ true → (eqb k (sys .owner x) && isLabel y w a) ≡ false
+      not-now w p =
           refuted (eqb k (sys .owner x) && isLabel y w a)
           (λ t.
           let e : a ≡ label y w = isLabel-eq y w a (and-right (eqb k (sys .owner x)) (isLabel y w a) t) in

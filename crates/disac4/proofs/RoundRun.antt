@@ -1,6 +1,5 @@
--- A round that changes nothing shows that no turn would; so where an open plan always has a turn that changes something, the
--- round run closes it.
-use Prim.Native.Nat.{ℕ, zero, suc, _<_, _≤_}
+-- A round that changes nothing shows that no turn would; but in an open plan some turn does, so the round run closes it.
+use Prim.Native.Nat.{ℕ, zero, suc, _<_}
 use mathlib.Core.Bool.{true, false}
 use mathlib.Core.List.{List, [], _∷_, _++_}
 use mathlib.Core.Logic.{_⊎_, inl, inr}
@@ -12,8 +11,8 @@ use Rattle.base.proofs.Each.{Each, each-member}
 use Rattle.base.specs.Below.{one}
 use Rattle.disac4.proofs.Bound.{turns-bounded, potential-loaded}
 use Rattle.disac4.proofs.Fold.{after-same, play-append}
-use Rattle.disac4.proofs.Moves.{Effect, idle, acts, effect}
 use Rattle.disac4.proofs.Potential.{potential}
+use Rattle.disac4.proofs.Progress.{progress}
 use Rattle.disac4.proofs.Rounds.{allowed-round}
 use Rattle.disac4.specs.Fold.{playBy, gatherBy, countBy}
 use Rattle.disac4.specs.Loading.{load}
@@ -22,25 +21,30 @@ use Rattle.disac4.specs.State.{State}
 use Rattle.disac4.specs.System.{System, boundOf, Sound}
 use Rattle.disac4.specs.Turn.{Turn, allowed, step, after, play, changes, changesWhere}
 
--- what the round run asks of a statement about states: every list of turns keeps it, and while the plan is open some turn
--- changes something
-pub record Advances (sys : System) (I : State → Type 0) : Type 0 where
-  pub carried : (st : State) (ts : List Turn) → I st → I (play sys st ts)
-  pub progress : (st : State) → I st → st .controller .closed ≡ false → (t : Turn) × (changes sys st t ≡ true)
+-- a state that some turns reach
+abbrev pub Reached : System → State → Type 0
+Reached sys st = (ts : List Turn) × (play sys (load sys) ts ≡ st)
+
+-- the state after one round
+abbrev pub roundOn : System → State → State
+roundOn sys st = play sys st (round (sys .workers))
 
 module _ (sys : System) where
-  abbrev oneRound : List Turn
-  oneRound = round (sys .workers)
+  from-load : Reached sys (load sys)
+  unfolding playBy
+  from-load = ([], refl)
 
-  -- the state after one round
-  abbrev next : State → State
-  next st = play sys st oneRound
+  pub reached-round : (st : State) → Reached sys st → Reached sys (roundOn sys st)
+  reached-round st r = (
+    r .0 ++ round (sys .workers),
+    play-append (step sys) (r .0) (round (sys .workers)) (load sys) ∙ ap (roundOn sys) (r .1),
+  )
 
   abbrev Idle : State → Turn → Type 0
   Idle st t = changes sys st t ≡ false
 
   -- where a list of turns changes nothing, each of them is idle in the state before the list
-  pub all-idle : (ts : List Turn) (st : State) → changesWhere sys (λ t. true) st ts ≡ 0 → Each (Idle st) ts
+  all-idle : (ts : List Turn) (st : State) → changesWhere sys (λ t. true) st ts ≡ 0 → Each (Idle st) ts
   unfolding countBy gatherBy
   all-idle [] st e = tt
   all-idle (t ∷ ts) st e =
@@ -54,84 +58,78 @@ module _ (sys : System) where
 
   -- an open plan plays one, and then the rest
   pub turns-open : (fuel : ℕ) (st : State) → st .controller .closed ≡ false
-      → roundTurns sys (suc fuel) st ≡ oneRound ++ roundTurns sys fuel (next st)
+      → roundTurns sys (suc fuel) st ≡ round (sys .workers) ++ roundTurns sys fuel (roundOn sys st)
   unfolding roundTurns
   turns-open fuel st e = rw e
 
-  module _ (few : sys .workers ≤ 8) where
-    -- only an allowed turn changes something
-    pub changes-allowed : (st : State) (t : Turn) → changes sys st t ≡ true → allowed (sys .workers) t ≡ true
-    changes-allowed st t c = go (effect sys st few t)
-      where
-        go : Effect sys st t → allowed (sys .workers) t ≡ true
-        go (idle d a e) = clash c d
-        go (acts d o l m) = l
+module _ (sys : System) (sound : Sound sys) where
+  -- while the plan is open some allowed turn would change something, so a round does
+  round-changes : (st : State) → Reached sys st → st .controller .closed ≡ false
+      → 0 < changesWhere sys (λ t. true) st (round (sys .workers))
+  round-changes st (ts, e) running =
+      let (t, ok, c) = progress sound ts (subst (λ (s : State). s .controller .closed ≡ false) (sym e) running) in
+      let changing : changes sys st t ≡ true = subst (λ (s : State). changes sys s t ≡ true) e c in
+      go t ok changing (changesWhere sys (λ t. true) st (round (sys .workers))) refl
+    where
+      go : (t : Turn) → allowed (sys .workers) t ≡ true → changes sys st t ≡ true
+          → (n : ℕ) → changesWhere sys (λ t. true) st (round (sys .workers)) ≡ n
+          → 0 < changesWhere sys (λ t. true) st (round (sys .workers))
+      go t ok c zero e =
+          clash c
+          (each-member (Idle sys st) (round (sys .workers)) (all-idle sys (round (sys .workers)) st e)
+          (allowed-round (sys .workers) t ok))
+      go t ok c (suc n) e = omega arith
 
-    -- where some turn would change something, a round does
-    pub round-changes : (st : State) (t : Turn) → changes sys st t ≡ true
-        → 0 < changesWhere sys (λ t. true) st (round (sys .workers))
-    round-changes st t c = go (changesWhere sys (λ t. true) st oneRound) refl
-      where
-        go : (n : ℕ) → changesWhere sys (λ t. true) st oneRound ≡ n → 0 < changesWhere sys (λ t. true) st oneRound
-        go zero e =
-            clash c
-            (each-member (Idle st) oneRound (all-idle oneRound st e)
-            (allowed-round (sys .workers) t (changes-allowed st t c)))
-        go (suc n) e = omega arith
+  -- and lowers the potential
+  pub round-lowers : (st : State) → Reached sys st → st .controller .closed ≡ false
+      → potential sys (roundOn sys st) < potential sys st
+  round-lowers st r running =
+      omega (arith, turns-bounded sys (sound .few) (round (sys .workers)) st, round-changes st r running)
 
-    module _ (I : State → Type 0) (advances : Advances sys I) where
-      -- a round lowers the potential of an open plan
-      pub round-lowers : (st : State) → I st → st .controller .closed ≡ false → potential sys (next st) < potential sys st
-      round-lowers st i e =
-          let moved : (t : Turn) × (changes sys st t ≡ true) = advances .progress st i e in
-          omega (arith, turns-bounded sys few oneRound st, round-changes st (moved .0) (moved .1))
+  -- with more rounds than the potential, the plan is closed
+  rounds-close : (fuel : ℕ) (st : State) → Reached sys st → potential sys st < fuel
+      → play sys st (roundTurns sys fuel st) .controller .closed ≡ true
+  rounds-close zero st r h = absurd (not-suc-le-zero h)
+  rounds-close (suc fuel) st r h =
+      go (decided (st .controller .closed)) (rounds-close fuel (roundOn sys st) (reached-round sys st r))
+    where
+      go : (st .controller .closed ≡ true) ⊎ (st .controller .closed ≡ false)
+          → (potential sys (roundOn sys st) < fuel
+          → play sys (roundOn sys st) (roundTurns sys fuel (roundOn sys st)) .controller .closed ≡ true)
+          → play sys st (roundTurns sys (suc fuel) st) .controller .closed ≡ true
+      go (inl e) below = rw (turns-closed sys fuel st e) (unfold playBy in e)
+      go (inr e) below =
+          rw (turns-open sys fuel st e, play-append (step sys) (round (sys .workers)) (roundTurns sys fuel (roundOn sys st)) st)
+          (below (omega (arith, round-lowers st r e)))
 
-      -- with more rounds than the potential, the plan is closed
-      pub rounds-close : (fuel : ℕ) (st : State) → I st → potential sys st < fuel
-          → play sys st (roundTurns sys fuel st) .controller .closed ≡ true
-      rounds-close zero st i h = absurd (not-suc-le-zero h)
-      rounds-close (suc fuel) st i h =
-          go (decided (st .controller .closed)) (rounds-close fuel (next st) (advances .carried st oneRound i))
-        where
-          go : (st .controller .closed ≡ true) ⊎ (st .controller .closed ≡ false)
-              → (potential sys (next st) < fuel
-              → play sys (next st) (roundTurns sys fuel (next st)) .controller .closed ≡ true)
-              → play sys st (roundTurns sys (suc fuel) st) .controller .closed ≡ true
-          go (inl e) below = rw (turns-closed fuel st e) (unfold playBy in e)
-          go (inr e) below =
-              rw (turns-open fuel st e, play-append (step sys) oneRound (roundTurns sys fuel (next st)) st)
-              (below (omega (arith, round-lowers st i e)))
+  -- and still more rounds play no further turn
+  pub rounds-enough : (fuel more : ℕ) (st : State) → Reached sys st → potential sys st < fuel → potential sys st < more
+      → roundTurns sys more st ≡ roundTurns sys fuel st
+  rounds-enough zero more st r h g = absurd (not-suc-le-zero h)
+  rounds-enough (suc fuel) zero st r h g = absurd (not-suc-le-zero g)
+  rounds-enough (suc fuel) (suc more) st r h g =
+      go (decided (st .controller .closed)) (rounds-enough fuel more (roundOn sys st) (reached-round sys st r))
+    where
+      go : (st .controller .closed ≡ true) ⊎ (st .controller .closed ≡ false)
+          → (potential sys (roundOn sys st) < fuel → potential sys (roundOn sys st) < more
+          → roundTurns sys more (roundOn sys st) ≡ roundTurns sys fuel (roundOn sys st))
+          → roundTurns sys (suc more) st ≡ roundTurns sys (suc fuel) st
+      go (inl e) below = turns-closed sys more st e ∙ sym (turns-closed sys fuel st e)
+      go (inr e) below =
+          let lower = round-lowers st r e in
+          turns-open sys more st e
+          ∙ (ap (λ ts. round (sys .workers) ++ ts) (below (omega arith) (omega arith)) ∙ sym (turns-open sys fuel st e))
 
-      -- and still more rounds play no further turn
-      pub rounds-enough : (fuel more : ℕ) (st : State) → I st → potential sys st < fuel → potential sys st < more
-          → roundTurns sys more st ≡ roundTurns sys fuel st
-      rounds-enough zero more st i h g = absurd (not-suc-le-zero h)
-      rounds-enough (suc fuel) zero st i h g = absurd (not-suc-le-zero g)
-      rounds-enough (suc fuel) (suc more) st i h g =
-          go (decided (st .controller .closed)) (rounds-enough fuel more (next st) (advances .carried st oneRound i))
-        where
-          go : (st .controller .closed ≡ true) ⊎ (st .controller .closed ≡ false)
-              → (potential sys (next st) < fuel → potential sys (next st) < more
-              → roundTurns sys more (next st) ≡ roundTurns sys fuel (next st))
-              → roundTurns sys (suc more) st ≡ roundTurns sys (suc fuel) st
-          go (inl e) below = turns-closed more st e ∙ sym (turns-closed fuel st e)
-          go (inr e) below =
-              let lower = round-lowers st i e in
-              turns-open more st e
-              ∙ (ap (λ ts. oneRound ++ ts) (below (omega arith) (omega arith)) ∙ sym (turns-open fuel st e))
-
-module _ (sys : System) (sound : Sound sys) (I : State → Type 0) (advances : Advances sys I) (start : I (load sys)) where
   -- a run without a turn list closes the plan
   pub round-run-closes : play sys (load sys) (roundRunTurns sys) .controller .closed ≡ true
   unfolding roundRunTurns
   round-run-closes =
-      rounds-close sys (sound .few) I advances (suc (boundOf sys)) (load sys) start
-      (omega (arith, potential-loaded sys sound))
+      rounds-close (suc (boundOf sys)) (load sys) (from-load sys) (omega (arith, potential-loaded sys sound))
 
   -- and it is all the rounds until then: more of them play no further turn
   pub round-run-complete : (fuel : ℕ) → boundOf sys < fuel → roundTurns sys fuel (load sys) ≡ roundRunTurns sys
   unfolding roundRunTurns
   round-run-complete fuel h =
-      rounds-enough sys (sound .few) I advances (suc (boundOf sys)) fuel (load sys) start
+      rounds-enough (suc (boundOf sys)) fuel (load sys) (from-load sys)
       (omega (arith, potential-loaded sys sound))
       (omega (arith, potential-loaded sys sound))

@@ -21,14 +21,14 @@ use Rattle.disac4.specs.System.{System, Worker, Sound}
 use Rattle.disac4.specs.Turn.{Turn, play, changesWhere}
 
 -- the labels that may still be sent: those on the workers' to-send lists and those in the domains
-unfoldable pub unsentLabels : System → State → ℕ
-unsentLabels sys st = overWorkers (sys .workers) (λ k. length (st .toSend k)) + domainSize (sys .net) (st .domain)
+unfoldable pub sendable : System → State → ℕ
+sendable sys st = overWorkers (sys .workers) (λ k. length (st .toSend k)) + domainSize (sys .net) (st .domain)
 
 module _ (sys : System) (st : State) (k : ℕ) (w : Worker sys k) where
   -- a treat moves labels from the domains to a to-send list
-  pub treat-unsent : (a : Label) (rest : List Label) → unsentLabels sys (afterTreat sys k a rest st) ≡ unsentLabels sys st
-  unfolding unsentLabels afterTreat
-  treat-unsent a rest =
+  pub treat-sendable : (a : Label) (rest : List Label) → sendable sys (afterTreat sys k a rest st) ≡ sendable sys st
+  unfolding sendable afterTreat
+  treat-sendable a rest =
       omega (
         arith,
         over-append (sys .workers) (st .toSend) k (deletions sys k a st) (w .above) (w .within),
@@ -36,49 +36,49 @@ module _ (sys : System) (st : State) (k : ℕ) (w : Worker sys k) where
       )
 
   -- a send takes the sender's labels from them
-  pub send-unsent : unsentLabels sys (afterSend sys k st) + length (st .toSend k) ≡ unsentLabels sys st
-  unfolding unsentLabels afterSend
-  send-unsent = omega (arith, over-update (sys .workers) length (st .toSend) k [] (w .above) (w .within))
+  pub send-sendable : sendable sys (afterSend sys k st) + length (st .toSend k) ≡ sendable sys st
+  unfolding sendable afterSend
+  send-sendable = omega (arith, over-update (sys .workers) length (st .toSend) k [] (w .above) (w .within))
 
   -- the sender's own are among them
-  pub unsent-part : length (st .toSend k) ≤ unsentLabels sys st
-  unfolding unsentLabels
-  unsent-part = omega (arith, over-part (sys .workers) (λ j. length (st .toSend j)) k (w .above) (w .within))
+  pub sendable-part : length (st .toSend k) ≤ sendable sys st
+  unfolding sendable
+  sendable-part = omega (arith, over-part (sys .workers) (λ j. length (st .toSend j)) k (w .above) (w .within))
 
 -- at loading they are all the loaded labels
-pub load-unsent : (sys : System) → Sound sys → unsentLabels sys (load sys) ≡ labelCount (sys .net)
-unfolding unsentLabels load
-load-unsent sys sound = omega (arith, deletions-loaded sys (sound .owned), load-size sys)
+pub load-sendable : (sys : System) → Sound sys → sendable sys (load sys) ≡ labelCount (sys .net)
+unfolding sendable load
+load-sendable sys sound = omega (arith, deletions-loaded sys (sound .owned), load-size sys)
 
 -- each send takes one label or more from those that may still be sent, and no other move adds one
-move-unsent : {sys : System} {st s : State} {new : List Event} → Moves sys st s new
-    → weigh isSent new + unsentLabels sys s ≤ unsentLabels sys st
-unfolding unsentLabels afterTreat afterSend afterList afterPoll afterDrop afterAnswer afterAsk afterCount afterMark
-move-unsent {sys} {st} (treats k a rest w e) = omega (arith, treat-unsent sys st k w a rest)
-move-unsent {sys} {st} (sends k w e) = omega (arith, send-unsent sys st k w, not-empty (st .toSend k) e)
-move-unsent (reads j k labels rest w h n e) = omega arith
-move-unsent (takes-poll j k q rest w h n e) = omega arith
-move-unsent (ignores j k i rest w h n e) = omega arith
-move-unsent (answers k q w e r) = omega arith
-move-unsent (asks e) = omega arith
-move-unsent (tallies k labels rest w e) = omega arith
-move-unsent (marks k n rest w e c) = omega arith
-move-unsent (drops k n rest w e c) = omega arith
-move-unsent (discards k q rest w e) = omega arith
+move-sendable : {sys : System} {st s : State} {new : List Event} → Moves sys st s new
+    → weigh isSent new + sendable sys s ≤ sendable sys st
+unfolding sendable afterTreat afterSend afterList afterPoll afterDrop afterAnswer afterAsk afterCount afterMark
+move-sendable {sys} {st} (treats k a rest w e) = omega (arith, treat-sendable sys st k w a rest)
+move-sendable {sys} {st} (sends k w e) = omega (arith, send-sendable sys st k w, not-empty (st .toSend k) e)
+move-sendable (reads j k labels rest w h n e) = omega arith
+move-sendable (takes-poll j k q rest w h n e) = omega arith
+move-sendable (ignores j k i rest w h n e) = omega arith
+move-sendable (answers k q w e r) = omega arith
+move-sendable (asks e) = omega arith
+move-sendable (tallies k labels rest w e) = omega arith
+move-sendable (marks k n rest w e c) = omega arith
+move-sendable (drops k n rest w e c) = omega arith
+move-sendable (discards k q rest w e) = omega arith
 
 -- the lists sent and the labels that may still be sent are at most the loaded labels
-pub sends-and-unsent : {sys : System} → Sound sys → (ts : List Turn)
-    → changesWhere sys isSend (load sys) ts + unsentLabels sys (play sys (load sys) ts) ≤ labelCount (sys .net)
-sends-and-unsent {sys} sound ts =
+pub sends-and-sendable : {sys : System} → Sound sys → (ts : List Turn)
+    → changesWhere sys isSend (load sys) ts + sendable sys (play sys (load sys) ts) ≤ labelCount (sys .net)
+sends-and-sendable {sys} sound ts =
     omega (
       arith,
       sent-count sys ts (load sys),
-      kept sys (sound .few) (λ st es. weigh isSent es + unsentLabels sys st ≤ labelCount (sys .net))
-          (λ st es s new o h move. omega (arith, weigh-append isSent es new, move-unsent move))
-          ts (load sys) (omega (arith, load-unsent sys sound)),
+      kept sys (sound .few) (λ st es. weigh isSent es + sendable sys st ≤ labelCount (sys .net))
+          (λ st es s new o h move. omega (arith, weigh-append isSent es new, move-sendable move))
+          ts (load sys) (omega (arith, load-sendable sys sound)),
     )
 
 -- a run sends at most as many lists as labels were loaded
 pub sends-bound : {sys : System} → Sound sys → (ts : List Turn)
     → changesWhere sys isSend (load sys) ts ≤ labelCount (sys .net)
-sends-bound sound ts = omega (arith, sends-and-unsent sound ts)
+sends-bound sound ts = omega (arith, sends-and-sendable sound ts)

@@ -9,6 +9,7 @@ use native.Mathlib.Omega.{arith}
 use Rattle.base.proofs.Choice.{none≢some, update-other, update-each, update₂-each}
 use Rattle.base.proofs.Each.{Each, each-append, each-mono}
 use Rattle.base.specs.Choice.{update, update₂}
+use Rattle.network.specs.Network.{Label}
 use Rattle.disac4.proofs.Channels.{Channels, broadcast-each}
 use Rattle.disac4.proofs.Moves.{Moves, treats, sends, reads, takes-poll, ignores, answers, asks, tallies, marks, drops, discards}
 use Rattle.disac4.specs.Action.{broadcast, nextPoll, afterTreat, afterSend, afterList, afterPoll, afterDrop, afterAnswer, afterAsk, afterCount, afterMark}
@@ -144,27 +145,20 @@ module _ {sys : System} {st : State} (t : Typed sys st) where
       → Messages (sys .workers) N asked D (update₂ (st .channel) j k rest)
   taking j k m rest e = take-typed (sys .workers) N asked D (st .channel) j k m rest e (t .messages)
 
-  -- every move keeps the channels typed
-  pub typed-move : {s : State} {new : List Event} → Moves sys st s new → Typed sys s
-  unfolding nextPoll afterTreat afterSend afterList afterPoll afterDrop afterAnswer afterAsk afterCount afterMark
-  typed-move (treats k a rest w e) = record { messages = t .messages; polls = t .polls }
-  typed-move (sends k w e) = record {
+  -- a worker sends its list; the controller's count stays
+  sending : (k : ℕ) → Worker sys k → Typed sys (afterSend sys k st)
+  unfolding afterSend
+  sending k w = record {
     messages =
         rw (controller-count (st .listCounter) k (suc (st .listCounter k)) w)
         (broadcast-typed (sys .workers) N asked D (st .channel) k (list (st .toSend k)) (w .within) (λ i. w .above) (t .messages));
     polls = rw (controller-count (st .listCounter) k (suc (st .listCounter k)) w) (t .polls);
   }
-  typed-move (reads j k labels rest w h n e) = record {
-    messages = rw (controller-count (st .listCounter) k (suc (st .listCounter k)) w) (taking j k (list labels) rest e);
-    polls = rw (controller-count (st .listCounter) k (suc (st .listCounter k)) w) (t .polls);
-  }
-  typed-move (takes-poll j k q rest w h n e) = record {
-    messages = taking j k (poll q) rest e;
-    polls = hold-typed (sys .workers) N asked D (st .held) k (some q)
-        (λ q′ same. subst (Timely N asked D) (let z : q ≡ q′ = cc in z) ((rw e at (t .messages j k)) .0 .kind .1)) (t .polls);
-  }
-  typed-move (ignores j k n rest w h d e) = record { messages = taking j k (reply n) rest e; polls = t .polls }
-  typed-move (answers k q w e r) = record {
+
+  -- a worker replies to the poll that it holds
+  answering : (k : ℕ) (q : Poll) → Worker sys k → st .held k ≡ some q → Typed sys (afterAnswer k q st)
+  unfolding afterAnswer
+  answering k q w e = record {
     messages =
         put-typed (sys .workers) N asked D (st .channel) k 0 (reply (q .number))
         (record {
@@ -176,7 +170,11 @@ module _ {sys : System} {st : State} (t : Typed sys st) where
         (t .messages);
     polls = hold-typed (sys .workers) N asked D (st .held) k none (λ q′ x. none≢some x) (t .polls);
   }
-  typed-move (asks e) = record {
+
+  -- the controller asks: no earlier poll has the new number
+  asking : Typed sys (afterAsk sys st)
+  unfolding nextPoll afterAsk
+  asking = record {
     messages =
         broadcast-typed (sys .workers) (suc N) true D (st .channel) 0 (poll (nextPoll st)) (omega arith)
         (λ i. (refl, record { bound = le-refl (suc N); within = le-refl D; wants = λ o x. refl }))
@@ -187,7 +185,12 @@ module _ {sys : System} {st : State} (t : Typed sys st) where
         polls-later (sys .workers) N asked D (suc N) true D (omega arith) (omega arith)
         (λ o x. absurd (omega arith)) (st .held) (t .polls);
   }
-  typed-move (tallies k labels rest w e) = record {
+
+  -- the controller counts a list: no poll is open after it
+  counting : (k : ℕ) (labels : List Label) (rest : List Message) → st .channel k 0 ≡ list labels ∷ rest
+      → Typed sys (afterCount k rest st)
+  unfolding afterCount
+  counting k labels rest e = record {
     messages =
         messages-later (sys .workers) N asked D N false (suc D) (omega arith) (omega arith)
         (λ o x. absurd (false≢true o))
@@ -197,6 +200,25 @@ module _ {sys : System} {st : State} (t : Typed sys st) where
         (λ o x. absurd (false≢true o))
         (st .held) (t .polls);
   }
+
+  -- every move keeps the channels typed
+  pub typed-move : {s : State} {new : List Event} → Moves sys st s new → Typed sys s
+  unfolding afterTreat afterList afterPoll afterDrop afterMark
+  typed-move (treats k a rest w e) = record { messages = t .messages; polls = t .polls }
+  typed-move (sends k w e) = sending k w
+  typed-move (reads j k labels rest w h n e) = record {
+    messages = rw (controller-count (st .listCounter) k (suc (st .listCounter k)) w) (taking j k (list labels) rest e);
+    polls = rw (controller-count (st .listCounter) k (suc (st .listCounter k)) w) (t .polls);
+  }
+  typed-move (takes-poll j k q rest w h n e) = record {
+    messages = taking j k (poll q) rest e;
+    polls = hold-typed (sys .workers) N asked D (st .held) k (some q)
+        (λ q′ same. subst (Timely N asked D) (let z : q ≡ q′ = cc in z) ((rw e at (t .messages j k)) .0 .kind .1)) (t .polls);
+  }
+  typed-move (ignores j k n rest w h d e) = record { messages = taking j k (reply n) rest e; polls = t .polls }
+  typed-move (answers k q w e r) = answering k q w e
+  typed-move (asks e) = asking
+  typed-move (tallies k labels rest w e) = counting k labels rest e
   typed-move (marks k n rest w e r) = record { messages = taking k 0 (reply n) rest e; polls = t .polls }
   typed-move (drops k n rest w e r) = record { messages = taking k 0 (reply n) rest e; polls = t .polls }
   typed-move (discards k q rest w e) = record { messages = taking k 0 (poll q) rest e; polls = t .polls }

@@ -10,7 +10,7 @@ use Rattle.base.proofs.Sums.{sum-zero}
 use Rattle.network.specs.Network.{Label, labelCount}
 use Rattle.disac4.proofs.Channels.{into, into-take, into-other, into-falls, into-broadcast, into-broadcast-self}
 use Rattle.disac4.proofs.Moves.{Moves, treats, sends, reads, takes-poll, ignores, answers, asks, tallies, marks, drops, discards, kept}
-use Rattle.disac4.proofs.SendBound.{unsentLabels, treat-unsent, send-unsent, load-unsent, unsent-part, sends-and-unsent}
+use Rattle.disac4.proofs.SendBound.{sendable, treat-sendable, send-sendable, load-sendable, sendable-part, sends-and-sendable}
 use Rattle.disac4.proofs.Typed.{not-controller}
 use Rattle.disac4.specs.Action.{deletions, nextPoll, afterTreat, afterSend, afterList, afterPoll, afterDrop, afterAnswer, afterAsk, afterCount, afterMark}
 use Rattle.disac4.specs.Event.{Event}
@@ -31,13 +31,13 @@ module _ (sys : System) where
 
   -- the labels that worker `i` has to treat, has on their way to it, or may still be sent by others
   abbrev coming : State → ℕ → ℕ
-  coming st i = length (st .workList i) + into labelsIn p (st .channel) i + unsentLabels sys st
+  coming st i = length (st .workList i) + into labelsIn p (st .channel) i + sendable sys st
 
   -- what a worker that treats deletes comes to its own lists alone
   coming-treat : (st : State) (i k : ℕ) → Worker sys k → (a : Label) (rest : List Label) → st .workList k ≡ a ∷ rest
       → coming (afterTreat sys k a rest st) i + length (st .toSend i)
       ≤ coming st i + length (afterTreat sys k a rest st .toSend i)
-  unfolding unsentLabels afterTreat
+  unfolding sendable afterTreat
   coming-treat st i k w a rest e =
       let new : List Label = deletions sys k a st in
       elim (ℕ-discrete i k) [
@@ -45,7 +45,7 @@ module _ (sys : System) where
             rw same
             (omega (
               arith,
-              treat-unsent sys st k w a rest,
+              treat-sendable sys st k w a rest,
               ap length e,
               length-append rest new,
               length-append (st .toSend k) new,
@@ -55,7 +55,7 @@ module _ (sys : System) where
         | no other ↦
             omega (
               arith,
-              treat-unsent sys st k w a rest,
+              treat-sendable sys st k w a rest,
               ap length (update-other (st .workList) k (rest ++ new) i other),
               ap length (update-other (st .toSend) k (st .toSend k ++ new) i other),
             )
@@ -64,20 +64,20 @@ module _ (sys : System) where
   -- what a worker sends was unsent, and is on its way to the others
   coming-send : (st : State) (i k : ℕ) → Worker sys i → Worker sys k
       → coming (afterSend sys k st) i + length (st .toSend i) ≤ coming st i + length (afterSend sys k st .toSend i)
-  unfolding unsentLabels afterSend
+  unfolding sendable afterSend
   coming-send st i k v w =
       elim (ℕ-discrete i k) [
         | yes same ↦
             rw same
             (omega (
               arith,
-              send-unsent sys st k w,
+              send-sendable sys st k w,
               into-broadcast-self labelsIn p (st .channel) k (list (st .toSend k)),
             ))
         | no other ↦
             omega (
               arith,
-              send-unsent sys st k w,
+              send-sendable sys st k w,
               into-broadcast labelsIn p (st .channel) k (list (st .toSend k)) i (w .within) (v .within) other,
               ap length (update-other (st .toSend) k [] i other),
             )
@@ -88,7 +88,7 @@ module _ (sys : System) where
       → st .channel j k ≡ list labels ∷ rest
       → coming (afterList j k labels rest st) i + length (st .toSend i)
       ≤ coming st i + length (afterList j k labels rest st .toSend i)
-  unfolding unsentLabels afterList
+  unfolding sendable afterList
   coming-read st i j k labels rest h e =
       elim (ℕ-discrete i k) [
         | yes same ↦
@@ -110,7 +110,7 @@ module _ (sys : System) where
   -- one more worker's move leaves no more labels to come, but for what it adds to its own to-send list
   coming-move : {st s : State} {new : List Event} (i : ℕ) → Worker sys i → Moves sys st s new
       → coming s i + length (st .toSend i) ≤ coming st i + length (s .toSend i)
-  unfolding unsentLabels afterPoll afterDrop afterAnswer afterAsk afterCount afterMark
+  unfolding sendable afterPoll afterDrop afterAnswer afterAsk afterCount afterMark
   coming-move {st} i v (treats k a rest w e) = coming-treat st i k w a rest e
   coming-move {st} i v (sends k w e) = coming-send st i k v w
   coming-move {st} i v (reads j k labels rest w h n e) = coming-read st i j k labels rest h e
@@ -139,7 +139,7 @@ module _ (sys : System) where
   -- at loading only the labels of others are to come besides its own
   coming-load : Sound sys → (i : ℕ) → coming (load sys) i ≤ labelCount (sys .net) + length (load sys .toSend i)
   unfolding load
-  coming-load sound i = omega (arith, load-unsent sys sound, sum-zero (suc p) (λ j. 0) (λ j h. refl))
+  coming-load sound i = omega (arith, load-sendable sys sound, sum-zero (suc p) (λ j. 0) (λ j h. refl))
 
 -- the labels that a worker has to treat, and those on their way to it, are at most the loaded labels
 pub work-bound : {sys : System} → Sound sys → (ts : List Turn) (k : ℕ) → Worker sys k
@@ -151,11 +151,11 @@ work-bound {sys} sound ts k w =
       kept sys (sound .few) (λ st es. coming sys st k ≤ labelCount (sys .net) + length (st .toSend k))
           (λ st es s new o h move. omega (arith, coming-move sys k w move))
           ts (load sys) (coming-load sys sound k),
-      unsent-part sys (play sys (load sys) ts) k w,
+      sendable-part sys (play sys (load sys) ts) k w,
     )
 
 -- so are the labels that it has to send
 pub to-send-bound : {sys : System} → Sound sys → (ts : List Turn) (k : ℕ) → Worker sys k
     → length (play sys (load sys) ts .toSend k) ≤ labelCount (sys .net)
 to-send-bound {sys} sound ts k w =
-    omega (arith, sends-and-unsent sound ts, unsent-part sys (play sys (load sys) ts) k w)
+    omega (arith, sends-and-sendable sound ts, sendable-part sys (play sys (load sys) ts) k w)

@@ -46,7 +46,7 @@ idle-kept sys small s inv t u apart idle =
     (λ s′ e.
     map-eq-none-iff (viewOf sys) (stepM sys s′ u) .0
     (does .turn s′ u (does .keeps s t s′ inv e)
-    ∙ idle-still sys (viewOf sys s) t u (viewOf sys s′) (another-read t u apart) (another-sender t u apart)
+    ∙ idle-still sys (small .sound .few) (viewOf sys s) t u (viewOf sys s′) (another-read t u apart) (another-sender t u apart)
     (sym (does .turn s t inv) ∙ ap (mapO (viewOf sys)) e)
     (sym (does .turn s u inv) ∙ ap (mapO (viewOf sys)) idle)))
   where

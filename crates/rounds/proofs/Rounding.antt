@@ -4,9 +4,9 @@ use mathlib.Core.Bool.{true, false}
 use mathlib.Core.List.{List, [], _++_, append-assoc, append-nil}
 use mathlib.Core.Path.{_≡_, refl, sym, _∙_, ap, subst}
 use lib.ListN.{length}
-use Rattle.disac4.proofs.Demands.{Reached}
 use Rattle.disac4.proofs.Fold.{play-append}
 use Rattle.disac4.proofs.Potential.{potential}
+use Rattle.disac4.proofs.RoundRun.{Reached, roundOn}
 use Rattle.disac4.specs.Fold.{playBy}
 use Rattle.disac4.specs.Loading.{load}
 use Rattle.disac4.specs.Outcome.{systemAt}
@@ -16,7 +16,7 @@ use Rattle.disac4.specs.State.{State}
 use Rattle.disac4.specs.System.{System, Sound}
 use Rattle.disac4.specs.Turn.{Turn, step, play}
 use Rattle.engine.proofs.Playing.{goes-after}
-use Rattle.rounds.proofs.RoundsLeft.{left, roundOn, left-loaded, left-closed, left-lowers, left-open}
+use Rattle.rounds.proofs.RoundsLeft.{left, left-loaded, left-closed, left-lowers, left-open}
 use Rattle.engine.proofs.RunLaws.{workers-are}
 use Rattle.refinement.proofs.Start.{fits-regions}
 use Rattle.refinement.proofs.Underway.{under-view, plays-none, plays-then}

@@ -5,21 +5,16 @@ use mathlib.Core.List.{List, [], _++_}
 use mathlib.Core.Path.{_≡_, _∙_, ap}
 use native.Mathlib.Omega.{arith}
 use Rattle.disac4.proofs.Bound.{potential-loaded}
-use Rattle.disac4.proofs.Demands.{Reached, reached-advances}
 use Rattle.disac4.proofs.Potential.{potential}
-use Rattle.disac4.proofs.RoundRun.{turns-closed, turns-open, round-lowers, rounds-enough}
+use Rattle.disac4.proofs.RoundRun.{Reached, roundOn, reached-round, turns-closed, turns-open, round-lowers, rounds-enough}
 use Rattle.disac4.specs.Loading.{load}
 use Rattle.disac4.specs.Round.{round, roundTurns, roundRunTurns}
 use Rattle.disac4.specs.State.{State}
 use Rattle.disac4.specs.System.{System, Sound}
-use Rattle.disac4.specs.Turn.{Turn, play}
+use Rattle.disac4.specs.Turn.{Turn}
 
 abbrev pub left : System → State → List Turn
 left sys st = roundTurns sys (suc (potential sys st)) st
-
--- the state after one round
-abbrev pub roundOn : System → State → State
-roundOn sys st = play sys st (round (sys .workers))
 
 module _ (sys : System) (sound : Sound sys) where
   -- from the loaded plan on: the whole round run
@@ -34,14 +29,12 @@ module _ (sys : System) (sound : Sound sys) where
   module _ (st : State) (reached : Reached sys st) (running : st .controller .closed ≡ false) where
     -- a round lowers the potential of an open plan
     pub left-lowers : potential sys (roundOn sys st) < potential sys st
-    left-lowers = round-lowers sys (sound .few) (Reached sys) (reached-advances sys sound) st reached running
+    left-lowers = round-lowers sys sound st reached running
 
     -- and what is left is a round, and what is left after it
     pub left-open : left sys st ≡ round (sys .workers) ++ left sys (roundOn sys st)
     left-open =
         turns-open sys (potential sys st) st running
         ∙ ap (λ (ts : List Turn). round (sys .workers) ++ ts)
-        (rounds-enough sys (sound .few) (Reached sys) (reached-advances sys sound) (suc (potential sys (roundOn sys st)))
-        (potential sys st) (roundOn sys st)
-        (reached-advances sys sound .carried st (round (sys .workers)) reached)
-        (omega arith) left-lowers)
+        (rounds-enough sys sound (suc (potential sys (roundOn sys st))) (potential sys st) (roundOn sys st)
+        (reached-round sys st reached) (omega arith) left-lowers)
