@@ -29,9 +29,8 @@ module _ (r a b : ℕ) (h : HEADS ≤ r) where
   far : (s : ℕ) → s < HEADS → eqb r s ≡ false
   far s l = ne-eqb r s (λ e. omega arith)
 
-  -- ---- an action gives a memory that agrees at the point, or nothing
+  -- ---- an action gives a memory, or a turn a machine, that agrees at the point, or nothing
 
-  -- the memory of what it gives: of a memory itself, or of a machine
   data Kept {A : Type 0} (mem : A → Mem) (m : Mem) : Option A → Type 0 where
     idle : Kept mem m none
     agrees : {n : A} → mem n r a b ≡ m r a b → Kept mem m (some n)
@@ -41,8 +40,13 @@ module _ (r a b : ℕ) (h : HEADS ≤ r) where
   kept-if true x y = x
   kept-if false x y = y
 
+  -- by an action
   abbrev KeptM : Mem → Option Mem → Type 0
   KeptM = Kept (λ n. n)
+
+  -- by a turn
+  abbrev KeptS : Mem → Option Machine → Type 0
+  KeptS = Kept (λ s. s .mem)
 
   send-kept : (i : ℕ) (m : Mem) → KeptM m (sendM i m)
   unfolding sendM sentM
@@ -87,11 +91,11 @@ module _ (r a b : ℕ) (h : HEADS ≤ r) where
 
   -- ---- turns
 
-  with-kept : (t : Tally) (m : Mem) (o : Option Mem) → KeptM m o → Kept (λ (s : Machine). s .mem) m (withMem t o)
+  with-kept : (t : Tally) (m : Mem) (o : Option Mem) → KeptM m o → KeptS m (withMem t o)
   with-kept t m none k = idle
   with-kept t m (some n) (agrees e) = agrees e
 
-  step-kept : (sys : System) (s : Machine) (t : Turn) → Kept (λ (s : Machine). s .mem) (s .mem) (stepM sys s t)
+  step-kept : (sys : System) (s : Machine) (t : Turn) → KeptS (s .mem) (stepM sys s t)
   unfolding stepM hearM pollM askM outReadM
   step-kept sys s t =
       kept-if (s .tally .closed || not (allowed (sys .workers) t)) idle
@@ -104,7 +108,7 @@ module _ (r a b : ℕ) (h : HEADS ≤ r) where
   unfolding afterBy
   turn-static sys s t = go (stepM sys s t) (step-kept sys s t)
     where
-      go : (o : Option Machine) → Kept (λ (s : Machine). s .mem) (s .mem) o → Option·getD o s .mem r a b ≡ s .mem r a b
+      go : (o : Option Machine) → KeptS (s .mem) o → Option·getD o s .mem r a b ≡ s .mem r a b
       go none k = refl
       go (some s′) (agrees e) = e
 
