@@ -11,6 +11,7 @@ use lib.ListN.{length}
 use Rattle.base.proofs.Bools.{and-left, and-right}
 use Rattle.base.proofs.Choice.{by-test, cond-same, cond-false}
 use Rattle.base.specs.Below.{one}
+use Rattle.cells.proofs.Acting.{idle}
 use Rattle.cells.specs.Memory.{memOf}
 use Rattle.controller.specs.Controller.{Machine, machine}
 use Rattle.disac4.specs.Outcome.{systemAt}
@@ -19,13 +20,12 @@ use Rattle.disac4.specs.System.{System}
 use Rattle.disac4.specs.Turn.{turn, allowed, isSome}
 use Rattle.disac4.specs.declared.Tally.{Tally}
 use Rattle.engine.proofs.Advancing.{advanced}
-use Rattle.engine.proofs.RunLaws.{controls-idle}
 use Rattle.playing.specs.Known.{KnownIdle}
 use Rattle.idle.specs.Table.{idleAt, Puts, enables}
 use Rattle.refinement.proofs.IdleKept.{idle-kept}
 use Rattle.refinement.proofs.Start.{fits-regions}
 use Rattle.refinement.proofs.Underway.{under-inv, at-after}
-use Rattle.refinement.specs.Run.{turnOn, workerOn, Going, Plays}
+use Rattle.refinement.specs.Run.{workerOn, Going, Plays}
 use Rattle.refinement.specs.Step.{withMem, stepM, afterM}
 use Rattle.refinement.specs.declared.Progress.{Progress}
 
@@ -38,8 +38,7 @@ nothing-known b cells t table l z = record { long = l; idle = λ k d h e q. absu
 pub passed-over : (b cells : List ℕ) (g : Progress) (table : List ℕ) → Going b cells g → KnownIdle b cells (g .tally) table
     → (k d : ℕ) → k < 9 → d < 13 → idleAt table k d ≡ 1 → Plays b (turn k d ∷ []) cells g cells g
 passed-over b cells g table go known k d h e q =
-    advanced b cells cells g g k d (record { changed = 0; tally = g .tally }) (go .sound)
-    (controls-idle (turnOn (systemAt b) k d) cells (g .tally) _ (known .idle k d h e q) refl refl) refl (omega arith)
+    advanced b cells cells g g k d 0 (go .sound) (idle _ _ (known .idle k d h e q)) (omega arith)
     (adds-none (isSend (turn k d)) (g .sends)) (adds-none (isPoll (turn k d)) (g .polls))
   where
     adds-none : (c : Bool) (n : ℕ) → n ≡ n + cond c 0 0

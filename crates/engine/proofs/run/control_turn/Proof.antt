@@ -1,13 +1,14 @@
 -- `engine::run::control_turn` plays one turn of the controller. Assumes nothing.
-use Prim.Native.Nat.{ℕ, _-_, _≤_}
+use Prim.Native.Nat.{ℕ, _≤_}
 use mathlib.Core.Bool.{true}
 use mathlib.Core.Path.{_≡_, refl, sym, _∙_, subst}
 use native.Mathlib.Omega.{arith}
 use denote.Ref.{now}
-use Rattle.controller.specs.Controller.{machine, hearM, pollM}
+use Rattle.cells.proofs.Acting.{idle, acts-as}
+use Rattle.controller.specs.Controller.{machine}
 use Rattle.disac4.specs.Outcome.{systemAt}
 use Rattle.disac4.specs.Turn.{allowed, turn}
-use Rattle.engine.proofs.RunLaws.{controls-as, controls-idle, turn-closed, turn-polls, turn-hears, may-hear, workers-are}
+use Rattle.engine.proofs.RunLaws.{turn-closed, turn-polls, turn-hears, may-hear, workers-are}
 use Rattle.refinement.specs.Run.{turnOn}
 use borrow.Author.Needs.{needs}
 use Rattle.engine.proofs.run.control_turn.Statement.{statement}
@@ -23,8 +24,7 @@ allowed-at s =
 returns : tie.Need-returns
 returns c =
     let a = c .before .before .before .args in
-    controls-idle (turnOn (systemAt (now (a .b))) 0 (a .d)) (now (a .cells)) (a .t) _
-    (turn-closed (systemAt (now (a .b))) 0 (a .d) (machine (now (a .cells)) (a .t)) (c .if1 .taken)) refl refl
+    idle _ _ (turn-closed (systemAt (now (a .b))) 0 (a .d) (machine (now (a .cells)) (a .t)) (c .if1 .taken))
 
 poll-requires : tie.Need-poll-requires
 poll-requires c κs = search needs
@@ -38,9 +38,8 @@ returns-2 c =
     let t = q .before .before in
     let s = t .before .before .before .before in
     let a = s .args in
-    controls-as pollM (turnOn (systemAt (now (a .b))) 0 (a .d)) (now (a .cells)) (a .t) _ _
+    acts-as (q .poll .ensures) (turnOn (systemAt (now (a .b))) 0 (a .d))
     (turn-polls (systemAt (now (a .b))) 0 (a .d) (machine (now (a .cells)) (a .t)) (t .before .if1 .left) (allowed-at s) refl (t .if2 .taken))
-    (q .poll .ensures)
 
 sub-heard : tie.Need-sub-heard
 sub-heard c =
@@ -62,9 +61,8 @@ returns-3 c =
     let e = h .before .before in
     let s = e .before .before .before .before in
     let a = s .args in
-    controls-as (hearM (systemAt (now (a .b))) (a .d - 1)) (turnOn (systemAt (now (a .b))) 0 (a .d)) (now (a .cells)) (a .t) _ _
+    acts-as (h .heard .ensures (systemAt (now (a .b))) (workers-are (now (a .b)) ∙ sym (s .pre .1))) (turnOn (systemAt (now (a .b))) 0 (a .d))
     (turn-hears (systemAt (now (a .b))) 0 (a .d) (machine (now (a .cells)) (a .t)) (e .before .if1 .left) (allowed-at s) refl (e .if2 .left))
-    (h .heard .ensures (systemAt (now (a .b))) (workers-are (now (a .b)) ∙ sym (s .pre .1)))
 
 pub control-turn-spec : {M : Type 1} → statement M
 control-turn-spec =

@@ -1,8 +1,7 @@
 -- `engine::run::read` takes the next poll or the next list message. Assumes nothing.
 use borrow.Author.Needs.{needs}
-use denote.Ref.{now}
-use Rattle.cells.specs.Memory.{memOf}
-use Rattle.engine.proofs.RunLaws.{acts-as, read-polls, read-lists}
+use Rattle.cells.proofs.Acting.{acts-as}
+use Rattle.engine.proofs.RunLaws.{read-polls, read-lists}
 use Rattle.refinement.specs.Run.{readOn}
 use Rattle.engine.proofs.run.read.Statement.{statement}
 use Rattle.engine.proofs.run.read.Tie as tie
@@ -18,8 +17,7 @@ returns c =
     let p = c .before .before in
     let t = p .before .before .before in
     let a = t .before .before .args in
-    acts-as _ (readOn (a .t) (a .i) (a .d)) (now (a .cells)) _ _
-    (read-polls (a .t) (a .i) (a .d) (memOf (now (a .cells))) (t .if1 .taken)) (p .read-poll .ensures)
+    acts-as (p .read-poll .ensures) (readOn (a .t) (a .i) (a .d)) (read-polls _ _ _ _ (t .if1 .taken))
 
 sub-read-list : tie.Need-sub-read-list
 sub-read-list c = search needs
@@ -35,8 +33,7 @@ returns-2 c =
     let l = c .before .before in
     let t = l .before .before in
     let a = t .before .before .args in
-    acts-as _ (readOn (a .t) (a .i) (a .d)) (now (a .cells)) _ _
-    (read-lists (a .t) (a .i) (a .d) (memOf (now (a .cells))) (t .if1 .left)) (l .read-list .ensures)
+    acts-as (l .read-list .ensures) (readOn (a .t) (a .i) (a .d)) (read-lists _ _ _ _ (t .if1 .left))
 
 pub read-spec : {M : Type 1} → statement M
 read-spec =

@@ -2,8 +2,8 @@
 use denote.Ref.{now}
 use native.Mathlib.Omega.{arith}
 use Rattle.disac4.specs.Outcome.{systemAt}
-use Rattle.engine.proofs.RunLaws.{acts-as, worker-treats, worker-sends, worker-answers, worker-reads}
-use Rattle.cells.specs.Memory.{memOf}
+use Rattle.cells.proofs.Acting.{acts-as}
+use Rattle.engine.proofs.RunLaws.{worker-treats, worker-sends, worker-answers, worker-reads}
 use Rattle.refinement.specs.Run.{workerOn}
 use borrow.Author.Needs.{needs}
 use Rattle.engine.proofs.run.work.Statement.{statement}
@@ -21,9 +21,8 @@ returns : tie.Need-returns
 unfolding systemAt
 returns c =
     let a = c .before .before .before .before .before .before .before .args in
-    acts-as _ (workerOn (systemAt (now (a .b))) (a .t) (a .i) (a .d)) (now (a .cells)) _ _
-    (worker-treats (systemAt (now (a .b))) (a .t) (a .i) (a .d) (memOf (now (a .cells))) (c .before .before .before .before .if1 .taken))
-    (c .before .before .treat .ensures)
+    acts-as (c .before .before .treat .ensures) (workerOn (systemAt (now (a .b))) (a .t) (a .i) (a .d))
+    (worker-treats _ _ _ _ _ (c .before .before .before .before .if1 .taken))
 
 send-requires : tie.Need-send-requires
 send-requires c κs = search needs
@@ -35,9 +34,8 @@ returns-2 : tie.Need-returns-2
 unfolding systemAt
 returns-2 c =
     let a = c .before .before .before .before .before .before .before .before .args in
-    acts-as _ (workerOn (systemAt (now (a .b))) (a .t) (a .i) (a .d)) (now (a .cells)) _ _
-    (worker-sends (systemAt (now (a .b))) (a .t) (a .i) (a .d) (memOf (now (a .cells))) (c .before .before .before .before .before .if1 .left) (c .before .before .before .before .if2 .taken))
-    (c .before .before .send .ensures)
+    acts-as (c .before .before .send .ensures) (workerOn (systemAt (now (a .b))) (a .t) (a .i) (a .d))
+    (worker-sends _ _ _ _ _ (c .before .before .before .before .before .if1 .left) (c .before .before .before .before .if2 .taken))
 
 answer-requires : tie.Need-answer-requires
 answer-requires c κs = search needs
@@ -49,9 +47,9 @@ returns-3 : tie.Need-returns-3
 unfolding systemAt
 returns-3 c =
     let a = c .before .before .before .before .before .before .before .before .before .args in
-    acts-as _ (workerOn (systemAt (now (a .b))) (a .t) (a .i) (a .d)) (now (a .cells)) _ _
-    (worker-answers (systemAt (now (a .b))) (a .t) (a .i) (a .d) (memOf (now (a .cells))) (c .before .before .before .before .before .before .if1 .left) (c .before .before .before .before .before .if2 .left) (c .before .before .before .before .if3 .taken))
-    (c .before .before .answer .ensures)
+    acts-as (c .before .before .answer .ensures) (workerOn (systemAt (now (a .b))) (a .t) (a .i) (a .d))
+    (worker-answers _ _ _ _ _ (c .before .before .before .before .before .before .if1 .left) (c .before .before .before .before .before .if2 .left)
+    (c .before .before .before .before .if3 .taken))
 
 read-requires : tie.Need-read-requires
 read-requires c κs =
@@ -71,9 +69,8 @@ returns-4 c =
     let r = c .before .before in
     let e = r .before .before in
     let a = e .before .before .before .before .before .args in
-    acts-as _ (workerOn (systemAt (now (a .b))) (a .t) (a .i) (a .d)) (now (a .cells)) _ _
-    (worker-reads (systemAt (now (a .b))) (a .t) (a .i) (a .d) (memOf (now (a .cells))) (e .before .before .if1 .left) (e .before .if2 .left)
-    (e .if3 .left)) (r .read .ensures)
+    acts-as (r .read .ensures) (workerOn (systemAt (now (a .b))) (a .t) (a .i) (a .d))
+    (worker-reads _ _ _ _ _ (e .before .before .if1 .left) (e .before .if2 .left) (e .if3 .left))
 
 pub work-spec : {M : Type 1} → statement M
 work-spec =
