@@ -15,14 +15,14 @@ module _ {S : Type 0} (act : S → Option S) (before : S) where
   pub acts : (after s : S) → act before ≡ some s → after ≡ s → Acts act before after 1
   acts after s e p = record { leaves = rw e p; count = rw e }
 
-module _ {S : Type 0} {act : S → Option S} {before after : S} {r : ℕ} (a : Acts act before after r) where
+module _ {S : Type 0} {act : S → Option S} {before after : S} {r : ℕ} where
   -- what code does by one definition it does by another that gives the same
-  pub acts-as : (other : S → Option S) → other before ≡ act before → Acts other before after r
-  acts-as other e = record {
+  pub acts-as : {other : S → Option S} → other before ≡ act before → Acts act before after r → Acts other before after r
+  acts-as e a = record {
     leaves = a .leaves ∙ ap (λ (o : Option S). Option·getD o before) (sym e);
     count = a .count ∙ ap (λ (o : Option S). one (isSome o)) (sym e);
   }
 
   -- it adds at most 1 to a count
-  pub acts-few : r ≤ 1
-  acts-few = omega (arith, a .count, one-le (isSome (act before)))
+  pub acts-few : Acts act before after r → r ≤ 1
+  acts-few a = omega (arith, a .count, one-le (isSome (act before)))

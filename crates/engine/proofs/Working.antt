@@ -19,11 +19,10 @@ use Rattle.disac4.specs.Report.{isSend, isPoll}
 use Rattle.disac4.specs.Turn.{Turn, turn, allowed}
 use Rattle.disac4.specs.declared.Tally.{Tally}
 use Rattle.engine.proofs.Advancing.{playable, advanced}
-use Rattle.engine.proofs.Playing.{goes-after}
 use Rattle.engine.proofs.RunLaws.{workers-are, acts-beside, turn-closed, turn-works, may-work}
 use Rattle.engine.specs.Play.{Running, Grows, Works}
 use Rattle.format.specs.Format.{workerCount}
-use Rattle.refinement.proofs.Underway.{plays-none, plays-then}
+use Rattle.refinement.proofs.Underway.{plays-none, plays-then, goes-after}
 use Rattle.refinement.specs.Run.{Going, Plays, Playable, turnOn, workerOn}
 use Rattle.refinement.specs.Step.{workerM}
 use Rattle.refinement.specs.declared.Progress.{Progress}
@@ -121,8 +120,8 @@ module _ (b cells : List ℕ) (t : Tally) (k d : ℕ) (run : Running b cells t) 
         → Works b (turn k d ∷ []) cells t cells′ r (cond (eqb d 10) r 0)
     worked-open cells′ r e act =
         worked cells′ r
-        (acts-as (acts-beside (workerM (systemAt b) (k - 1) d) t act) (turnOn (systemAt b) k d)
-        (turn-works (systemAt b) k d (machine cells t) e (rw (workers-are b, ← q) ok) some))
+        (acts-as (turn-works (systemAt b) k d (machine cells t) e (rw (workers-are b, ← q) ok) some)
+        (acts-beside (workerM (systemAt b) (k - 1) d) t act))
 
     -- what the code of its action asks
     pub may-act : Playable b cells t × (k - 1 < workerCount b) × (d < 12)

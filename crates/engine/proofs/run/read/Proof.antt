@@ -2,7 +2,6 @@
 use borrow.Author.Needs.{needs}
 use Rattle.cells.proofs.Acting.{acts-as}
 use Rattle.engine.proofs.RunLaws.{read-polls, read-lists}
-use Rattle.refinement.specs.Run.{readOn}
 use Rattle.engine.proofs.run.read.Statement.{statement}
 use Rattle.engine.proofs.run.read.Tie as tie
 
@@ -15,9 +14,7 @@ same-length c = search needs
 returns : tie.Need-returns
 returns c =
     let p = c .before .before in
-    let t = p .before .before .before in
-    let a = t .before .before .args in
-    acts-as (p .read-poll .ensures) (readOn (a .t) (a .i) (a .d)) (read-polls _ _ _ _ (t .if1 .taken))
+    acts-as (read-polls _ _ _ _ (p .before .before .before .if1 .taken)) (p .read-poll .ensures)
 
 sub-read-list : tie.Need-sub-read-list
 sub-read-list c = search needs
@@ -31,9 +28,7 @@ same-length-2 c = search needs
 returns-2 : tie.Need-returns-2
 returns-2 c =
     let l = c .before .before in
-    let t = l .before .before in
-    let a = t .before .before .args in
-    acts-as (l .read-list .ensures) (readOn (a .t) (a .i) (a .d)) (read-lists _ _ _ _ (t .if1 .left))
+    acts-as (read-lists _ _ _ _ (l .before .before .if1 .left)) (l .read-list .ensures)
 
 pub read-spec : {M : Type 1} → statement M
 read-spec =

@@ -1,13 +1,10 @@
 -- `engine::run::read_turn` plays a worker's read. Assumes nothing.
-use Prim.Native.Nat.{_-_}
 use native.Mathlib.Omega.{arith}
 use borrow.Author.Needs.{needs}
 use denote.Ref.{now}
 use Rattle.cells.proofs.Acting.{acts-as, acts-few}
-use Rattle.disac4.specs.Outcome.{systemAt}
 use Rattle.engine.proofs.RunLaws.{worker-reads}
 use Rattle.engine.proofs.Working.{worked-closed, worked-open, may-act, no-send}
-use Rattle.refinement.specs.Run.{workerOn}
 use Rattle.engine.proofs.run.read_turn.Statement.{statement}
 use Rattle.engine.proofs.run.read_turn.Tie as tie
 
@@ -42,8 +39,8 @@ returns-2 c =
       rw (no-send (a .j) (w .read .result) (s .pre .3)) at
           (worked-open (now (a .b)) (now (a .cells)) (a .t) (a .k) (a .j) (s .pre .0) (omega (arith, s .pre .2)) (s .pre .1) (s .pre .4)
           _ _ (e .if1 .left)
-          (acts-as (w .read .ensures) (workerOn (systemAt (now (a .b))) (a .t) (a .k - 1) (a .j))
-          (worker-reads _ _ _ _ _ (omega (arith, s .pre .3)) (omega (arith, s .pre .3)) (omega (arith, s .pre .3))))),
+          (acts-as (worker-reads _ _ _ _ _ (omega (arith, s .pre .3)) (omega (arith, s .pre .3)) (omega (arith, s .pre .3)))
+          (w .read .ensures))),
       acts-few (w .read .ensures),
     )
 

@@ -1,10 +1,8 @@
 -- `engine::run::work` plays a worker's action. Assumes nothing.
-use denote.Ref.{now}
 use native.Mathlib.Omega.{arith}
 use Rattle.disac4.specs.Outcome.{systemAt}
 use Rattle.cells.proofs.Acting.{acts-as}
 use Rattle.engine.proofs.RunLaws.{worker-treats, worker-sends, worker-answers, worker-reads}
-use Rattle.refinement.specs.Run.{workerOn}
 use borrow.Author.Needs.{needs}
 use Rattle.engine.proofs.run.work.Statement.{statement}
 use Rattle.engine.proofs.run.work.Tie as tie
@@ -20,9 +18,7 @@ same-length c = search needs
 returns : tie.Need-returns
 unfolding systemAt
 returns c =
-    let a = c .before .before .before .before .before .before .before .args in
-    acts-as (c .before .before .treat .ensures) (workerOn (systemAt (now (a .b))) (a .t) (a .i) (a .d))
-    (worker-treats _ _ _ _ _ (c .before .before .before .before .if1 .taken))
+    acts-as (worker-treats _ _ _ _ _ (c .before .before .before .before .if1 .taken)) (c .before .before .treat .ensures)
 
 send-requires : tie.Need-send-requires
 send-requires c κs = search needs
@@ -33,9 +29,8 @@ same-length-2 c = search needs
 returns-2 : tie.Need-returns-2
 unfolding systemAt
 returns-2 c =
-    let a = c .before .before .before .before .before .before .before .before .args in
-    acts-as (c .before .before .send .ensures) (workerOn (systemAt (now (a .b))) (a .t) (a .i) (a .d))
-    (worker-sends _ _ _ _ _ (c .before .before .before .before .before .if1 .left) (c .before .before .before .before .if2 .taken))
+    acts-as (worker-sends _ _ _ _ _ (c .before .before .before .before .before .if1 .left) (c .before .before .before .before .if2 .taken))
+    (c .before .before .send .ensures)
 
 answer-requires : tie.Need-answer-requires
 answer-requires c κs = search needs
@@ -46,10 +41,8 @@ same-length-3 c = search needs
 returns-3 : tie.Need-returns-3
 unfolding systemAt
 returns-3 c =
-    let a = c .before .before .before .before .before .before .before .before .before .args in
-    acts-as (c .before .before .answer .ensures) (workerOn (systemAt (now (a .b))) (a .t) (a .i) (a .d))
-    (worker-answers _ _ _ _ _ (c .before .before .before .before .before .before .if1 .left) (c .before .before .before .before .before .if2 .left)
-    (c .before .before .before .before .if3 .taken))
+    acts-as (worker-answers _ _ _ _ _ (c .before .before .before .before .before .before .if1 .left) (c .before .before .before .before .before .if2 .left)
+    (c .before .before .before .before .if3 .taken)) (c .before .before .answer .ensures)
 
 read-requires : tie.Need-read-requires
 read-requires c κs =
@@ -68,9 +61,7 @@ unfolding systemAt
 returns-4 c =
     let r = c .before .before in
     let e = r .before .before in
-    let a = e .before .before .before .before .before .args in
-    acts-as (r .read .ensures) (workerOn (systemAt (now (a .b))) (a .t) (a .i) (a .d))
-    (worker-reads _ _ _ _ _ (e .before .before .if1 .left) (e .before .if2 .left) (e .if3 .left))
+    acts-as (worker-reads _ _ _ _ _ (e .before .before .if1 .left) (e .before .if2 .left) (e .if3 .left)) (r .read .ensures)
 
 pub work-spec : {M : Type 1} → statement M
 work-spec =
