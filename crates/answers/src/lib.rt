@@ -19,8 +19,9 @@ ghost use mathlib.Core.Path.{_≡_};
 ghost use Prim.Native.Nat.{_<_, _≤_};
 ghost use lib.Dec.{eqb};
 ghost use lib.ListN.{length};
+ghost use Rattle.cells.specs.Acts.{Acts};
 ghost use Rattle.cells.specs.Layout.{WORKERS, LISTS, HELD};
-ghost use Rattle.cells.specs.Memory.{memOf, Acts};
+ghost use Rattle.cells.specs.Memory.{memOf};
 ghost use Rattle.cells.specs.View.{pollAt};
 ghost use Rattle.answers.specs.Answers.{answerM, answeredWith, emptyM};
 
@@ -84,7 +85,7 @@ fn same_count(a: ListCounter, b: ListCounter) -> bool
 // Answer: row `i` replies to the poll it holds, where both its lists are empty and its list counter is the wanted count.
 pub fn answer(cells: &mut [u16], i: usize) -> usize
     requires { ⌜ (24576 ≤ length (now cells)) × (i < 8) ⌝ }
-    ensures { λ r. ⌜ Acts (answerM i) (now (cells .entry)) (now (cells .exit)) r ⌝ }
+    ensures { λ r. ⌜ Acts (answerM i) (memOf (now (cells .entry))) (memOf (now (cells .exit))) r ⌝ }
 {
     let held = get(cells, WORKERS, i, HELD);
     if held == 0 {

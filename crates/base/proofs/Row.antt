@@ -1,6 +1,6 @@
 -- Laws of rows of bits, at any width: which values a row holds, and how many.
 use Prim.Native.Nat.{ℕ, zero, suc, _+_, _-_, _*_, _/_, _%_, _^_, _<_, _≤_, min}
-use mathlib.Core.Bool.{Bool, true, false, cond, _&&_}
+use mathlib.Core.Bool.{Bool, true, false, cond, _&&_, not}
 use mathlib.Core.Logic.{_⊎_, inl, inr, ⊎-elim}
 use mathlib.Core.Path.{_≡_, refl, sym, _∙_, ap, ap₂}
 use native.Mathlib.Nat.{not-suc-le-zero, le-of-suc-le-suc, two-pow-succ, pow-succ', div-one, div-div-eq-div-mul, div-eq-of-lt}
@@ -156,6 +156,16 @@ pub row-full : (n : ℕ) → 2 ^ n - 1 ≡ rowOf n (λ w. true)
 unfolding rowOf
 row-full zero = refl
 row-full (suc n) = omega (arith, row-full n, two-pow-succ n, pow-pos n)
+
+-- the values that fail a test are the rest of all values below n
+pub row-rest : (n : ℕ) (t : ℕ → Bool) → 2 ^ n - 1 - rowOf n t ≡ rowOf n (λ w. not (t w))
+unfolding rowOf
+row-rest zero t = refl
+row-rest (suc n) t = omega (arith, row-rest n t, row-small n t, two-pow-succ n, either (t n))
+  where
+    either : (b : Bool) → cond b (2 ^ n) 0 + cond (not b) (2 ^ n) 0 ≡ 2 ^ n
+    either true = omega arith
+    either false = omega arith
 
 and-halves : (r q : ℕ) → bitAnd r q ≡ one (isOdd r && isOdd q) + 2 * bitAnd (r / 2) (q / 2)
 and-halves r q = omega (arith, and-step r q, ap₂ min (odd-rest r) (odd-rest q), lower (isOdd r) (isOdd q))

@@ -1,3 +1,4 @@
+pub mod Acts
 pub mod Layout
 pub mod Lists
 pub mod Memory

@@ -1,7 +1,10 @@
 // The regions of the work cells: the lines of the table in specs/Layout.antt; and reads and stores by row and column.
 use crate::Region;
+use base::row_if;
 ghost use mathlib.Core.Path.{_≡_};
-ghost use Prim.Native.Nat.{_<_};
+ghost use Prim.Native.Nat.{_<_, _≤_};
+ghost use lib.Dec.{eqb};
+ghost use Rattle.base.specs.Row.{rowOf};
 ghost use Rattle.cells.specs.Layout.{Fits};
 ghost use Rattle.cells.specs.Memory.{memOf, store};
 
@@ -146,4 +149,18 @@ pub fn put(cells: &mut [u16], g: Region, i: usize, j: usize, v: usize)
     let base = g.base;
     let cols = g.cols;
     cells[base + i * cols + j] = v as u16;
+}
+
+// The row of the values below n, of at most 16, whose cells in row i of a region hold c.
+pub fn row_holding(cells: &[u16], g: Region, i: usize, n: usize, c: usize) -> usize
+    requires { ⌜ Fits (now cells) g i 15 × (n ≤ 16) ⌝ }
+    ensures { λ r. ⌜ r ≡ rowOf n (λ v. eqb (memOf (now (cells .entry)) (g .id) i v) c) ⌝ }
+{
+    let mut row = 0;
+    let mut v = 0;
+    while v < n {
+        row += row_if(get(cells, g, i, v) == c, v);
+        v += 1;
+    }
+    row
 }

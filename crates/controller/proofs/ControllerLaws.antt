@@ -2,7 +2,7 @@
 use Prim.Native.Nat.{ℕ, _+_, _^_, _<_, _≤_}
 use mathlib.Core.Bool.{Bool, true, false, not, _&&_}
 use mathlib.Core.List.{List}
-use mathlib.Core.Option.{Option, none, some}
+use mathlib.Core.Option.{none, some}
 use mathlib.Core.Path.{_≡_, sym, _∙_}
 use native.Mathlib.Omega.{arith}
 use borrow.Author.Tests.{ltb-true, le-leb, lt-leb, not-true, not-false}
@@ -16,7 +16,7 @@ use Rattle.disac4.specs.declared.Tally.{Tally}
 use Rattle.cells.specs.Layout.{WANTED, WORKERS, OUT, OUTEND, OUTREAD}
 use Rattle.cells.specs.Memory.{Mem, memOf, store}
 use Rattle.controller.proofs.Marks.{mark-small}
-use Rattle.controller.specs.Controller.{askedT, asksT, countedT, withMark, markedT, toldT, hasOut, outReadM, askM, Machine, machine, Controls, pollM, hearM}
+use Rattle.controller.specs.Controller.{askedT, asksT, countedT, withMark, markedT, toldT, hasOut, outReadM, askM, Machine, machine, pollM, hearM}
 
 -- ---- the row of marks
 
@@ -63,15 +63,10 @@ module _ (p i c : ℕ) (t : Tally) where
           ∙ cond-true _ t (not-false (t .polling) h₂)
           ∙ cond-true (markedT p i t) t (sym q ∙ not-false same h))
 
--- ---- an action of the controller is idle, or acts
+-- ---- cells and tally after an action
 
-module _ (act : Machine → Option Machine) (before : List ℕ) (t : Tally) where
-  pub controls-none : act (machine before t) ≡ none → Controls act before t before (record { changed = 0; tally = t })
-  controls-none e = record { mem = rw e; tally = rw e; count = rw e }
-
-  pub hears : (after : List ℕ) (u : Tally) (s : Machine) → act (machine before t) ≡ some s → memOf after ≡ s .mem
-      → u ≡ s .tally → Controls act before t after (record { changed = 1; tally = u })
-  hears after u s e p q = record { mem = rw e p; tally = rw e q; count = rw e }
+pub stands : (cells : List ℕ) (t : Tally) (s : Machine) → memOf cells ≡ s .mem → t ≡ s .tally → machine cells t ≡ s
+stands cells t s p q i = record { mem = p i; tally = q i }
 
 -- ---- poll
 

@@ -3,16 +3,14 @@
 use Prim.Native.Nat.{ℕ, _+_, _^_}
 use mathlib.Core.Bool.{Bool, true, false, cond, _&&_, not}
 use mathlib.Core.List.{List}
-use mathlib.Core.Option.{Option, none, some, Option·getD}
-use mathlib.Core.Path.{_≡_}
+use mathlib.Core.Option.{Option, none, some}
 use lib.Dec.{leb, ltb, eqb}
 use Rattle.base.specs.Row.{bit}
 use Rattle.cells.specs.Layout.{OUT, WANTED, WORKERS, OUTEND, OUTREAD}
-use Rattle.cells.specs.Memory.{Mem, memOf, store, changed}
+use Rattle.cells.specs.Memory.{Mem, memOf, store}
 use Rattle.cells.specs.View.{LISTMARK}
 use Rattle.disac4.specs.System.{System}
 use Rattle.disac4.specs.declared.Tally.{Tally}
-use Rattle.controller.specs.declared.Controlled.{Controlled}
 
 -- the work cells as a memory, and the tally beside them
 pub record Machine : Type 0 where
@@ -21,12 +19,6 @@ pub record Machine : Type 0 where
 
 abbrev pub machine : List ℕ → Tally → Machine
 machine cells t = record { mem = memOf cells; tally = t }
-
--- what an action of the controller does to cells and tally: what its definition leaves, and 1 where that changes something
-pub record Controls (act : Machine → Option Machine) (before : List ℕ) (t : Tally) (after : List ℕ) (r : Controlled) : Type 0 where
-  pub mem : memOf after ≡ Option·getD (act (machine before t)) (machine before t) .mem
-  pub tally : r .tally ≡ Option·getD (act (machine before t)) (machine before t) .tally
-  pub count : r .changed ≡ changed (act (machine before t))
 
 -- ---- Poll
 

@@ -19,9 +19,10 @@ ghost use Prim.Native.Nat.{_<_, _≤_};
 ghost use lib.Dec.{ltb, eqb};
 ghost use lib.ListN.{length};
 ghost use Rattle.disac4.specs.System.{System};
+ghost use Rattle.cells.specs.Acts.{Acts};
 ghost use Rattle.cells.specs.Layout.{WANTED};
 ghost use Rattle.cells.specs.Memory.{memOf, store};
-ghost use Rattle.controller.specs.Controller.{askedT, asksT, countedT, withMark, markedT, toldT, pollM, hearM, Controls};
+ghost use Rattle.controller.specs.Controller.{askedT, asksT, countedT, withMark, markedT, toldT, machine, pollM, hearM};
 
 // What an action of the controller gives: 1 where it changed something, and the tally after it.
 pub struct Controlled {
@@ -152,7 +153,7 @@ fn put_poll(cells: &mut [u16], q: Poll)
 // Poll: where none is open, the controller sends the next one, with its count of lists.
 pub fn poll(cells: &mut [u16], t: Tally) -> Controlled
     requires { ⌜ 24576 ≤ length (now cells) ⌝ }
-    ensures { λ r. ⌜ Controls pollM (now (cells .entry)) t (now (cells .exit)) r ⌝ }
+    ensures { λ r. ⌜ Acts pollM (machine (now (cells .entry)) t) (machine (now (cells .exit)) (r .tally)) (r .changed) ⌝ }
 {
     if !asks(t) {
         return Controlled {
@@ -181,7 +182,7 @@ fn has_out(read: usize, end: usize, lists: u16) -> bool
 // Read: the controller takes the next message of row `i`, of `p` workers.
 pub fn hear(cells: &mut [u16], t: Tally, p: usize, i: usize) -> Controlled
     requires { ⌜ (24576 ≤ length (now cells)) × (t .marks < 256) × (i < 8) × (p ≤ 8) ⌝ }
-    ensures { λ r. ⌜ ((sys : System) → sys .workers ≡ p → Controls (hearM sys i) (now (cells .entry)) t (now (cells .exit)) r) ⌝ }
+    ensures { λ r. ⌜ ((sys : System) → sys .workers ≡ p → Acts (hearM sys i) (machine (now (cells .entry)) t) (machine (now (cells .exit)) (r .tally)) (r .changed)) ⌝ }
 {
     let lists = t.lists;
     let read = get(cells, WORKERS, i, OUTREAD);

@@ -2,29 +2,27 @@
 use Prim.Native.Nat.{ℕ, _+_, _/_, _%_, _<_, _≤_}
 use mathlib.Core.Bool.{Bool, true, false, cond, _&&_}
 use mathlib.Core.List.{List, [], _∷_}
-use mathlib.Core.Option.{Option, none}
+use mathlib.Core.Option.{none}
 use mathlib.Core.Path.{_≡_, sym, _∙_, ap}
 use native.Mathlib.Nat.{pow-le-pow-right}
 use native.Mathlib.Omega.{arith}
-use Rattle.base.proofs.Sums.{one-le}
 use Rattle.base.specs.Below.{one}
 use Rattle.disac4.specs.Fold.{isSome, afterBy}
 use Rattle.disac4.specs.Outcome.{systemAt}
 use Rattle.disac4.specs.Report.{isSend, isPoll}
 use Rattle.disac4.specs.System.{systemOf}
 use Rattle.disac4.specs.Turn.{Turn, turn}
-use Rattle.disac4.specs.declared.Tally.{Tally}
 use Rattle.engine.proofs.RunLaws.{workers-are, one-and}
 use Rattle.refinement.proofs.Start.{fits-regions}
 use Rattle.refinement.proofs.Underway.{under-inv, under-ready, under-small, at-next}
 use Rattle.index.specs.Allowed.{Listed}
 use Rattle.refinement.specs.Inv.{Inv, LabelNumber}
+use Rattle.cells.specs.Acts.{Acts}
 use Rattle.cells.specs.Layout.{WORKERS, HEAD}
 use Rattle.cells.specs.Memory.{memOf}
 use Rattle.refinement.specs.Run.{turnOn, Going, Plays, Playable}
-use Rattle.controller.specs.Controller.{Machine, machine, Controls}
+use Rattle.controller.specs.Controller.{machine}
 use Rattle.refinement.specs.Step.{stepM}
-use Rattle.controller.specs.declared.Controlled.{Controlled}
 use Rattle.refinement.specs.declared.Progress.{Progress}
 use Rattle.plan.proofs.Parts.{variables-read}
 use Rattle.plan.specs.Decode.{planFault}
@@ -55,35 +53,29 @@ module _ (b cells : List ℕ) (g : Progress) (go : Going b cells g) where
   pub counts-room : (g .changes < 65536) × (g .sends < 65536) × (g .polls < 65536)
   counts-room = under-small b (go .sound) (go .before) (go .turns) cells g (go .at)
 
--- what a turn adds to a count is at most 1
-pub adds-one : (f : Machine → Option Machine) (cells : List ℕ) (t : Tally) (cells′ : List ℕ) (h : Controlled)
-    → Controls f cells t cells′ h → h .changed ≤ 1
-adds-one f cells t cells′ h r = omega (arith, r .count, one-le (isSome (f (machine cells t))))
-
 pub part-of : (c : Bool) (n r : ℕ) → r ≡ cond c n 0 → r ≤ n
 part-of true n r e = omega arith
 part-of false n r e = omega arith
 
 -- one turn more, from what the code of a turn ensures
-pub advanced : (b cells cells′ : List ℕ) (g r : Progress) (actor action : ℕ) (h : Controlled) → planFault b ≡ none
-    → Controls (turnOn (systemAt b) actor action) cells (g .tally) cells′ h → r .tally ≡ h .tally
-    → r .changes ≡ g .changes + h .changed
-    → r .sends ≡ g .sends + cond (isSend (turn actor action)) (h .changed) 0
-    → r .polls ≡ g .polls + cond (isPoll (turn actor action)) (h .changed) 0
+pub advanced : (b cells cells′ : List ℕ) (g r : Progress) (actor action n : ℕ) → planFault b ≡ none
+    → Acts (turnOn (systemAt b) actor action) (machine cells (g .tally)) (machine cells′ (r .tally)) n
+    → r .changes ≡ g .changes + n
+    → r .sends ≡ g .sends + cond (isSend (turn actor action)) n 0
+    → r .polls ≡ g .polls + cond (isPoll (turn actor action)) n 0
     → Plays b (turn actor action ∷ []) cells g cells′ r
 unfolding Plays afterBy
-advanced b cells cells′ g r actor action h sound heard tally changes sends polls m ts at =
-    at-next b sound m ts cells g at t cells′ r
-    (λ i. record { mem = heard .mem i; tally = (tally ∙ heard .tally) i })
-    (changes ∙ ap (λ (n : ℕ). g .changes + n) (heard .count))
-    (sends ∙ ap (λ (n : ℕ). g .sends + n) (kind isSend))
-    (polls ∙ ap (λ (n : ℕ). g .polls + n) (kind isPoll))
+advanced b cells cells′ g r actor action n sound does changes sends polls m ts at =
+    at-next b sound m ts cells g at t cells′ r (does .leaves)
+    (changes ∙ ap (λ (k : ℕ). g .changes + k) (does .count))
+    (sends ∙ ap (λ (k : ℕ). g .sends + k) (kind isSend))
+    (polls ∙ ap (λ (k : ℕ). g .polls + k) (kind isPoll))
   where
     t : Turn
     t = turn actor action
 
     kind : (test : Turn → Bool)
-        → cond (test t) (h .changed) 0 ≡ one (test t && isSome (stepM (systemAt b) (machine cells (g .tally)) t))
+        → cond (test t) n 0 ≡ one (test t && isSome (stepM (systemAt b) (machine cells (g .tally)) t))
     kind test =
-        ap (λ (n : ℕ). cond (test t) n 0) (heard .count)
+        ap (λ (k : ℕ). cond (test t) k 0) (does .count)
         ∙ sym (one-and (test t) (isSome (stepM (systemAt b) (machine cells (g .tally)) t)))

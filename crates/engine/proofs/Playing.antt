@@ -1,4 +1,4 @@
--- Playing turns one after the other; and a loop that plays the list `f i` in step `i`, for each `i` below `n`.
+-- A loop that plays the list `f i` in step `i`, for each `i` below `n`.
 use Prim.Native.Nat.{ℕ, zero, suc, _+_, _<_, _≤_}
 use mathlib.Core.List.{List, _++_, map, map-append}
 use mathlib.Core.Path.{_≡_, refl, sym, _∙_, ap, subst}
@@ -7,14 +7,9 @@ use native.Mathlib.Omega.{arith}
 use lib.ListN.{length}
 use Rattle.base.specs.Below.{gatherBelow}
 use Rattle.disac4.specs.Turn.{Turn}
-use Rattle.refinement.proofs.Underway.{plays-none, plays-then, still-going}
+use Rattle.refinement.proofs.Underway.{plays-none, plays-then, goes-after}
 use Rattle.refinement.specs.Run.{Going, Plays}
 use Rattle.refinement.specs.declared.Progress.{Progress}
-
--- a run goes on after turns that keep the number of cells
-pub goes-after : (b : List ℕ) (us : List Turn) (cells cells′ : List ℕ) (g g′ : Progress) → Going b cells g
-    → length cells′ ≡ length cells → Plays b us cells g cells′ g′ → Going b cells′ g′
-goes-after b us cells cells′ g g′ go e p = still-going b us cells cells′ g g′ go (omega (arith, go .long)) p
 
 -- the loop's invariant before step `k`
 pub record Playing (b : List ℕ) (n : ℕ) (f : ℕ → List Turn) (cells₀ : List ℕ) (g₀ : Progress) (k : ℕ) (cells : List ℕ) (g : Progress)

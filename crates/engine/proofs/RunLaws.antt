@@ -3,7 +3,7 @@ use Prim.Native.Nat.{ℕ, _-_, _<_, _≤_}
 use mathlib.Core.Bool.{Bool, true, false, cond, _&&_}
 use mathlib.Core.List.{List}
 use mathlib.Core.Option.{Option, none, some, Option·getD}
-use mathlib.Core.Path.{_≡_, refl, sym, _∙_, ap}
+use mathlib.Core.Path.{_≡_, refl, _∙_, ap}
 use native.Mathlib.Omega.{arith}
 use borrow.Author.Tests.{eq-eqb, ne-eqb}
 use lib.Dec.{eqb}
@@ -11,31 +11,24 @@ use Rattle.base.proofs.Bools.{or-false, not-of-true}
 use Rattle.base.proofs.Choice.{cond-true, cond-false}
 use Rattle.base.specs.Below.{one}
 use Rattle.disac4.proofs.Allowed.{worker-bound, worker-does, controller-does, reads-worker}
+use Rattle.disac4.specs.Fold.{isSome}
 use Rattle.disac4.specs.Outcome.{systemAt}
 use Rattle.disac4.specs.System.{System, systemOf}
 use Rattle.disac4.specs.Turn.{turn, pollNumber, allowed}
 use Rattle.disac4.specs.declared.Tally.{Tally}
-use Rattle.cells.specs.Memory.{Mem, memOf, left, changed, Acts}
+use Rattle.cells.specs.Acts.{Acts}
+use Rattle.cells.specs.Memory.{Mem}
 use Rattle.sends.specs.Sends.{sendM}
 use Rattle.reads.specs.Reads.{readPollM, readListM}
 use Rattle.answers.specs.Answers.{answerM}
 use Rattle.refinement.specs.Run.{readOn, workerOn, turnOn}
-use Rattle.controller.specs.Controller.{Machine, machine, Controls, hearM, pollM}
+use Rattle.controller.specs.Controller.{Machine, hearM, pollM}
 use Rattle.refinement.specs.Step.{withMem, readM, workerM, stepM}
 use Rattle.treating.specs.Treat.{treatM}
-use Rattle.controller.specs.declared.Controlled.{Controlled}
 use Rattle.plan.specs.Decode.{planOf}
 use Rattle.format.specs.Format.{workerCount}
 
 -- ---- a worker's action, by its number
-
--- what code does by one definition it does by another that gives the same
-pub acts-as : (f g : Mem → Option Mem) (before after : List ℕ) (r : ℕ) → g (memOf before) ≡ f (memOf before)
-    → Acts f before after r → Acts g before after r
-acts-as f g before after r e a = record {
-  mem = a .mem ∙ ap (left (memOf before)) (sym e);
-  count = a .count ∙ ap changed (sym e);
-}
 
 module _ (sys : System) (t : Tally) (i d : ℕ) (m : Mem) where
   pub worker-treats : d ≡ 9 → workerOn sys t i d m ≡ treatM sys i m
@@ -66,44 +59,22 @@ module _ (t : Tally) (i d : ℕ) (m : Mem) where
 
 -- ---- a turn, by its actor and action
 
-pub controls-as : (f g : Machine → Option Machine) (before : List ℕ) (t : Tally) (after : List ℕ) (r : Controlled)
-    → g (machine before t) ≡ f (machine before t) → Controls f before t after r → Controls g before t after r
-controls-as f g before t after r e a = record {
-  mem = a .mem ∙ ap (λ (o : Option Machine). Option·getD o (machine before t) .mem) (sym e);
-  tally = a .tally ∙ ap (λ (o : Option Machine). Option·getD o (machine before t) .tally) (sym e);
-  count = a .count ∙ ap changed (sym e);
-}
-
--- an idle turn leaves everything as it was
-pub controls-idle : (g : Machine → Option Machine) (cells : List ℕ) (t : Tally) (r : Controlled) → g (machine cells t) ≡ none
-    → r .tally ≡ t → r .changed ≡ 0 → Controls g cells t cells r
-controls-idle g cells t r e p q = record {
-  mem = ap (λ (o : Option Machine). Option·getD o (machine cells t) .mem) (sym e);
-  tally = p ∙ ap (λ (o : Option Machine). Option·getD o (machine cells t) .tally) (sym e);
-  count = q ∙ ap changed (sym e);
-}
-
 -- a worker's action with the tally beside it
-pub controls-acts : (f : Machine → Option Mem) (before : List ℕ) (t : Tally) (after : List ℕ) (r : Controlled)
-    → Acts (λ m. f (record { mem = m; tally = t })) before after (r .changed) → r .tally ≡ t
-    → Controls (λ s. withMem (s .tally) (f s)) before t after r
-controls-acts f before t after r a p = record {
-  mem = a .mem ∙ same-mem (f (machine before t));
-  tally = p ∙ same-tally (f (machine before t));
-  count = a .count ∙ same-count (f (machine before t));
-}
+pub acts-beside : (f : Machine → Option Mem) (t : Tally) {before after : Mem} {r : ℕ}
+    → Acts (λ m. f (record { mem = m; tally = t })) before after r
+    → Acts (λ s. withMem (s .tally) (f s)) (record { mem = before; tally = t }) (record { mem = after; tally = t }) r
+acts-beside f t {before} {after} a =
+    let o = f (record { mem = before; tally = t }) in
+    record { leaves = left o (a .leaves); count = a .count ∙ ap one (same o) }
   where
-    same-mem : (o : Option Mem) → left (memOf before) o ≡ Option·getD (withMem t o) (machine before t) .mem
-    same-mem none = refl
-    same-mem (some n) = refl
+    left : (o : Option Mem) → after ≡ Option·getD o before
+        → record { mem = after; tally = t } ≡ Option·getD (withMem t o) (record { mem = before; tally = t })
+    left none e = λ i. record { mem = e i; tally = t }
+    left (some m) e = λ i. record { mem = e i; tally = t }
 
-    same-tally : (o : Option Mem) → t ≡ Option·getD (withMem t o) (machine before t) .tally
-    same-tally none = refl
-    same-tally (some n) = refl
-
-    same-count : (o : Option Mem) → changed o ≡ changed (withMem t o)
-    same-count none = refl
-    same-count (some n) = refl
+    same : (o : Option Mem) → isSome o ≡ isSome (withMem t o)
+    same none = refl
+    same (some m) = refl
 
 module _ (sys : System) (actor action : ℕ) (s : Machine) where
   pub turn-closed : s .tally .closed ≡ true → turnOn sys actor action s ≡ none

@@ -2,7 +2,6 @@
 use Prim.Native.Nat.{ℕ, _+_, _-_, _<_, _≤_}
 use mathlib.Core.Bool.{Bool, true, false, cond, _&&_, not}
 use mathlib.Core.List.{List, [], _∷_, _++_}
-use mathlib.Core.Option.{Option}
 use mathlib.Core.Path.{_≡_, refl, sym, _∙_, ap, subst}
 use native.Mathlib.Numerals.{add-one}
 use native.Mathlib.Omega.{arith}
@@ -10,23 +9,22 @@ use borrow.Author.Tests.{ne-eqb}
 use lib.Dec.{eqb}
 use lib.ListN.{length}
 use Rattle.base.proofs.Choice.{cond-false}
-use Rattle.base.proofs.Sums.{one-le}
 use Rattle.base.specs.Below.{gatherBelow}
-use Rattle.cells.specs.Memory.{Mem, memOf, Acts}
-use Rattle.controller.specs.Controller.{machine, Controls}
-use Rattle.disac4.specs.Fold.{isSome}
+use Rattle.cells.proofs.Acting.{idle, acts-as}
+use Rattle.cells.specs.Acts.{Acts}
+use Rattle.cells.specs.Memory.{memOf}
+use Rattle.controller.specs.Controller.{machine}
 use Rattle.disac4.specs.Outcome.{systemAt}
 use Rattle.disac4.specs.Report.{isSend, isPoll}
 use Rattle.disac4.specs.Turn.{Turn, turn, allowed}
 use Rattle.disac4.specs.declared.Tally.{Tally}
 use Rattle.engine.proofs.Advancing.{playable, advanced}
-use Rattle.engine.proofs.Playing.{goes-after}
-use Rattle.engine.proofs.RunLaws.{workers-are, acts-as, worker-reads, controls-as, controls-idle, controls-acts, turn-closed, turn-works}
+use Rattle.engine.proofs.RunLaws.{workers-are, acts-beside, turn-closed, turn-works, may-work}
 use Rattle.engine.specs.Play.{Running, Grows, Works}
 use Rattle.format.specs.Format.{workerCount}
-use Rattle.refinement.proofs.Underway.{plays-none, plays-then}
-use Rattle.refinement.specs.Run.{Going, Plays, Playable, turnOn, readOn, workerOn}
-use Rattle.refinement.specs.Step.{withMem, workerM}
+use Rattle.refinement.proofs.Underway.{plays-none, plays-then, goes-after}
+use Rattle.refinement.specs.Run.{Going, Plays, Playable, turnOn, workerOn}
+use Rattle.refinement.specs.Step.{workerM}
 use Rattle.refinement.specs.declared.Progress.{Progress}
 
 -- ---- no turns, and two lists of turns
@@ -101,53 +99,40 @@ sends-by k d r n = ap (λ (c : Bool). cond (not c && eqb d 10) r 0) (ne-eqb k 0 
 polls-none : (k d r : ℕ) → (k ≡ 0 → ⊥) → cond (isPoll (turn k d)) r 0 ≡ 0
 polls-none k d r n = ap (λ (c : Bool). cond (c && eqb d 12) r 0) (ne-eqb k 0 n)
 
-module _ (b cells cells′ : List ℕ) (t : Tally) (k d r : ℕ) (run : Running b cells t) (some : k ≡ 0 → ⊥) where
+module _ (b cells : List ℕ) (t : Tally) (k d : ℕ) (run : Running b cells t) (some : k ≡ 0 → ⊥) where
   -- from what the code of a turn ensures
-  counted : Controls (turnOn (systemAt b) k d) cells t cells′ (record { changed = r; tally = t })
+  worked : (cells′ : List ℕ) (r : ℕ) → Acts (turnOn (systemAt b) k d) (machine cells t) (machine cells′ t) r
       → Works b (turn k d ∷ []) cells t cells′ r (cond (eqb d 10) r 0)
   unfolding Works
-  counted heard g g′ a =
-      advanced b cells cells′ g g′ k d (record { changed = r; tally = t }) (run .going .sound)
-      (subst (λ (u : Tally). Controls (turnOn (systemAt b) k d) cells u cells′ (record { changed = r; tally = t })) (sym (a .before)) heard)
-      (a .after) (a .changes) (a .sends ∙ ap (λ (n : ℕ). g .sends + n) (sym (sends-by k d r some)))
+  worked cells′ r does g g′ a =
+      advanced b cells cells′ g g′ k d r (run .going .sound) (rw (a .before, a .after) does) (a .changes)
+      (a .sends ∙ ap (λ (n : ℕ). g .sends + n) (sym (sends-by k d r some)))
       (omega (arith, a .polls, polls-none k d r some))
 
   -- in a closed plan it is idle
-  pub worked-closed : t .closed ≡ true → cells′ ≡ cells → r ≡ 0 → Works b (turn k d ∷ []) cells t cells′ r (cond (eqb d 10) r 0)
-  worked-closed e same z =
-      counted
-      (subst (λ (l : List ℕ). Controls (turnOn (systemAt b) k d) cells t l (record { changed = r; tally = t })) (sym same)
-      (controls-idle (turnOn (systemAt b) k d) cells t _ (turn-closed (systemAt b) k d (machine cells t) e) refl z))
+  pub worked-closed : t .closed ≡ true → Works b (turn k d ∷ []) cells t cells 0 (cond (eqb d 10) 0 0)
+  worked-closed e = worked cells 0 (idle _ _ (turn-closed (systemAt b) k d (machine cells t) e))
 
-  -- in an open one it does what its action does
-  pub worked-open : t .closed ≡ false → (p : ℕ) → p ≡ workerCount b → allowed p (turn k d) ≡ true
-      → Acts (workerOn (systemAt b) t (k - 1) d) cells cells′ r → Works b (turn k d ∷ []) cells t cells′ r (cond (eqb d 10) r 0)
-  worked-open e p q ok act =
-      counted
-      (controls-as (λ x. withMem (x .tally) (workerM (systemAt b) (k - 1) d x)) (turnOn (systemAt b) k d) cells t cells′ _
-      (turn-works (systemAt b) k d (machine cells t) e
-      (subst (λ (n : ℕ). allowed n (turn k d) ≡ true) (q ∙ sym (workers-are b)) ok) some)
-      (controls-acts (workerM (systemAt b) (k - 1) d) cells t cells′ _ act refl))
+  module _ {p : ℕ} (q : p ≡ workerCount b) (ok : allowed p (turn k d) ≡ true) where
+    -- in an open one it does what its action does
+    pub worked-open : (cells′ : List ℕ) (r : ℕ) → t .closed ≡ false
+        → Acts (workerOn (systemAt b) t (k - 1) d) (memOf cells) (memOf cells′) r
+        → Works b (turn k d ∷ []) cells t cells′ r (cond (eqb d 10) r 0)
+    worked-open cells′ r e act =
+        worked cells′ r
+        (acts-as (turn-works (systemAt b) k d (machine cells t) e (rw (workers-are b, ← q) ok) some)
+        (acts-beside (workerM (systemAt b) (k - 1) d) t act))
+
+    -- what the code of its action asks
+    pub may-act : Playable b cells t × (k - 1 < workerCount b) × (d < 12)
+    may-act =
+        let can = running-playable b cells t run in
+        let w = may-work p k d (omega (arith, can .workers)) ok some in
+        (can, omega (arith, w .0), w .1)
 
 -- a read sends nothing
-module _ (b cells cells′ : List ℕ) (t : Tally) (k j r : ℕ) (run : Running b cells t) (some : k ≡ 0 → ⊥) (low : j < 9) where
-  no-send : Works b (turn k j ∷ []) cells t cells′ r (cond (eqb j 10) r 0) → Works b (turn k j ∷ []) cells t cells′ r 0
-  no-send = subst (λ (s : ℕ). Works b (turn k j ∷ []) cells t cells′ r s) (cond-false r 0 (ne-eqb j 10 (omega arith)))
-
-  pub read-closed : t .closed ≡ true → cells′ ≡ cells → r ≡ 0 → Works b (turn k j ∷ []) cells t cells′ r 0
-  read-closed e same z = no-send (worked-closed b cells cells′ t k j r run some e same z)
-
-  pub read-open : t .closed ≡ false → (p : ℕ) → p ≡ workerCount b → allowed p (turn k j) ≡ true
-      → Acts (readOn t (k - 1) j) cells cells′ r → Works b (turn k j ∷ []) cells t cells′ r 0
-  read-open e p q ok act =
-      no-send
-      (worked-open b cells cells′ t k j r run some e p q ok
-      (acts-as (readOn t (k - 1) j) (workerOn (systemAt b) t (k - 1) j) cells cells′ r
-      (worker-reads (systemAt b) t (k - 1) j (memOf cells) (omega arith) (omega arith) (omega arith)) act))
-
--- what an action adds to a count is at most 1
-pub acts-few : (f : Mem → Option Mem) (before after : List ℕ) (r : ℕ) → Acts f before after r → r ≤ 1
-acts-few f before after r a = omega (arith, a .count, one-le (isSome (f (memOf before))))
+pub no-send : (j r : ℕ) → j < 9 → cond (eqb j 10) r 0 ≡ 0
+no-send j r low = cond-false r 0 (ne-eqb j 10 (omega arith))
 
 -- ---- a loop that plays the list `f i` in step `i`, for each `i` below `n`, each with at most one changing turn
 

@@ -14,16 +14,17 @@ ghost use lib.Dec.{eqb};
 ghost use lib.ListN.{length};
 ghost use Rattle.disac4.specs.Outcome.{systemAt};
 ghost use Rattle.disac4.specs.Turn.{allowed, turn};
-ghost use Rattle.cells.specs.Memory.{Acts};
+ghost use Rattle.cells.specs.Acts.{Acts};
+ghost use Rattle.cells.specs.Memory.{memOf};
 ghost use Rattle.engine.specs.Play.{Running, Works};
 ghost use Rattle.refinement.specs.Run.{Playable, readOn, workerOn, turnOn, Going, Plays};
-ghost use Rattle.controller.specs.Controller.{Controls};
+ghost use Rattle.controller.specs.Controller.{machine};
 ghost use Rattle.format.specs.Format.{workerCount};
 
 // Row `i` reads from actor `d`: the next poll, or the next list message.
 fn read(cells: &mut [u16], t: Tally, i: usize, d: usize) -> usize
     requires { ⌜ (24576 ≤ length (now cells)) × (i < 8) × (d < 9) ⌝ }
-    ensures { λ r. ⌜ Acts (readOn t i d) (now (cells .entry)) (now (cells .exit)) r ⌝ }
+    ensures { λ r. ⌜ Acts (readOn t i d) (memOf (now (cells .entry))) (memOf (now (cells .exit))) r ⌝ }
 {
     if d == 0 {
         let last = t.timestamp;
@@ -35,7 +36,7 @@ fn read(cells: &mut [u16], t: Tally, i: usize, d: usize) -> usize
 // The action `d` of row `i`.
 fn work(b: &[u8], cells: &mut [u16], t: Tally, i: usize, d: usize) -> usize
     requires { ⌜ Playable (now b) (now cells) t × (i < workerCount (now b)) × (d < 12) ⌝ }
-    ensures { λ r. ⌜ Acts (workerOn (systemAt (now (b .entry))) t i d) (now (cells .entry)) (now (cells .exit)) r ⌝ }
+    ensures { λ r. ⌜ Acts (workerOn (systemAt (now (b .entry))) t i d) (memOf (now (cells .entry))) (memOf (now (cells .exit))) r ⌝ }
 {
     if d == TREAT_ACTION {
         return treating::treat(b, cells, i);
@@ -74,7 +75,7 @@ pub fn read_turn(b: &[u8], cells: &mut [u16], t: Tally, p: usize, k: usize, j: u
 // One turn of the controller, which is an allowed one of p workers.
 fn control_turn(b: &[u8], cells: &mut [u16], t: Tally, p: usize, d: usize) -> Controlled
     requires { ⌜ Playable (now b) (now cells) t × (p ≡ workerCount (now b)) × (allowed p (turn 0 d) ≡ true) ⌝ }
-    ensures { λ r. ⌜ Controls (turnOn (systemAt (now (b .entry))) 0 d) (now (cells .entry)) t (now (cells .exit)) r ⌝ }
+    ensures { λ r. ⌜ Acts (turnOn (systemAt (now (b .entry))) 0 d) (machine (now (cells .entry)) t) (machine (now (cells .exit)) (r .tally)) (r .changed) ⌝ }
 {
     if t.closed {
         return Controlled {

@@ -5,11 +5,13 @@ use mathlib.Core.Path.{_≡_}
 use lib.ListN.{length}
 use Rattle.disac4.specs.System.{System}
 use Rattle.disac4.specs.declared.Tally.{Tally}
-use Rattle.controller.specs.Controller.{hearM, Controls}
+use Rattle.cells.specs.Acts.{Acts}
+use Rattle.controller.specs.Controller.{machine, hearM}
 use Rattle.controller.specs.declared.Controlled.{Controlled}
 
 abbrev pub Asked : List ℕ → Tally → ℕ → ℕ → Type 0
 Asked cells t p i = (24576 ≤ length cells) × (t .marks < 256) × (i < 8) × (p ≤ 8)
 
 abbrev pub Told : List ℕ → Tally → ℕ → ℕ → List ℕ → Controlled → Type 0
-Told before t p i after r = (sys : System) → sys .workers ≡ p → Controls (hearM sys i) before t after r
+Told before t p i after r =
+    (sys : System) → sys .workers ≡ p → Acts (hearM sys i) (machine before t) (machine after (r .tally)) (r .changed)

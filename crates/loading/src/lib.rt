@@ -1,7 +1,6 @@
 // Loading the labels of a plan whose index stands in the cells: counters, domains, and the first deletions.
 use base::power;
 use base::row_holds;
-use base::row_if;
 use cells::layout;
 use cells::lists;
 use counting::count_supports;
@@ -31,13 +30,7 @@ fn counted_row(b: &[u8], cells: &[u16], x: usize, y: usize) -> usize
 {
     let n = parts::size(b, cells, x);
     let at = parts::counter_row(cells, x, y);
-    let mut row = 0;
-    let mut v = 0;
-    while v < n {
-        row += row_if(layout::get(cells, layout::COUNTERS, at, v) != 0, v);
-        v += 1;
-    }
-    row
+    power(n) - 1 - layout::row_holding(cells, layout::COUNTERS, at, n, 0)
 }
 
 // The row of the values of x that suit the variables before y, and then y too.

@@ -11,6 +11,7 @@ use lib.ListN.{length}
 use Rattle.base.proofs.Bools.{and-left, and-right}
 use Rattle.base.proofs.Choice.{by-test, cond-same, cond-false}
 use Rattle.base.specs.Below.{one}
+use Rattle.cells.proofs.Acting.{idle}
 use Rattle.cells.specs.Memory.{memOf}
 use Rattle.controller.specs.Controller.{Machine, machine}
 use Rattle.disac4.proofs.Fold.{after-idle}
@@ -21,13 +22,12 @@ use Rattle.disac4.specs.System.{System}
 use Rattle.disac4.specs.Turn.{turn, allowed}
 use Rattle.disac4.specs.declared.Tally.{Tally}
 use Rattle.engine.proofs.Advancing.{advanced}
-use Rattle.engine.proofs.RunLaws.{controls-idle}
-use Rattle.playing.specs.Known.{KnownIdle}
+use Rattle.playing.specs.Known.{Idle, KnownIdle}
 use Rattle.idle.specs.Table.{idleAt, Puts, enables}
 use Rattle.refinement.proofs.IdleKept.{idle-kept}
 use Rattle.refinement.proofs.Start.{fits-regions}
 use Rattle.refinement.proofs.Underway.{under-inv, at-after}
-use Rattle.refinement.specs.Run.{turnOn, workerOn, Going, Plays}
+use Rattle.refinement.specs.Run.{workerOn, Going, Plays}
 use Rattle.refinement.specs.Step.{withMem, stepM, afterM}
 use Rattle.refinement.specs.declared.Progress.{Progress}
 
@@ -40,8 +40,7 @@ nothing-known b cells t table l z = record { long = l; idle = λ k d h e q. absu
 pub passed-over : (b cells : List ℕ) (g : Progress) (table : List ℕ) → Going b cells g → KnownIdle b cells (g .tally) table
     → (k d : ℕ) → k < 9 → d < 13 → idleAt table k d ≡ 1 → Plays b (turn k d ∷ []) cells g cells g
 passed-over b cells g table go known k d h e q =
-    advanced b cells cells g g k d (record { changed = 0; tally = g .tally }) (go .sound)
-    (controls-idle (turnOn (systemAt b) k d) cells (g .tally) _ (known .idle k d h e q) refl refl) refl (omega arith)
+    advanced b cells cells g g k d 0 (go .sound) (idle _ _ (known .idle k d h e q)) (omega arith)
     (adds-none (isSend (turn k d)) (g .sends)) (adds-none (isPoll (turn k d)) (g .polls))
   where
     adds-none : (c : Bool) (n : ℕ) → n ≡ n + cond c 0 0
@@ -50,7 +49,7 @@ passed-over b cells g table go known k d h e q =
 
 -- a turn may be noted as idle where it is
 pub noted : {b cells : List ℕ} {t : Tally} {table table′ : List ℕ} (c : Bool) (k d : ℕ)
-    → (c ≡ true → stepM (systemAt b) (machine cells t) (turn k d) ≡ none)
+    → (c ≡ true → Idle b (machine cells t) k d)
     → Puts (one c) (λ j a. eqb j k && eqb a d) table table′ → KnownIdle b cells t table → KnownIdle b cells t table′
 noted {b} {cells} {t} c k d idle p known = record {
   long = p .long;
@@ -67,7 +66,7 @@ noted {b} {cells} {t} c k d idle p known = record {
 
 -- a worker's turn is idle where its action is
 pub work-idle : (b cells : List ℕ) (t : Tally) (k d : ℕ) → (k ≡ 0 → ⊥) → workerOn (systemAt b) t (k - 1) d (memOf cells) ≡ none
-    → stepM (systemAt b) (machine cells t) (turn k d) ≡ none
+    → Idle b (machine cells t) k d
 unfolding stepM
 work-idle b cells t k d n e =
     cond-same (t .closed || not (allowed (systemAt b .workers) (turn k d))) none _ none refl
@@ -92,7 +91,7 @@ module _ (b cells cells′ : List ℕ) (g r : Progress) (go : Going b cells g) (
 
   -- where it changed nothing it is idle, and all that was known is so still
   module _ (same : r .changes ≡ g .changes) where
-    nothing : stepM sys s (turn k d) ≡ none
+    nothing : Idle b s k d
     nothing = uncounted (stepM sys s (turn k d)) (omega (arith, done .1, same))
       where
         uncounted : (o : Option Machine) → one (isSome o) ≡ 0 → o ≡ none
@@ -102,13 +101,13 @@ module _ (b cells cells′ : List ℕ) (g r : Progress) (go : Going b cells g) (
     stays : machine cells′ (r .tally) ≡ s
     stays = done .0 ∙ after-idle (stepM sys) s (turn k d) nothing
 
-    pub idle-again : stepM sys (machine cells′ (r .tally)) (turn k d) ≡ none
-    idle-again = subst (λ (x : Machine). stepM sys x (turn k d) ≡ none) (sym stays) nothing
+    pub idle-again : Idle b (machine cells′ (r .tally)) k d
+    idle-again = subst (λ (x : Machine). Idle b x k d) (sym stays) nothing
 
     pub known-still : KnownIdle b cells′ (r .tally) table
     known-still = record {
       long = known .long;
-      idle = λ j a h m q. subst (λ (x : Machine). stepM sys x (turn j a) ≡ none) (sym stays) (known .idle j a h m q);
+      idle = λ j a h m q. subst (λ (x : Machine). Idle b x j a) (sym stays) (known .idle j a h m q);
     }
 
   -- and what is not forgotten after it is so
@@ -116,7 +115,7 @@ module _ (b cells cells′ : List ℕ) (g r : Progress) (go : Going b cells g) (
   forgotten table′ p = record {
     long = p .long;
     idle = λ j a h m q.
-        subst (λ (x : Machine). stepM sys x (turn j a) ≡ none) (sym (done .0))
+        subst (λ (x : Machine). Idle b x j a) (sym (done .0))
         (by-test (enables (turn k d) (turn j a)) (sym (p .each j a h m) ∙ q)
         (λ _ z. absurd (omega (arith, z)))
         (λ n z.

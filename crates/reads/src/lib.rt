@@ -13,9 +13,10 @@ use disac4::Timestamp;
 ghost use mathlib.Core.Path.{_≡_};
 ghost use Prim.Native.Nat.{_-_, _<_, _≤_};
 ghost use lib.ListN.{length};
+ghost use Rattle.cells.specs.Acts.{Acts};
 ghost use Rattle.cells.specs.Layout.{WORKERS, POLLS, HELD};
 ghost use Rattle.cells.specs.Lists.{copyM};
-ghost use Rattle.cells.specs.Memory.{memOf, store, Acts};
+ghost use Rattle.cells.specs.Memory.{memOf, store};
 ghost use Rattle.reads.specs.Reads.{readListM, takenWith, readPollM};
 
 // The labels between two places of row `j`'s log join the end of row `i`'s work list.
@@ -49,7 +50,7 @@ fn take_list(
 // Read: row `i` takes the next list message of row `j`.
 pub fn read_list(cells: &mut [u16], j: usize, i: usize) -> usize
     requires { ⌜ (24576 ≤ length (now cells)) × (j < 8) × (i < 8) ⌝ }
-    ensures { λ r. ⌜ Acts (readListM j i) (now (cells .entry)) (now (cells .exit)) r ⌝ }
+    ensures { λ r. ⌜ Acts (readListM j i) (memOf (now (cells .entry))) (memOf (now (cells .exit))) r ⌝ }
 {
     let read = get(cells, CURSORS, j, i);
     let sends = get(cells, WORKERS, j, SENDS);
@@ -85,7 +86,7 @@ fn hold(cells: &mut [u16], i: usize, number: Timestamp)
 // Read: row `i` takes the next poll, up to the last that was sent, and holds it.
 pub fn read_poll(cells: &mut [u16], i: usize, last: Timestamp) -> usize
     requires { ⌜ (24576 ≤ length (now cells)) × (i < 8) ⌝ }
-    ensures { λ r. ⌜ Acts (readPollM i (last .0)) (now (cells .entry)) (now (cells .exit)) r ⌝ }
+    ensures { λ r. ⌜ Acts (readPollM i (last .0)) (memOf (now (cells .entry))) (memOf (now (cells .exit))) r ⌝ }
 {
     let n = last.0 as usize;
     let polls = get(cells, WORKERS, i, POLLS);

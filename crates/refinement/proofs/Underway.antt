@@ -138,13 +138,13 @@ module _ (b : List ℕ) where
   plays-then us vs c₀ c₁ c₂ g₀ g₁ g₂ p q m ts at =
       subst (λ (ws : List Turn). At b m ws c₂ g₂) (append-assoc ts us vs) (q m (ts ++ us) (p m ts at))
 
-  -- a run that goes on is going still
-  pub still-going : (us : List Turn) (cells cells′ : List ℕ) (g g′ : Progress) → Going b cells g
-      → 24576 ≤ length cells′ → Plays b us cells g cells′ g′ → Going b cells′ g′
+  -- a run goes on after turns that keep the number of cells
+  pub goes-after : (us : List Turn) (cells cells′ : List ℕ) (g g′ : Progress) → Going b cells g
+      → length cells′ ≡ length cells → Plays b us cells g cells′ g′ → Going b cells′ g′
   unfolding Plays
-  still-going us cells cells′ g g′ go long p = record {
+  goes-after us cells cells′ g g′ go same p = record {
     sound = go .sound;
-    long = long;
+    long = omega (arith, go .long);
     before = go .before;
     turns = go .turns ++ us;
     at = p (go .before) (go .turns) (go .at);

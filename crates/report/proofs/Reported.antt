@@ -23,9 +23,7 @@ use Rattle.disac4.specs.declared.Status.{Status}
 use Rattle.disac4.specs.declared.Status.the-variants.{Open, Closed, Bare}
 use Rattle.disac4.specs.declared.Tally.{Tally}
 use Rattle.cells.proofs.Overwritten.{written-all, written-length, written-next}
-use Rattle.index.proofs.Places.{few-sections}
-use Rattle.index.specs.Index.{Ready}
-use Rattle.cells.specs.Layout.{DOMAIN, regionAt, Fits}
+use Rattle.cells.specs.Layout.{DOMAIN}
 use Rattle.cells.specs.Memory.{Mem}
 use Rattle.refinement.specs.Run.{reportM}
 use Rattle.cells.specs.View.{LISTED, view}
@@ -43,16 +41,6 @@ isListed m x v = eqb (m DOMAIN x v) LISTED
 -- the row of a variable's domain
 abbrev pub domainRow : List ℕ → Mem → ℕ → ℕ
 domainRow b m x = rowOf (sizeOf (planOf b) x) (isListed m x)
-
-pub domain-fits : (b cells : List ℕ) → Ready b cells → (x v : ℕ) → x < variableCount b → v < 16
-    → Fits cells (regionAt DOMAIN) x v
-domain-fits b cells ready x v h l = record {
-  known = refl;
-  writable = omega arith;
-  row = omega (arith, few-sections b (ready .sound));
-  col = omega arith;
-  long = ready .long;
-}
 
 -- ---- the list cells
 

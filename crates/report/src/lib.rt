@@ -1,5 +1,4 @@
 // What a finished run gives: the list cells of its variables, and its report.
-use base::row_if;
 use cells::layout;
 use disac4::Report;
 use disac4::Status;
@@ -31,16 +30,7 @@ fn domain_row(b: &[u8], cells: &[u16], x: usize) -> usize
     ensures { λ r. ⌜ (r ≡ rowOf (sizeOf (planOf (now (b .entry))) x) (λ v. eqb (memOf (now (cells .entry)) DOMAIN x v) LISTED)) × (r < 65536) ⌝ }
 {
     let values = parts::size(b, cells, x);
-    let mut row = 0;
-    let mut v = 0;
-    while v < values {
-        row += row_if(
-            layout::get(cells, layout::DOMAIN, x, v) == layout::LISTED,
-            v,
-        );
-        v += 1;
-    }
-    row
+    layout::row_holding(cells, layout::DOMAIN, x, values, layout::LISTED)
 }
 
 // Puts each variable's row into its list cell; the cells behind keep what they had.

@@ -15,13 +15,12 @@ use Rattle.disac4.specs.Round.{round, roundRunTurns}
 use Rattle.disac4.specs.State.{State}
 use Rattle.disac4.specs.System.{System, Sound}
 use Rattle.disac4.specs.Turn.{Turn, step, play}
-use Rattle.engine.proofs.Playing.{goes-after}
 use Rattle.rounds.proofs.RoundsLeft.{left, left-loaded, left-closed, left-lowers, left-open}
 use Rattle.engine.proofs.RunLaws.{workers-are}
 use Rattle.refinement.proofs.Start.{fits-regions}
-use Rattle.refinement.proofs.Underway.{under-view, plays-none, plays-then}
-use Rattle.rounds.specs.Rounds.{Begun, PlaysRounds}
-use Rattle.refinement.specs.Run.{viewOf, At, Going, Plays}
+use Rattle.refinement.proofs.Underway.{under-view, plays-none, plays-then, goes-after}
+use Rattle.rounds.specs.Rounds.{Begun}
+use Rattle.refinement.specs.Run.{viewOf, Going, Plays}
 use Rattle.controller.specs.Controller.{machine}
 use Rattle.cells.specs.View.{view}
 use Rattle.refinement.specs.declared.Progress.{Progress}
@@ -75,14 +74,14 @@ module _ (b cells₀ : List ℕ) (g₀ : Progress) (start : Begun b cells₀ g�
     reached = (played, sym seen)
 
     -- a closed plan has played all of the round run
-    pub rounds-done : g .tally .closed ≡ true → PlaysRounds b cells₀ g₀ cells g
-    unfolding Plays PlaysRounds view
-    rounds-done e m at =
-        subst (λ (us : List Turn). At b m us cells g)
+    pub rounds-done : g .tally .closed ≡ true → Plays b (roundRunTurns sys) cells₀ g₀ cells g
+    unfolding view
+    rounds-done e =
+        subst (λ (us : List Turn). Plays b us cells₀ g₀ cells g)
         (sym (append-nil (r .turns))
         ∙ ap (λ (us : List Turn). r .turns ++ us) (sym (left-closed sys sound (stateAt b cells g) e))
         ∙ r .whole)
-        (r .plays m [] at)
+        (r .plays)
 
     module _ (running : g .tally .closed ≡ false) (p : ℕ) (e : p ≡ workerCount b) (cells′ : List ℕ) (g′ : Progress)
         (q : Plays b (round p) cells g cells′ g′) where

@@ -12,9 +12,10 @@ ghost use mathlib.Core.Path.{_≡_};
 ghost use Prim.Native.Nat.{suc, _<_, _≤_};
 ghost use lib.Dec.{eqb};
 ghost use Rattle.base.specs.Below.{gatherBelow, listBelow};
-ghost use Rattle.disac4.specs.Round.{others, workerRound, round};
+ghost use Rattle.disac4.specs.Outcome.{systemAt};
+ghost use Rattle.disac4.specs.Round.{others, workerRound, round, roundRunTurns};
 ghost use Rattle.disac4.specs.Turn.{turn};
-ghost use Rattle.rounds.specs.Rounds.{Begun, PlaysRounds};
+ghost use Rattle.rounds.specs.Rounds.{Begun};
 ghost use Rattle.engine.specs.Play.{Running, Works};
 ghost use Rattle.refinement.specs.Run.{Going, Plays};
 ghost use Rattle.format.specs.Format.{workerCount};
@@ -103,7 +104,7 @@ fn play_round(b: &[u8], cells: &mut [u16], g: Progress, p: usize) -> Progress
 // Rounds until the plan is closed.
 pub fn play_rounds(b: &[u8], cells: &mut [u16], g: Progress, p: usize) -> Progress
     requires { ⌜ Begun (now b) (now cells) g × (p ≡ workerCount (now b)) ⌝ }
-    ensures { λ r. ⌜ PlaysRounds (now (b .entry)) (now (cells .entry)) g (now (cells .exit)) r ⌝ }
+    ensures { λ r. ⌜ Plays (now (b .entry)) (roundRunTurns (systemAt (now (b .entry)))) (now (cells .entry)) g (now (cells .exit)) r ⌝ }
 {
     let mut at = g;
     while !at.tally.closed {

@@ -12,7 +12,8 @@ use cells::layout::put;
 ghost use mathlib.Core.Path.{_≡_};
 ghost use Prim.Native.Nat.{_<_, _≤_};
 ghost use lib.ListN.{length};
-ghost use Rattle.cells.specs.Memory.{memOf, Acts};
+ghost use Rattle.cells.specs.Acts.{Acts};
+ghost use Rattle.cells.specs.Memory.{memOf};
 ghost use Rattle.sends.specs.Sends.{sendM, sentWith};
 
 // Sends row `i`'s next list message: up to `end` in the log, behind `sends` list messages and `outs` messages to the controller.
@@ -30,7 +31,7 @@ fn put_list(cells: &mut [u16], i: usize, sends: usize, end: usize, outs: usize, 
 // Send: the labels behind row `i`'s last list message go to all, as one list message.
 pub fn send(cells: &mut [u16], i: usize) -> usize
     requires { ⌜ (24576 ≤ length (now cells)) × (i < 8) ⌝ }
-    ensures { λ r. ⌜ Acts (sendM i) (now (cells .entry)) (now (cells .exit)) r ⌝ }
+    ensures { λ r. ⌜ Acts (sendM i) (memOf (now (cells .entry))) (memOf (now (cells .exit))) r ⌝ }
 {
     let sends = get(cells, WORKERS, i, SENDS);
     if sends >= 519 {

@@ -11,8 +11,9 @@ ghost use Rattle.disac4.specs.System.{System, systemOf};
 ghost use Rattle.plan.specs.Decode.{planOf};
 ghost use Rattle.index.specs.Allowed.{Listed};
 ghost use Rattle.index.specs.Index.{ownLinked, Ready};
+ghost use Rattle.cells.specs.Acts.{Acts};
 ghost use Rattle.cells.specs.Layout.{WORKERS, WORK, HEAD, TAIL};
-ghost use Rattle.cells.specs.Memory.{memOf, Acts};
+ghost use Rattle.cells.specs.Memory.{memOf};
 ghost use Rattle.treating.specs.Treat.{SupportRow, loseM, touchM, touchValuesM, touchVariableM, touchVariablesM, treatM};
 ghost use Rattle.cells.specs.View.{counterRow};
 
@@ -80,7 +81,7 @@ fn touch_variables(b: &[u8], cells: &mut [u16], i: usize, y: usize, w: usize)
 // Row i takes the oldest label from its work list: 1 if there is one, and 0 if not.
 pub fn treat(b: &[u8], cells: &mut [u16], i: usize) -> usize
     requires { ⌜ Ready (now b) (now cells) × (i < 8) × (memOf (now cells) WORKERS i HEAD < memOf (now cells) WORKERS i TAIL → Listed (now b) (memOf (now cells) WORK i (memOf (now cells) WORKERS i HEAD) / 16) (memOf (now cells) WORK i (memOf (now cells) WORKERS i HEAD) % 16)) ⌝ }
-    ensures { λ r. ⌜ Acts (treatM (systemOf (planOf (now (b .entry)))) i) (now (cells .entry)) (now (cells .exit)) r ⌝ }
+    ensures { λ r. ⌜ Acts (treatM (systemOf (planOf (now (b .entry)))) i) (memOf (now (cells .entry))) (memOf (now (cells .exit))) r ⌝ }
 {
     let head = layout::get(cells, layout::WORKERS, i, layout::HEAD);
     if head >= layout::get(cells, layout::WORKERS, i, layout::TAIL) {

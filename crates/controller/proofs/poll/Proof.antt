@@ -1,7 +1,8 @@
 -- `controller::poll` sends the next poll. Assumes nothing.
 use native.Mathlib.Omega.{arith}
 use borrow.Author.Needs.{needs}
-use Rattle.controller.proofs.ControllerLaws.{controls-none, hears, asks-room, poll-idle, poll-goes, next-number, poll-put}
+use Rattle.cells.proofs.Acting.{idle, acts}
+use Rattle.controller.proofs.ControllerLaws.{stands, asks-room, poll-idle, poll-goes, next-number, poll-put}
 use Rattle.controller.proofs.poll.Statement.{statement}
 use Rattle.controller.proofs.poll.Tie as tie
 
@@ -11,7 +12,7 @@ asks-requires c κs = search needs
 returns : tie.Need-returns
 returns c =
     let at-asks = c .before in
-    controls-none _ _ _ (poll-idle _ (at-asks .asks .ensures) _ (c .if1 .taken))
+    idle _ _ (poll-idle _ (at-asks .asks .ensures) _ (c .if1 .taken))
 
 asked-requires : tie.Need-asked-requires
 asked-requires c κs =
@@ -43,9 +44,10 @@ returns-2 c =
     let at-asked = at-open-poll .before .before in
     let at-if1 = at-asked .before in
     let at-asks = at-if1 .before in
-    hears _ _ _ _ _ _ (poll-goes _ (at-asks .asks .ensures) _ (at-if1 .if1 .left))
+    acts _ _ _ _ (poll-goes _ (at-asks .asks .ensures) _ (at-if1 .if1 .left))
+    (stands _ _ _
     (poll-put _ _ (at-asked .asked .ensures) _ (at-open-poll .open-poll .ensures) _ _ (at-put-poll .put-poll .ensures))
-    (at-asked .asked .ensures)
+    (at-asked .asked .ensures))
 
 pub poll-spec : {M : Type 1} → statement M
 poll-spec =

@@ -7,8 +7,7 @@ use Rattle.base.specs.Below.{gatherBelow, listBelow}
 use Rattle.disac4.proofs.Allowed.{may-poll}
 use Rattle.disac4.specs.Round.{workerRound, round}
 use Rattle.disac4.specs.Turn.{turn}
-use Rattle.engine.proofs.Playing.{goes-after}
-use Rattle.refinement.proofs.Underway.{plays-then}
+use Rattle.refinement.proofs.Underway.{plays-then, goes-after}
 use Rattle.refinement.specs.Run.{Going}
 use Rattle.rounds.proofs.play_round.Statement.{statement}
 use Rattle.rounds.proofs.play_round.Tie as tie

@@ -1,13 +1,9 @@
 -- `runs::play_rounds` plays rounds on an accepted plan until it is closed. Assumes nothing.
 use borrow.Author.Needs.{needs}
-use denote.Ref.{now}
 use mathlib.Core.Path.{_∙_}
 use native.Mathlib.Omega.{arith}
-use Rattle.disac4.specs.Outcome.{systemAt}
-use Rattle.disac4.specs.Round.{roundRunTurns}
-use Rattle.cells.specs.Memory.{memOf}
-use Rattle.refinement.specs.Run.{At}
-use Rattle.runs.proofs.Runs.{loaded, goes, rounds-from, ends}
+use Rattle.refinement.proofs.Underway.{goes-after}
+use Rattle.runs.proofs.Runs.{loaded, ends}
 use Rattle.runs.proofs.play_rounds.Statement.{statement}
 use Rattle.runs.proofs.play_rounds.Tie as tie
 
@@ -20,19 +16,13 @@ play-rounds-requires c κs =
     let s = l .before .before .before .before .before in
     (loaded _ _ _ _ (s .pre .0) (omega (arith, s .pre .1, l .load .kept .1 .0)) (l .load .ensures), s .pre .3)
 
--- the plan is closed
-have-played : (t : tie.After-play-rounds)
-    → let a = t .before .before .before .before .before .before .before .before .before .args in
-    At (now (a .plan)) (memOf (now (a .work))) (roundRunTurns (systemAt (now (a .plan)))) (t .play-rounds .last .1 .0)
-    (t .play-rounds .result)
-have-played t = rounds-from _ _ _ _ _ _ (t .play-rounds .ensures) (t .before .before .before .before .load .ensures)
-
 finish-requires : tie.Need-finish-requires
 finish-requires c κs =
     let t = c .before .before .before .before in
     let l = t .before .before .before .before in
     let s = l .before .before .before .before .before in (
-      goes _ _ _ _ _ (s .pre .0) (omega (arith, s .pre .1, l .load .kept .1 .0, t .play-rounds .kept .1 .0)) (have-played t),
+      goes-after _ _ _ _ _ _ (loaded _ _ _ _ (s .pre .0) (omega (arith, s .pre .1, l .load .kept .1 .0)) (l .load .ensures) .going)
+          (t .play-rounds .kept .1 .0) (t .play-rounds .ensures),
       s .pre .2,
     )
 
@@ -48,8 +38,8 @@ returns c =
     let t = f .before .before .before .before .before in
     let l = t .before .before .before .before in
     let s = l .before .before .before .before .before in
-    ends _ (s .pre .0) _ _ _ _ _ _ _ _ (have-played t) (t .play-rounds .kept .1 .0 ∙ l .load .kept .1 .0) (omega arith)
-    (f .finish .ensures)
+    ends _ (s .pre .0) _ _ _ _ _ _ _ _ _ _ (l .load .ensures) (t .play-rounds .ensures)
+    (t .play-rounds .kept .1 .0 ∙ l .load .kept .1 .0) (omega arith) (f .finish .ensures)
 
 pub play-rounds-spec : {M : Type 1} → statement M
 play-rounds-spec =

@@ -4,7 +4,8 @@ use mathlib.Core.Path.{refl, ap}
 use native.Mathlib.Omega.{arith}
 use lib.Dec.{eqb}
 use denote.Ref.{now}
-use Rattle.engine.proofs.Advancing.{playable, counts-room, adds-one, part-of, advanced}
+use Rattle.cells.proofs.Acting.{acts-few}
+use Rattle.engine.proofs.Advancing.{playable, counts-room, part-of, advanced}
 use borrow.Author.Needs.{needs}
 use Rattle.engine.proofs.run.control.Statement.{statement}
 use Rattle.engine.proofs.run.control.Tie as tie
@@ -19,7 +20,7 @@ add-t12 c =
     let h = c .before .before .before .before in
     let s = h .before .before .before .before .before in
     let room = counts-room (now (s .args .b)) (now (s .args .cells)) (s .args .g) (s .pre .0) in
-    omega (arith, room .0, adds-one _ _ _ _ _ (h .control-turn .ensures))
+    omega (arith, room .0, acts-few (h .control-turn .ensures))
 
 if-action-requires : tie.Need-if-action-requires
 if-action-requires c κs = search needs
@@ -33,7 +34,7 @@ add-t14 c =
     omega (
       arith,
       room .2,
-      adds-one _ _ _ _ _ (h .control-turn .ensures),
+      acts-few (h .control-turn .ensures),
       part-of (eqb (s .args .d) 12) (h .control-turn .result .changed) (i .if-action .result) (i .if-action .ensures),
     )
 
@@ -46,8 +47,8 @@ returns c =
     let h = i .before .before .before .before .before in
     let s = h .before .before .before .before .before in
     let a = s .args in
-    advanced (now (a .b)) (now (a .cells)) (h .control-turn .last .1 .0) (a .g) _ 0 (a .d) (h .control-turn .result) (s .pre .0 .sound)
-    (h .control-turn .ensures) refl refl (omega arith) (ap (λ (n : ℕ). a .g .polls + n) (i .if-action .ensures))
+    advanced (now (a .b)) (now (a .cells)) (h .control-turn .last .1 .0) (a .g) _ 0 (a .d) (h .control-turn .result .changed) (s .pre .0 .sound)
+    (h .control-turn .ensures) refl (omega arith) (ap (λ (n : ℕ). a .g .polls + n) (i .if-action .ensures))
 
 pub control-spec : {M : Type 1} → statement M
 control-spec =

@@ -1,14 +1,13 @@
 -- `engine::run::control_turn` plays one turn of the controller. Assumes nothing.
-use Prim.Native.Nat.{ℕ, _-_, _≤_}
+use Prim.Native.Nat.{ℕ, _≤_}
 use mathlib.Core.Bool.{true}
 use mathlib.Core.Path.{_≡_, refl, sym, _∙_, subst}
 use native.Mathlib.Omega.{arith}
 use denote.Ref.{now}
-use Rattle.controller.specs.Controller.{machine, hearM, pollM}
+use Rattle.cells.proofs.Acting.{idle, acts-as}
 use Rattle.disac4.specs.Outcome.{systemAt}
 use Rattle.disac4.specs.Turn.{allowed, turn}
-use Rattle.engine.proofs.RunLaws.{controls-as, controls-idle, turn-closed, turn-polls, turn-hears, may-hear, workers-are}
-use Rattle.refinement.specs.Run.{turnOn}
+use Rattle.engine.proofs.RunLaws.{turn-closed, turn-polls, turn-hears, may-hear, workers-are}
 use borrow.Author.Needs.{needs}
 use Rattle.engine.proofs.run.control_turn.Statement.{statement}
 use Rattle.engine.proofs.run.control_turn.Tie as tie
@@ -22,9 +21,7 @@ allowed-at s =
 
 returns : tie.Need-returns
 returns c =
-    let a = c .before .before .before .args in
-    controls-idle (turnOn (systemAt (now (a .b))) 0 (a .d)) (now (a .cells)) (a .t) _
-    (turn-closed (systemAt (now (a .b))) 0 (a .d) (machine (now (a .cells)) (a .t)) (c .if1 .taken)) refl refl
+    idle _ _ (turn-closed _ _ _ _ (c .if1 .taken))
 
 poll-requires : tie.Need-poll-requires
 poll-requires c κs = search needs
@@ -37,10 +34,7 @@ returns-2 c =
     let q = c .before .before in
     let t = q .before .before in
     let s = t .before .before .before .before in
-    let a = s .args in
-    controls-as pollM (turnOn (systemAt (now (a .b))) 0 (a .d)) (now (a .cells)) (a .t) _ _
-    (turn-polls (systemAt (now (a .b))) 0 (a .d) (machine (now (a .cells)) (a .t)) (t .before .if1 .left) (allowed-at s) refl (t .if2 .taken))
-    (q .poll .ensures)
+    acts-as (turn-polls _ _ _ _ (t .before .if1 .left) (allowed-at s) refl (t .if2 .taken)) (q .poll .ensures)
 
 sub-heard : tie.Need-sub-heard
 sub-heard c =
@@ -61,10 +55,9 @@ returns-3 c =
     let h = c .before .before in
     let e = h .before .before in
     let s = e .before .before .before .before in
-    let a = s .args in
-    controls-as (hearM (systemAt (now (a .b))) (a .d - 1)) (turnOn (systemAt (now (a .b))) 0 (a .d)) (now (a .cells)) (a .t) _ _
-    (turn-hears (systemAt (now (a .b))) 0 (a .d) (machine (now (a .cells)) (a .t)) (e .before .if1 .left) (allowed-at s) refl (e .if2 .left))
-    (h .heard .ensures (systemAt (now (a .b))) (workers-are (now (a .b)) ∙ sym (s .pre .1)))
+    let b = now (s .args .b) in
+    acts-as (turn-hears _ _ _ _ (e .before .if1 .left) (allowed-at s) refl (e .if2 .left))
+    (h .heard .ensures (systemAt b) (workers-are b ∙ sym (s .pre .1)))
 
 pub control-turn-spec : {M : Type 1} → statement M
 control-turn-spec =

@@ -1,9 +1,7 @@
 -- `engine::run::read` takes the next poll or the next list message. Assumes nothing.
 use borrow.Author.Needs.{needs}
-use denote.Ref.{now}
-use Rattle.cells.specs.Memory.{memOf}
-use Rattle.engine.proofs.RunLaws.{acts-as, read-polls, read-lists}
-use Rattle.refinement.specs.Run.{readOn}
+use Rattle.cells.proofs.Acting.{acts-as}
+use Rattle.engine.proofs.RunLaws.{read-polls, read-lists}
 use Rattle.engine.proofs.run.read.Statement.{statement}
 use Rattle.engine.proofs.run.read.Tie as tie
 
@@ -16,10 +14,7 @@ same-length c = search needs
 returns : tie.Need-returns
 returns c =
     let p = c .before .before in
-    let t = p .before .before .before in
-    let a = t .before .before .args in
-    acts-as _ (readOn (a .t) (a .i) (a .d)) (now (a .cells)) _ _
-    (read-polls (a .t) (a .i) (a .d) (memOf (now (a .cells))) (t .if1 .taken)) (p .read-poll .ensures)
+    acts-as (read-polls _ _ _ _ (p .before .before .before .if1 .taken)) (p .read-poll .ensures)
 
 sub-read-list : tie.Need-sub-read-list
 sub-read-list c = search needs
@@ -33,10 +28,7 @@ same-length-2 c = search needs
 returns-2 : tie.Need-returns-2
 returns-2 c =
     let l = c .before .before in
-    let t = l .before .before in
-    let a = t .before .before .args in
-    acts-as _ (readOn (a .t) (a .i) (a .d)) (now (a .cells)) _ _
-    (read-lists (a .t) (a .i) (a .d) (memOf (now (a .cells))) (t .if1 .left)) (l .read-list .ensures)
+    acts-as (read-lists _ _ _ _ (l .before .before .if1 .left)) (l .read-list .ensures)
 
 pub read-spec : {M : Type 1} → statement M
 read-spec =

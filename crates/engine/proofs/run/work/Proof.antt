@@ -1,10 +1,8 @@
 -- `engine::run::work` plays a worker's action. Assumes nothing.
-use denote.Ref.{now}
 use native.Mathlib.Omega.{arith}
 use Rattle.disac4.specs.Outcome.{systemAt}
-use Rattle.engine.proofs.RunLaws.{acts-as, worker-treats, worker-sends, worker-answers, worker-reads}
-use Rattle.cells.specs.Memory.{memOf}
-use Rattle.refinement.specs.Run.{workerOn}
+use Rattle.cells.proofs.Acting.{acts-as}
+use Rattle.engine.proofs.RunLaws.{worker-treats, worker-sends, worker-answers, worker-reads}
 use borrow.Author.Needs.{needs}
 use Rattle.engine.proofs.run.work.Statement.{statement}
 use Rattle.engine.proofs.run.work.Tie as tie
@@ -20,10 +18,7 @@ same-length c = search needs
 returns : tie.Need-returns
 unfolding systemAt
 returns c =
-    let a = c .before .before .before .before .before .before .before .args in
-    acts-as _ (workerOn (systemAt (now (a .b))) (a .t) (a .i) (a .d)) (now (a .cells)) _ _
-    (worker-treats (systemAt (now (a .b))) (a .t) (a .i) (a .d) (memOf (now (a .cells))) (c .before .before .before .before .if1 .taken))
-    (c .before .before .treat .ensures)
+    acts-as (worker-treats _ _ _ _ _ (c .before .before .before .before .if1 .taken)) (c .before .before .treat .ensures)
 
 send-requires : tie.Need-send-requires
 send-requires c κs = search needs
@@ -34,9 +29,7 @@ same-length-2 c = search needs
 returns-2 : tie.Need-returns-2
 unfolding systemAt
 returns-2 c =
-    let a = c .before .before .before .before .before .before .before .before .args in
-    acts-as _ (workerOn (systemAt (now (a .b))) (a .t) (a .i) (a .d)) (now (a .cells)) _ _
-    (worker-sends (systemAt (now (a .b))) (a .t) (a .i) (a .d) (memOf (now (a .cells))) (c .before .before .before .before .before .if1 .left) (c .before .before .before .before .if2 .taken))
+    acts-as (worker-sends _ _ _ _ _ (c .before .before .before .before .before .if1 .left) (c .before .before .before .before .if2 .taken))
     (c .before .before .send .ensures)
 
 answer-requires : tie.Need-answer-requires
@@ -48,10 +41,8 @@ same-length-3 c = search needs
 returns-3 : tie.Need-returns-3
 unfolding systemAt
 returns-3 c =
-    let a = c .before .before .before .before .before .before .before .before .before .args in
-    acts-as _ (workerOn (systemAt (now (a .b))) (a .t) (a .i) (a .d)) (now (a .cells)) _ _
-    (worker-answers (systemAt (now (a .b))) (a .t) (a .i) (a .d) (memOf (now (a .cells))) (c .before .before .before .before .before .before .if1 .left) (c .before .before .before .before .before .if2 .left) (c .before .before .before .before .if3 .taken))
-    (c .before .before .answer .ensures)
+    acts-as (worker-answers _ _ _ _ _ (c .before .before .before .before .before .before .if1 .left) (c .before .before .before .before .before .if2 .left)
+    (c .before .before .before .before .if3 .taken)) (c .before .before .answer .ensures)
 
 read-requires : tie.Need-read-requires
 read-requires c κs =
@@ -70,10 +61,7 @@ unfolding systemAt
 returns-4 c =
     let r = c .before .before in
     let e = r .before .before in
-    let a = e .before .before .before .before .before .args in
-    acts-as _ (workerOn (systemAt (now (a .b))) (a .t) (a .i) (a .d)) (now (a .cells)) _ _
-    (worker-reads (systemAt (now (a .b))) (a .t) (a .i) (a .d) (memOf (now (a .cells))) (e .before .before .if1 .left) (e .before .if2 .left)
-    (e .if3 .left)) (r .read .ensures)
+    acts-as (worker-reads _ _ _ _ _ (e .before .before .if1 .left) (e .before .if2 .left) (e .if3 .left)) (r .read .ensures)
 
 pub work-spec : {M : Type 1} → statement M
 work-spec =

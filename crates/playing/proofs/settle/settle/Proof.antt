@@ -1,20 +1,14 @@
 -- `playing::settle::settle` notes what the cells show to be idle. Assumes nothing.
-use Prim.Native.Nat.{ℕ, _-_}
+use Prim.Native.Nat.{ℕ}
 use mathlib.Core.List.{List}
-use mathlib.Core.Option.{none}
 use mathlib.Core.Path.{_≡_, refl, _∙_}
 use native.Mathlib.Omega.{arith}
 use borrow.Author.Needs.{needs}
 use denote.Ref.{now}
-use Rattle.cells.specs.Memory.{memOf}
-use Rattle.controller.specs.Controller.{machine}
 use Rattle.disac4.specs.Outcome.{systemAt}
-use Rattle.disac4.specs.Turn.{turn}
 use Rattle.playing.proofs.Idling.{noted, work-idle}
 use Rattle.engine.proofs.RunLaws.{worker-treats, worker-sends, worker-answers, worker-reads}
 use Rattle.playing.specs.Known.{KnownIdle}
-use Rattle.refinement.specs.Run.{workerOn}
-use Rattle.refinement.specs.Step.{stepM}
 use Rattle.playing.proofs.settle.settle.Statement.{statement}
 use Rattle.playing.proofs.settle.settle.Tie as tie
 
@@ -60,15 +54,13 @@ own-noted c b known =
     let second = c .before .before .before in
     let first = second .before .before .before in
     let a = start c .args in
-    let done : (d : ℕ) → workerOn (systemAt b) (a .t) (a .k - 1) d (memOf (now (a .cells))) ≡ none
-    → stepM (systemAt b) (machine (now (a .cells)) (a .t)) (turn (a .k) d) ≡ none =
-    λ d. work-idle b (now (a .cells)) (a .t) (a .k) d (works c) in
+    let rests = work-idle b (now (a .cells)) (a .t) (a .k) in
     noted _ (a .k) 11
-    (λ e. done 11 (worker-answers _ _ _ _ _ (λ p. omega arith) (λ p. omega arith) refl ∙ c .before .no-answer .ensures e))
+    (λ e. rests 11 (works c) (worker-answers _ _ _ _ _ (λ p. omega arith) (λ p. omega arith) refl ∙ c .before .no-answer .ensures e))
     (c .note3 .ensures)
-    (noted _ (a .k) 10 (λ e. done 10 (worker-sends _ _ _ _ _ (λ p. omega arith) refl ∙ second .before .all-sent .ensures e))
+    (noted _ (a .k) 10 (λ e. rests 10 (works c) (worker-sends _ _ _ _ _ (λ p. omega arith) refl ∙ second .before .all-sent .ensures e))
     (second .note2 .ensures)
-    (noted _ (a .k) 9 (λ e. done 9 (worker-treats _ _ _ _ _ refl ∙ first .before .no-work .ensures (systemAt b) e))
+    (noted _ (a .k) 9 (λ e. rests 9 (works c) (worker-treats _ _ _ _ _ refl ∙ first .before .no-work .ensures (systemAt b) e))
     (first .note .ensures) known))
 
 returns : tie.Need-returns

@@ -1,0 +1,80 @@
+-- `cells::layout::row_holding` gives the row of the values whose cells hold a number. The loop's invariant: the row holds
+-- those of the values passed. The measure is what is left. Assumes nothing.
+use Prim.Native.Nat.{ℕ, _+_, _-_, _^_, _≤_}
+use mathlib.Core.Bool.{Bool, cond}
+use mathlib.Core.Path.{_≡_, refl, _∙_, ap}
+use native.Mathlib.Omega.{arith}
+use denote.Ref.{now}
+use lib.Dec.{eqb}
+use Rattle.base.proofs.Row.{row-more, row-low}
+use Rattle.base.specs.Row.{rowOf}
+use Rattle.cells.proofs.Ranges.{may-get}
+use Rattle.cells.proofs.layout.row_holding.Statement.{statement}
+use Rattle.cells.proofs.layout.row_holding.Tie as tie
+use Rattle.cells.specs.Memory.{memOf}
+
+abbrev Inv-loop : tie.InvT-loop
+Inv-loop cells g i n c row₀ v₀ row v = (v ≤ n) × (row ≡ rowOf v (λ w. eqb (memOf cells (g .id) i w) c))
+
+abbrev μ-loop : tie.MeasureT-loop
+μ-loop cells g i n c row₀ v₀ row v = n - v
+
+loop-holds : tie.Need-loop-holds Inv-loop μ-loop
+unfolding rowOf
+loop-holds c = (omega arith, refl)
+
+get-requires : tie.Need-get-requires Inv-loop μ-loop
+get-requires c κs =
+    let s = c .before .before .before in
+    let fits = s .pre .0 in
+    may-get _ _ _ (fits .known) _ (fits .writable, fits .row, omega (arith, fits .col, s .pre .1), fits .long)
+
+row-if-requires : tie.Need-row-if-requires Inv-loop μ-loop
+row-if-requires c κs = omega arith
+
+-- after a value: its place in the row
+module _ (c : tie.After-row-if Inv-loop μ-loop) where
+  abbrev l : tie.At-loop Inv-loop μ-loop
+  l = c .before .before .before
+
+  abbrev test : ℕ → Bool
+  test w = let a = l .before .before .args in eqb (memOf (now (a .cells)) (a .g .id) (a .i) w) (a .c)
+
+  longer : l .loop .row + c .row-if .result ≡ rowOf (l .loop .v + 1) test
+  longer =
+      row-more (l .loop .v) (l .loop .row) (c .row-if .result) test (l .loop .inv .1)
+      (c .row-if .ensures
+      ∙ ap (λ (k : ℕ). cond (eqb k (l .before .before .args .c)) (2 ^ l .loop .v) 0) (c .before .get .ensures .0))
+
+add-row : tie.Need-add-row Inv-loop μ-loop
+add-row c = omega (arith, longer c, row-low (l c .loop .v + 1) (test c) (omega arith))
+
+add-v : tie.Need-add-v Inv-loop μ-loop
+add-v c = omega arith
+
+loop-less : tie.Need-loop-less Inv-loop μ-loop
+loop-less c = omega arith
+
+loop-again : tie.Need-loop-again Inv-loop μ-loop
+loop-again c = (omega arith, longer c)
+
+returns : tie.Need-returns Inv-loop μ-loop
+returns c =
+    let l = c .before in
+    let e : l .loop .v ≡ l .before .before .args .n = omega arith in
+    rw e at (l .loop .inv .1)
+
+pub row-holding-spec : {M : Type 1} → statement M
+row-holding-spec =
+    tie.close
+    (tie.spec
+    Inv-loop
+    μ-loop
+    loop-holds
+    get-requires
+    row-if-requires
+    add-row
+    add-v
+    loop-less
+    loop-again
+    returns)
