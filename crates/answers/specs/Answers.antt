@@ -1,10 +1,10 @@
 -- Answer in memory: the memory after, or nothing where it is idle. A test against a region's size stands for room
 -- that the refinement shows is never lacking.
 use Prim.Native.Nat.{ℕ, _+_}
-use mathlib.Core.Bool.{Bool, cond, _&&_}
+use mathlib.Core.Bool.{Bool, cond, _&&_, not}
 use mathlib.Core.Option.{Option, none, some}
-use lib.Dec.{ltb, eqb}
-use Rattle.cells.specs.Layout.{WORKERS, BOUNDS, OUT, WANTED, HEAD, TAIL, LOGEND, SENDS, LISTS, HELD, OUTEND}
+use lib.Dec.{leb, ltb, eqb}
+use Rattle.cells.specs.Layout.{WORKERS, BOUNDS, OUT, WANTED, HEAD, TAIL, LOGEND, SENDS, LISTS, HELD, OUTEND, SENDROOM, OUTROOM, POLLROOM}
 use Rattle.cells.specs.Memory.{Mem, store}
 
 -- a reply to poll `held` is put behind `outs` messages
@@ -19,17 +19,17 @@ answeredM i m = answeredWith i (m WORKERS i HELD) (m WORKERS i OUTEND) m
 unfoldable pub emptyM : ℕ → Mem → Bool
 emptyM i m =
     eqb (m WORKERS i HEAD) (m WORKERS i TAIL)
-    && ltb (m WORKERS i SENDS) 519
+    && ltb (m WORKERS i SENDS) SENDROOM
     && eqb (m BOUNDS i (m WORKERS i SENDS)) (m WORKERS i LOGEND)
 
--- a poll is held, both lists are empty, and the list counter equals the wanted count
+-- whether a poll is held, both lists are empty, the list counter equals the wanted count, and there is room for a reply
+unfoldable pub mayAnswer : ℕ → Mem → Bool
+mayAnswer i m =
+    not (eqb (m WORKERS i HELD) 0)
+    && leb (m WORKERS i HELD) POLLROOM
+    && emptyM i m
+    && eqb (m WORKERS i LISTS) (m WANTED 0 (m WORKERS i HELD))
+    && ltb (m WORKERS i OUTEND) OUTROOM
+
 unfoldable pub answerM : ℕ → Mem → Option Mem
-answerM i m =
-    cond (eqb (m WORKERS i HELD) 0) none
-    (cond (ltb (m WORKERS i HELD) 520)
-    (cond (emptyM i m)
-    (cond (eqb (m WORKERS i LISTS) (m WANTED 0 (m WORKERS i HELD)))
-    (cond (ltb (m WORKERS i OUTEND) 520) (some (answeredM i m)) none)
-    none)
-    none)
-    none)
+answerM i m = cond (mayAnswer i m) (some (answeredM i m)) none

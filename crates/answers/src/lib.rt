@@ -6,6 +6,9 @@ use cells::layout::LISTS;
 use cells::layout::LOGEND;
 use cells::layout::OUT;
 use cells::layout::OUTEND;
+use cells::layout::OUTROOM;
+use cells::layout::POLLROOM;
+use cells::layout::SENDROOM;
 use cells::layout::SENDS;
 use cells::layout::TAIL;
 use cells::layout::WANTED;
@@ -20,14 +23,14 @@ ghost use Prim.Native.Nat.{_<_, _≤_};
 ghost use lib.Dec.{eqb};
 ghost use lib.ListN.{length};
 ghost use Rattle.cells.specs.Acts.{Acts};
-ghost use Rattle.cells.specs.Layout.{WORKERS, LISTS, HELD};
+ghost use Rattle.cells.specs.Layout.{WORKERS, LISTS, HELD, WORKCELLS, OUTROOM, POLLROOM};
 ghost use Rattle.cells.specs.Memory.{memOf};
 ghost use Rattle.cells.specs.View.{pollAt};
 ghost use Rattle.answers.specs.Answers.{answerM, answeredWith, emptyM};
 
 // Puts row `i`'s reply to the poll of this number, behind `outs` messages to the controller.
 fn put_reply(cells: &mut [u16], i: usize, number: Timestamp, outs: usize)
-    requires { ⌜ (24576 ≤ length (now cells)) × (i < 8) × (outs < 520) ⌝ }
+    requires { ⌜ (WORKCELLS ≤ length (now cells)) × (i < 8) × (outs < OUTROOM) ⌝ }
     ensures { λ r. ⌜ memOf (now (cells .exit)) ≡ answeredWith i (number .0) outs (memOf (now (cells .entry))) ⌝ }
 {
     put(cells, OUT, i, outs, number.0 as usize);
@@ -37,7 +40,7 @@ fn put_reply(cells: &mut [u16], i: usize, number: Timestamp, outs: usize)
 
 // Whether both lists of row `i` are empty.
 fn both_empty(cells: &[u16], i: usize) -> bool
-    requires { ⌜ (24576 ≤ length (now cells)) × (i < 8) ⌝ }
+    requires { ⌜ (WORKCELLS ≤ length (now cells)) × (i < 8) ⌝ }
     ensures { λ r. ⌜ r ≡ emptyM i (memOf (now (cells .entry))) ⌝ }
 {
     let head = get(cells, WORKERS, i, HEAD);
@@ -46,7 +49,7 @@ fn both_empty(cells: &[u16], i: usize) -> bool
         return false;
     }
     let sends = get(cells, WORKERS, i, SENDS);
-    if sends >= 519 {
+    if sends >= SENDROOM {
         return false;
     }
     let start = get(cells, BOUNDS, i, sends);
@@ -56,7 +59,7 @@ fn both_empty(cells: &[u16], i: usize) -> bool
 
 // The poll that row `i` holds: its number, and the wanted count that stands there.
 fn held_poll(cells: &[u16], i: usize) -> Poll
-    requires { ⌜ (24576 ≤ length (now cells)) × (i < 8) × (memOf (now cells) WORKERS i HELD < 520) ⌝ }
+    requires { ⌜ (WORKCELLS ≤ length (now cells)) × (i < 8) × (memOf (now cells) WORKERS i HELD ≤ POLLROOM) ⌝ }
     ensures { λ r. ⌜ r ≡ pollAt (memOf (now (cells .entry))) (memOf (now (cells .entry)) WORKERS i HELD) ⌝ }
 {
     let number = get(cells, WORKERS, i, HELD);
@@ -69,7 +72,7 @@ fn held_poll(cells: &[u16], i: usize) -> Poll
 
 // Row `i`'s count of lists.
 fn list_counter(cells: &[u16], i: usize) -> ListCounter
-    requires { ⌜ (24576 ≤ length (now cells)) × (i < 8) ⌝ }
+    requires { ⌜ (WORKCELLS ≤ length (now cells)) × (i < 8) ⌝ }
     ensures { λ r. ⌜ r .0 ≡ memOf (now (cells .entry)) WORKERS i LISTS ⌝ }
 {
     ListCounter(get(cells, WORKERS, i, LISTS) as u16)
@@ -84,14 +87,14 @@ fn same_count(a: ListCounter, b: ListCounter) -> bool
 
 // Answer: row `i` replies to the poll it holds, where both its lists are empty and its list counter is the wanted count.
 pub fn answer(cells: &mut [u16], i: usize) -> usize
-    requires { ⌜ (24576 ≤ length (now cells)) × (i < 8) ⌝ }
+    requires { ⌜ (WORKCELLS ≤ length (now cells)) × (i < 8) ⌝ }
     ensures { λ r. ⌜ Acts (answerM i) (memOf (now (cells .entry))) (memOf (now (cells .exit))) r ⌝ }
 {
     let held = get(cells, WORKERS, i, HELD);
     if held == 0 {
         return 0;
     }
-    if held >= 520 {
+    if held > POLLROOM {
         return 0;
     }
     if !both_empty(cells, i) {
@@ -103,7 +106,7 @@ pub fn answer(cells: &mut [u16], i: usize) -> usize
         return 0;
     }
     let outs = get(cells, WORKERS, i, OUTEND);
-    if outs >= 520 {
+    if outs >= OUTROOM {
         return 0;
     }
     let number = q.number;

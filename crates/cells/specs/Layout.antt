@@ -103,6 +103,32 @@ OUTEND = 7
 abbrev pub OUTREAD : ℕ
 OUTREAD = 8
 
+-- ---- sizes and limits
+
+-- the work cells that a run needs, `workNeed` of disac4 and WORK_CELLS in its code: the table's regions lie within
+abbrev pub WORKCELLS : ℕ
+WORKCELLS = 24576
+
+-- labels that a row of LOG or WORK has room for: as many as a plan may have
+abbrev pub LABELROOM : ℕ
+LABELROOM = 512
+
+-- list messages that a worker has room for: BOUNDS has a column more, for where the last one ends
+abbrev pub SENDROOM : ℕ
+SENDROOM = 519
+
+-- messages from a worker to the controller that there is room for
+abbrev pub OUTROOM : ℕ
+OUTROOM = 520
+
+-- polls that there is room for: WANTED has a column more, since no poll has number 0
+abbrev pub POLLROOM : ℕ
+POLLROOM = 519
+
+-- the highest list counter: a cell holds no more
+abbrev pub LISTSMAX : ℕ
+LISTSMAX = 65535
+
 -- ---- the table
 
 abbrev pub region : ℕ → ℕ → ℕ → ℕ → Region
@@ -112,11 +138,11 @@ abbrev pub regions : List Region
 regions =
     region WORKERS 0 8 16
     ∷ region CURSORS 128 8 16
-    ∷ region BOUNDS 256 8 520
-    ∷ region LOG 4416 8 512
-    ∷ region WORK 8512 8 512
-    ∷ region OUT 12608 8 520
-    ∷ region WANTED 16768 1 520
+    ∷ region BOUNDS 256 8 (SENDROOM + 1)
+    ∷ region LOG 4416 8 LABELROOM
+    ∷ region WORK 8512 8 LABELROOM
+    ∷ region OUT 12608 8 OUTROOM
+    ∷ region WANTED 16768 1 (POLLROOM + 1)
     ∷ region DOMAIN 17288 32 16
     ∷ region COUNTERS 17800 257 16
     ∷ region HEADS 21912 32 32
@@ -127,7 +153,7 @@ regions =
     ∷ []
 
 abbrev pub regionAt : ℕ → Region
-regionAt r = getD regions r (region BEHIND 24576 1 (2 ^ 64))
+regionAt r = getD regions r (region BEHIND WORKCELLS 1 (2 ^ 64))
 
 -- the place of a row and column in the cells
 abbrev pub address : Region → ℕ → ℕ → ℕ
@@ -139,4 +165,4 @@ pub record Fits (cells : List ℕ) (g : Region) (i j : ℕ) : Type 0 where
   pub writable : g .id < BEHIND
   pub row : i < g .rows
   pub col : j < g .cols
-  pub long : 24576 ≤ length cells
+  pub long : WORKCELLS ≤ length cells

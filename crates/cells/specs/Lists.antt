@@ -5,7 +5,7 @@ use mathlib.Core.List.{List}
 use mathlib.Core.Path.{_≡_}
 use lib.Dec.{ltb}
 use lib.ListN.{length}
-use Rattle.cells.specs.Layout.{WORKERS, LOG, WORK, DOMAIN, BEHIND, TAIL, LOGEND, regionAt}
+use Rattle.cells.specs.Layout.{WORKERS, LOG, WORK, DOMAIN, BEHIND, TAIL, LOGEND, WORKCELLS, LABELROOM, regionAt}
 use Rattle.cells.specs.Memory.{Mem, store}
 use Rattle.cells.specs.View.{labelNumber}
 use Rattle.cells.specs.declared.Region.{Region}
@@ -15,16 +15,16 @@ pub record Pushes (cells : List ℕ) (g : Region) (col i c : ℕ) : Type 0 where
   pub known : regionAt (g .id) ≡ g
   pub writable : g .id < BEHIND
   pub rows : g .rows ≡ 8
-  pub cols : g .cols ≡ 512
+  pub cols : g .cols ≡ LABELROOM
   pub row : i < 8
   pub end : col < 16
   pub small : c < 65536
-  pub long : 24576 ≤ length cells
+  pub long : WORKCELLS ≤ length cells
 
--- `c` at the end of row `i` of a region whose end is kept in a column of the worker's row; there is room for 512
+-- `c` at the end of row `i` of a region whose end is kept in a column of the worker's row; there is room for LABELROOM
 unfoldable pub pushM : ℕ → ℕ → ℕ → ℕ → Mem → Mem
 pushM r col i c m =
-    cond (ltb (m WORKERS i col) 512)
+    cond (ltb (m WORKERS i col) LABELROOM)
     (store (store m r i (m WORKERS i col) c) WORKERS i col (m WORKERS i col + 1))
     m
 

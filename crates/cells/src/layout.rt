@@ -8,6 +8,21 @@ ghost use Rattle.base.specs.Row.{rowOf};
 ghost use Rattle.cells.specs.Layout.{Fits};
 ghost use Rattle.cells.specs.Memory.{memOf, store};
 
+// Labels that a row of LOG or WORK has room for: as many as a plan may have.
+pub const LABELROOM: usize = 512;
+
+// List messages that a worker has room for.
+pub const SENDROOM: usize = 519;
+
+// Messages from a worker to the controller that there is room for.
+pub const OUTROOM: usize = 520;
+
+// Polls that there is room for.
+pub const POLLROOM: usize = 519;
+
+// The highest list counter: a cell holds no more.
+pub const LISTSMAX: usize = 65535;
+
 pub const WORKERS: Region = Region {
     id: 0,
     base: 0,
@@ -26,35 +41,35 @@ pub const BOUNDS: Region = Region {
     id: 2,
     base: 256,
     rows: 8,
-    cols: 520,
+    cols: SENDROOM + 1,
 };
 
 pub const LOG: Region = Region {
     id: 3,
     base: 4416,
     rows: 8,
-    cols: 512,
+    cols: LABELROOM,
 };
 
 pub const WORK: Region = Region {
     id: 4,
     base: 8512,
     rows: 8,
-    cols: 512,
+    cols: LABELROOM,
 };
 
 pub const OUT: Region = Region {
     id: 5,
     base: 12608,
     rows: 8,
-    cols: 520,
+    cols: OUTROOM,
 };
 
 pub const WANTED: Region = Region {
     id: 6,
     base: 16768,
     rows: 1,
-    cols: 520,
+    cols: POLLROOM + 1,
 };
 
 pub const DOMAIN: Region = Region {

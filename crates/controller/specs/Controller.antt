@@ -6,7 +6,7 @@ use mathlib.Core.List.{List}
 use mathlib.Core.Option.{Option, none, some}
 use lib.Dec.{leb, ltb, eqb}
 use Rattle.base.specs.Row.{bit}
-use Rattle.cells.specs.Layout.{OUT, WANTED, WORKERS, OUTEND, OUTREAD}
+use Rattle.cells.specs.Layout.{OUT, WANTED, WORKERS, OUTEND, OUTREAD, OUTROOM, POLLROOM, LISTSMAX}
 use Rattle.cells.specs.Memory.{Mem, memOf, store}
 use Rattle.cells.specs.View.{LISTMARK}
 use Rattle.disac4.specs.System.{System}
@@ -34,7 +34,7 @@ askedT t = record {
 
 -- whether a poll is sent
 unfoldable pub asksT : Tally → Bool
-asksT t = not (t .polling) && ltb (t .timestamp .0) 519
+asksT t = not (t .polling) && ltb (t .timestamp .0) POLLROOM
 
 unfoldable pub askM : Tally → Mem → Mem
 askM t m = store m WANTED 0 (t .timestamp .0 + 1) (t .lists .0)
@@ -78,7 +78,7 @@ toldT p i c t =
 -- whether the controller finds a message from row `i`
 unfoldable pub hasOut : ℕ → Tally → Mem → Bool
 hasOut i t m =
-    ltb (m WORKERS i OUTREAD) (m WORKERS i OUTEND) && ltb (m WORKERS i OUTREAD) 520 && ltb (t .lists .0) 65535
+    ltb (m WORKERS i OUTREAD) (m WORKERS i OUTEND) && ltb (m WORKERS i OUTREAD) OUTROOM && ltb (t .lists .0) LISTSMAX
 
 unfoldable pub outReadM : ℕ → Mem → Mem
 outReadM i m = store m WORKERS i OUTREAD (m WORKERS i OUTREAD + 1)

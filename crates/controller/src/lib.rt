@@ -2,9 +2,12 @@
 use base::power;
 use base::row_holds;
 use cells::layout::LISTMARK;
+use cells::layout::LISTSMAX;
 use cells::layout::OUT;
 use cells::layout::OUTEND;
 use cells::layout::OUTREAD;
+use cells::layout::OUTROOM;
+use cells::layout::POLLROOM;
 use cells::layout::WANTED;
 use cells::layout::WORKERS;
 use cells::layout::get;
@@ -20,7 +23,7 @@ ghost use lib.Dec.{ltb, eqb};
 ghost use lib.ListN.{length};
 ghost use Rattle.disac4.specs.System.{System};
 ghost use Rattle.cells.specs.Acts.{Acts};
-ghost use Rattle.cells.specs.Layout.{WANTED};
+ghost use Rattle.cells.specs.Layout.{WANTED, WORKCELLS, OUTROOM, POLLROOM, LISTSMAX};
 ghost use Rattle.cells.specs.Memory.{memOf, store};
 ghost use Rattle.controller.specs.Controller.{askedT, asksT, countedT, withMark, markedT, toldT, machine, pollM, hearM};
 
@@ -32,7 +35,7 @@ pub struct Controlled {
 
 // The tally after a poll was sent.
 fn asked(t: Tally) -> Tally
-    requires { ⌜ t .timestamp .0 < 519 ⌝ }
+    requires { ⌜ t .timestamp .0 < POLLROOM ⌝ }
     ensures { λ r. ⌜ r ≡ askedT t ⌝ }
 {
     let lists = t.lists;
@@ -51,16 +54,16 @@ fn asks(t: Tally) -> bool
     ensures { λ r. ⌜ r ≡ asksT t ⌝ }
 {
     let at = t.timestamp;
-    let n = at.0;
+    let n = at.0 as usize;
     if t.polling {
         return false;
     }
-    n < 519
+    n < POLLROOM
 }
 
 // A list message adds one to the count and ends an open poll.
 fn counted(t: Tally) -> Tally
-    requires { ⌜ t .lists .0 < 65535 ⌝ }
+    requires { ⌜ t .lists .0 < LISTSMAX ⌝ }
     ensures { λ r. ⌜ r ≡ countedT t ⌝ }
 {
     let lists = t.lists;
@@ -112,7 +115,7 @@ fn same_number(a: Timestamp, b: Timestamp) -> bool
 
 // The tally after the message `c` from row `i` was read.
 fn told(t: Tally, p: usize, i: usize, c: usize) -> Tally
-    requires { ⌜ (t .lists .0 < 65535) × (t .marks < 256) × (i < 8) × (p ≤ 8) ⌝ }
+    requires { ⌜ (t .lists .0 < LISTSMAX) × (t .marks < 256) × (i < 8) × (p ≤ 8) ⌝ }
     ensures { λ r. ⌜ r ≡ toldT p i c t ⌝ }
 {
     let at = t.timestamp;
@@ -142,7 +145,7 @@ fn open_poll(t: Tally) -> Poll
 
 // Puts a poll where all workers read it: its wanted count, at its number.
 fn put_poll(cells: &mut [u16], q: Poll)
-    requires { ⌜ (24576 ≤ length (now cells)) × (q .number .0 < 520) ⌝ }
+    requires { ⌜ (WORKCELLS ≤ length (now cells)) × (q .number .0 ≤ POLLROOM) ⌝ }
     ensures { λ r. ⌜ memOf (now (cells .exit)) ≡ store (memOf (now (cells .entry))) WANTED 0 (q .number .0) (q .wanted .0) ⌝ }
 {
     let number = q.number;
@@ -152,7 +155,7 @@ fn put_poll(cells: &mut [u16], q: Poll)
 
 // Poll: where none is open, the controller sends the next one, with its count of lists.
 pub fn poll(cells: &mut [u16], t: Tally) -> Controlled
-    requires { ⌜ 24576 ≤ length (now cells) ⌝ }
+    requires { ⌜ WORKCELLS ≤ length (now cells) ⌝ }
     ensures { λ r. ⌜ Acts pollM (machine (now (cells .entry)) t) (machine (now (cells .exit)) (r .tally)) (r .changed) ⌝ }
 {
     if !asks(t) {
@@ -171,17 +174,17 @@ pub fn poll(cells: &mut [u16], t: Tally) -> Controlled
 
 // Whether a queue has a message behind those that are read, and there is room to count it.
 fn has_out(read: usize, end: usize, lists: u16) -> bool
-    ensures { λ r. ⌜ r ≡ (ltb read end && ltb read 520 && ltb lists 65535) ⌝ }
+    ensures { λ r. ⌜ r ≡ (ltb read end && ltb read OUTROOM && ltb lists LISTSMAX) ⌝ }
 {
     if read >= end {
         return false;
     }
-    read < 520 && lists < 65535
+    read < OUTROOM && (lists as usize) < LISTSMAX
 }
 
 // Read: the controller takes the next message of row `i`, of `p` workers.
 pub fn hear(cells: &mut [u16], t: Tally, p: usize, i: usize) -> Controlled
-    requires { ⌜ (24576 ≤ length (now cells)) × (t .marks < 256) × (i < 8) × (p ≤ 8) ⌝ }
+    requires { ⌜ (WORKCELLS ≤ length (now cells)) × (t .marks < 256) × (i < 8) × (p ≤ 8) ⌝ }
     ensures { λ r. ⌜ ((sys : System) → sys .workers ≡ p → Acts (hearM sys i) (machine (now (cells .entry)) t) (machine (now (cells .exit)) (r .tally)) (r .changed)) ⌝ }
 {
     let lists = t.lists;

@@ -1,11 +1,8 @@
 // The text of a whole run, from a plan and its turns to the bytes that the program prints.
+use disac4::LIST_CELLS;
+use disac4::WORK_CELLS;
 ghost use Rattle.buffer.specs.Buffer.{Holds};
 ghost use Rattle.display.specs.Shown.{shownRounds, shownTurns, shown, Shows};
-
-// As many cells as a run needs.
-const WORK_CELLS: usize = 24576;
-
-const LIST_CELLS: usize = 32;
 
 // The text of a run by rounds, as much of it as fits.
 fn show_rounds(plan: &[u8], out: &mut [u8]) -> usize

@@ -11,6 +11,7 @@ ghost use mathlib.Core.Option.{none};
 ghost use mathlib.Core.Path.{_≡_};
 ghost use Prim.Native.Nat.{_≤_};
 ghost use lib.ListN.{length};
+ghost use Rattle.cells.specs.Layout.{WORKCELLS};
 ghost use Rattle.cells.specs.Memory.{memOf};
 ghost use Rattle.controller.specs.Controller.{machine};
 ghost use Rattle.plan.specs.Decode.{planFault};
@@ -31,7 +32,7 @@ fn fresh() -> Tally
 
 // Loads an accepted plan, whatever the cells held.
 fn start(b: &[u8], cells: &mut [u16]) -> Tally
-    requires { ⌜ (planFault (now b) ≡ none) × (24576 ≤ length (now cells)) ⌝ }
+    requires { ⌜ (planFault (now b) ≡ none) × (WORKCELLS ≤ length (now cells)) ⌝ }
     ensures { λ r. ⌜ machine (now (cells .exit)) r ≡ startM (now (b .entry)) (memOf (now (cells .entry))) ⌝ }
 {
     clear::clear(cells);
@@ -42,7 +43,7 @@ fn start(b: &[u8], cells: &mut [u16]) -> Tally
 
 // Loads an accepted plan: a run that has played no turns.
 pub fn load(plan: &[u8], work: &mut [u16]) -> Progress
-    requires { ⌜ (planFault (now plan) ≡ none) × (24576 ≤ length (now work)) ⌝ }
+    requires { ⌜ (planFault (now plan) ≡ none) × (WORKCELLS ≤ length (now work)) ⌝ }
     ensures { λ r. ⌜ At (now (plan .entry)) (memOf (now (work .entry))) [] (now (work .exit)) r ⌝ }
 {
     let t = start(plan, work);

@@ -15,6 +15,7 @@ ghost use lib.ListN.{length};
 ghost use Rattle.disac4.specs.Outcome.{systemAt};
 ghost use Rattle.disac4.specs.Turn.{allowed, turn};
 ghost use Rattle.cells.specs.Acts.{Acts};
+ghost use Rattle.cells.specs.Layout.{WORKCELLS};
 ghost use Rattle.cells.specs.Memory.{memOf};
 ghost use Rattle.engine.specs.Play.{Running, Works};
 ghost use Rattle.refinement.specs.Run.{Playable, readOn, workerOn, turnOn, Going, Plays};
@@ -23,7 +24,7 @@ ghost use Rattle.format.specs.Format.{workerCount};
 
 // Row `i` reads from actor `d`: the next poll, or the next list message.
 fn read(cells: &mut [u16], t: Tally, i: usize, d: usize) -> usize
-    requires { ⌜ (24576 ≤ length (now cells)) × (i < 8) × (d < 9) ⌝ }
+    requires { ⌜ (WORKCELLS ≤ length (now cells)) × (i < 8) × (d < 9) ⌝ }
     ensures { λ r. ⌜ Acts (readOn t i d) (memOf (now (cells .entry))) (memOf (now (cells .exit))) r ⌝ }
 {
     if d == 0 {

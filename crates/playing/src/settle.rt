@@ -11,6 +11,7 @@ ghost use mathlib.Core.Path.{_≡_};
 ghost use Prim.Native.Nat.{ℕ, _<_, _≤_};
 ghost use lib.ListN.{length};
 ghost use Rattle.answers.specs.Answers.{answerM};
+ghost use Rattle.cells.specs.Layout.{WORKCELLS};
 ghost use Rattle.cells.specs.Memory.{memOf};
 ghost use Rattle.disac4.specs.System.{System};
 ghost use Rattle.playing.specs.Known.{KnownIdle};
@@ -20,7 +21,7 @@ ghost use Rattle.treating.specs.Treat.{treatM};
 
 // Row i has nothing to treat.
 fn no_work(cells: &[u16], i: usize) -> bool
-    requires { ⌜ (24576 ≤ length (now cells)) × (i < 8) ⌝ }
+    requires { ⌜ (WORKCELLS ≤ length (now cells)) × (i < 8) ⌝ }
     ensures { λ r. ⌜ ((sys : System) → r ≡ true → treatM sys i (memOf (now (cells .entry))) ≡ none) ⌝ }
 {
     let head = layout::get(cells, layout::WORKERS, i, layout::HEAD);
@@ -30,11 +31,11 @@ fn no_work(cells: &[u16], i: usize) -> bool
 
 // Row i has nothing to send.
 fn all_sent(cells: &[u16], i: usize) -> bool
-    requires { ⌜ (24576 ≤ length (now cells)) × (i < 8) ⌝ }
+    requires { ⌜ (WORKCELLS ≤ length (now cells)) × (i < 8) ⌝ }
     ensures { λ r. ⌜ (r ≡ true → sendM i (memOf (now (cells .entry))) ≡ none) ⌝ }
 {
     let sends = layout::get(cells, layout::WORKERS, i, layout::SENDS);
-    if sends >= 519 {
+    if sends >= layout::SENDROOM {
         return true;
     }
     let start = layout::get(cells, layout::BOUNDS, i, sends);
@@ -44,7 +45,7 @@ fn all_sent(cells: &[u16], i: usize) -> bool
 
 // Row i has no poll to answer, or something to treat first.
 fn no_answer(cells: &[u16], i: usize) -> bool
-    requires { ⌜ (24576 ≤ length (now cells)) × (i < 8) ⌝ }
+    requires { ⌜ (WORKCELLS ≤ length (now cells)) × (i < 8) ⌝ }
     ensures { λ r. ⌜ (r ≡ true → answerM i (memOf (now (cells .entry))) ≡ none) ⌝ }
 {
     let held = layout::get(cells, layout::WORKERS, i, layout::HELD);
@@ -55,7 +56,7 @@ fn no_answer(cells: &[u16], i: usize) -> bool
 
 // Row i has nothing to read from actor d.
 fn all_read(cells: &[u16], t: Tally, i: usize, d: usize) -> bool
-    requires { ⌜ (24576 ≤ length (now cells)) × (i < 8) × (d < 9) ⌝ }
+    requires { ⌜ (WORKCELLS ≤ length (now cells)) × (i < 8) × (d < 9) ⌝ }
     ensures { λ r. ⌜ (r ≡ true → readOn t i d (memOf (now (cells .entry))) ≡ none) ⌝ }
 {
     if d == 0 {
@@ -70,7 +71,7 @@ fn all_read(cells: &[u16], t: Tally, i: usize, d: usize) -> bool
 
 // Notes which actions of worker k the cells show to be idle, after its action d.
 pub fn settle(cells: &[u16], t: Tally, table: &mut [u8; 117], k: usize, d: usize)
-    requires { ⌜ (24576 ≤ length (now cells)) × (length (now table) ≡ 117) × (0 < k) × (k ≤ 8) ⌝ }
+    requires { ⌜ (WORKCELLS ≤ length (now cells)) × (length (now table) ≡ 117) × (0 < k) × (k ≤ 8) ⌝ }
     ensures { λ _. ⌜ ((b : List ℕ) → KnownIdle b (now (cells .entry)) t (now (table .entry)) → KnownIdle b (now (cells .entry)) t (now (table .exit))) ⌝ }
 {
     let i = k - 1;

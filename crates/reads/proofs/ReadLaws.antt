@@ -1,13 +1,16 @@
--- Laws by which the code of the reads meets its definitions: what each store, read and test makes of them.
+-- Laws by which the code of the reads meets its definitions: what their stores and tests make of them.
 use Prim.Native.Nat.{ℕ, _+_, _-_, _<_, _≤_}
+use mathlib.Core.Bool.{true}
 use mathlib.Core.Option.{none, some}
 use mathlib.Core.Path.{_≡_}
 use native.Mathlib.Omega.{arith}
-use borrow.Author.Tests.{lt-ltb, le-ltb, le-leb, lt-leb}
-use Rattle.cells.specs.Layout.{WORKERS, CURSORS, BOUNDS, SENDS, LISTS, HELD, POLLS}
+use borrow.Author.Tests.{lt-ltb, le-ltb, le-leb, ltb-true, leb-true}
+use Rattle.base.proofs.Bools.{and-left, and-right, and-intro, refuted}
+use Rattle.base.proofs.Choice.{cond-true, cond-false}
+use Rattle.cells.specs.Layout.{WORKERS, CURSORS, BOUNDS, SENDS, LISTS, HELD, POLLS, LABELROOM, SENDROOM, LISTSMAX}
 use Rattle.cells.specs.Lists.{copyM}
 use Rattle.cells.specs.Memory.{Mem, store}
-use Rattle.reads.specs.Reads.{readListM, takenM, takenWith, readPollM}
+use Rattle.reads.specs.Reads.{listEnd, takenWith, takenM, hasList, readListM, readPollM}
 
 module _ (m m₁ m₂ m₃ : Mem) where
   pub taken : (j i read from to lists : ℕ) → m₁ ≡ copyM j i from (to - from) m → m₂ ≡ store m₁ CURSORS j i (read + 1)
@@ -20,51 +23,34 @@ pub copied-none : (j i from to : ℕ) (m : Mem) → to < from → m ≡ copyM j 
 unfolding copyM
 copied-none j i from to m h = let e : to - from ≡ 0 = omega arith in rw e
 
-module _ (j i : ℕ) (m : Mem) {read sends : ℕ} (q₁ : read ≡ m CURSORS j i) (q₂ : sends ≡ m WORKERS j SENDS) where
-  pub read-all : sends ≤ read → readListM j i m ≡ none
+-- what the read of a list message asks: one that is not read, and room for its labels and its count
+pub record HasList (j i : ℕ) (m : Mem) : Type 0 where
+  pub unread : m CURSORS j i < m WORKERS j SENDS
+  pub bound-room : m CURSORS j i < SENDROOM
+  pub label-room : listEnd j i m ≤ LABELROOM
+  pub count-room : m WORKERS i LISTS < LISTSMAX
+
+module _ (j i : ℕ) (m : Mem) where
+  -- the test taken apart
+  pub has-list : hasList j i m ≡ true → HasList j i m
+  unfolding hasList
+  has-list e = search (and-left, and-right, ltb-true, leb-true)
+
+  -- and put together: the list message is read
+  pub list-goes : HasList j i m → readListM j i m ≡ some (takenM j i m)
+  unfolding readListM hasList
+  list-goes h = cond-true {b = hasList j i m} _ none (search (and-intro, lt-ltb, le-leb))
+
+  -- where a part of the test fails, the read is idle
+  pub list-idle : (HasList j i m → ⊥) → readListM j i m ≡ none
   unfolding readListM
-  read-all h = rw (← q₁, ← q₂, le-ltb read sends h)
+  list-idle n = cond-false _ none (refuted (hasList j i m) (λ e. n (has-list e)))
 
-  module _ (h₁ : read < sends) where
-    pub read-full : 519 ≤ read → readListM j i m ≡ none
-    unfolding readListM
-    read-full h = rw (← q₁, ← q₂, lt-ltb read sends h₁, le-ltb read 519 h)
-
-    module _ (h₂ : read < 519) {to : ℕ} (q₃ : to ≡ m BOUNDS j (read + 1)) where
-      pub read-past : 512 < to → readListM j i m ≡ none
-      unfolding readListM
-      read-past h = rw (← q₁, ← q₂, lt-ltb read sends h₁, lt-ltb read 519 h₂, ← q₃, lt-leb to 512 h)
-
-      module _ (h₃ : to ≤ 512) {lists : ℕ} (q₄ : lists ≡ m WORKERS i LISTS) where
-        pub read-counted : 65535 ≤ lists → readListM j i m ≡ none
-        unfolding readListM
-        read-counted h =
-            rw (
-              ← q₁,
-              ← q₂,
-              lt-ltb read sends h₁,
-              lt-ltb read 519 h₂,
-              ← q₃,
-              le-leb to 512 h₃,
-              ← q₄,
-              le-ltb lists 65535 h,
-            )
-
-        pub read-takes : lists < 65535 → {from : ℕ} → from ≡ m BOUNDS j read
-            → readListM j i m ≡ some (takenWith j i read from to lists m)
-        unfolding readListM takenM
-        read-takes h q₅ =
-            rw (
-              ← q₁,
-              ← q₂,
-              lt-ltb read sends h₁,
-              lt-ltb read 519 h₂,
-              ← q₃,
-              le-leb to 512 h₃,
-              ← q₄,
-              lt-ltb lists 65535 h,
-              ← q₅,
-            )
+  -- it is read by what the code has got from the cells
+  pub taken-from : {read from to lists : ℕ} {m′ : Mem} → read ≡ m CURSORS j i → from ≡ m BOUNDS j read
+      → to ≡ m BOUNDS j (read + 1) → lists ≡ m WORKERS i LISTS → m′ ≡ takenWith j i read from to lists m → m′ ≡ takenM j i m
+  unfolding takenM
+  taken-from p q r l e = rw (e, q, r, p, l)
 
 module _ (i n : ℕ) (m : Mem) {polls : ℕ} (q : polls ≡ m WORKERS i POLLS) where
   pub read-no-poll : n ≤ polls → readPollM i n m ≡ none

@@ -1,10 +1,10 @@
 -- The reads of a worker in memory: the memory after, or nothing where the read is idle. A test against a region's size stands for room
 -- that the refinement shows is never lacking.
 use Prim.Native.Nat.{ℕ, _+_, _-_}
-use mathlib.Core.Bool.{cond}
+use mathlib.Core.Bool.{Bool, cond, _&&_}
 use mathlib.Core.Option.{Option, none, some}
 use lib.Dec.{leb, ltb}
-use Rattle.cells.specs.Layout.{WORKERS, CURSORS, BOUNDS, SENDS, LISTS, HELD, POLLS}
+use Rattle.cells.specs.Layout.{WORKERS, CURSORS, BOUNDS, SENDS, LISTS, HELD, POLLS, LABELROOM, SENDROOM, LISTSMAX}
 use Rattle.cells.specs.Lists.{copyM}
 use Rattle.cells.specs.Memory.{Mem, store}
 
@@ -26,15 +26,16 @@ unfoldable pub takenM : ℕ → ℕ → Mem → Mem
 unfolding takenWith
 takenM j i m = takenWith j i (m CURSORS j i) (listStart j i m) (listEnd j i m) (m WORKERS i LISTS) m
 
+-- whether row `j` has a list message that row `i` has not read, in bounds
+unfoldable pub hasList : ℕ → ℕ → Mem → Bool
+hasList j i m =
+    ltb (m CURSORS j i) (m WORKERS j SENDS)
+    && ltb (m CURSORS j i) SENDROOM
+    && leb (listEnd j i m) LABELROOM
+    && ltb (m WORKERS i LISTS) LISTSMAX
+
 unfoldable pub readListM : ℕ → ℕ → Mem → Option Mem
-readListM j i m =
-    cond (ltb (m CURSORS j i) (m WORKERS j SENDS))
-    (cond (ltb (m CURSORS j i) 519)
-    (cond (leb (listEnd j i m) 512)
-    (cond (ltb (m WORKERS i LISTS) 65535) (some (takenM j i m)) none)
-    none)
-    none)
-    none
+readListM j i m = cond (hasList j i m) (some (takenM j i m)) none
 
 -- ---- row `i` reads from the controller, which has sent `n` polls
 

@@ -2,8 +2,11 @@
 use cells::layout::BOUNDS;
 use cells::layout::CURSORS;
 use cells::layout::HELD;
+use cells::layout::LABELROOM;
 use cells::layout::LISTS;
+use cells::layout::LISTSMAX;
 use cells::layout::POLLS;
+use cells::layout::SENDROOM;
 use cells::layout::SENDS;
 use cells::layout::WORKERS;
 use cells::layout::get;
@@ -14,14 +17,14 @@ ghost use mathlib.Core.Path.{_≡_};
 ghost use Prim.Native.Nat.{_-_, _<_, _≤_};
 ghost use lib.ListN.{length};
 ghost use Rattle.cells.specs.Acts.{Acts};
-ghost use Rattle.cells.specs.Layout.{WORKERS, POLLS, HELD};
+ghost use Rattle.cells.specs.Layout.{WORKERS, POLLS, HELD, WORKCELLS, LABELROOM, SENDROOM, LISTSMAX};
 ghost use Rattle.cells.specs.Lists.{copyM};
 ghost use Rattle.cells.specs.Memory.{memOf, store};
 ghost use Rattle.reads.specs.Reads.{readListM, takenWith, readPollM};
 
 // The labels between two places of row `j`'s log join the end of row `i`'s work list.
 fn copy_between(cells: &mut [u16], j: usize, i: usize, from: usize, to: usize)
-    requires { ⌜ (24576 ≤ length (now cells)) × (j < 8) × (i < 8) × (to ≤ 512) ⌝ }
+    requires { ⌜ (WORKCELLS ≤ length (now cells)) × (j < 8) × (i < 8) × (to ≤ LABELROOM) ⌝ }
     ensures { λ r. ⌜ memOf (now (cells .exit)) ≡ copyM j i from (to - from) (memOf (now (cells .entry))) ⌝ }
 {
     if from <= to {
@@ -39,7 +42,7 @@ fn take_list(
     to: usize,
     lists: usize,
 )
-    requires { ⌜ (24576 ≤ length (now cells)) × (j < 8) × (i < 8) × (read < 519) × (to ≤ 512) × (lists < 65535) ⌝ }
+    requires { ⌜ (WORKCELLS ≤ length (now cells)) × (j < 8) × (i < 8) × (read < SENDROOM) × (to ≤ LABELROOM) × (lists < LISTSMAX) ⌝ }
     ensures { λ r. ⌜ memOf (now (cells .exit)) ≡ takenWith j i read from to lists (memOf (now (cells .entry))) ⌝ }
 {
     copy_between(cells, j, i, from, to);
@@ -49,7 +52,7 @@ fn take_list(
 
 // Read: row `i` takes the next list message of row `j`.
 pub fn read_list(cells: &mut [u16], j: usize, i: usize) -> usize
-    requires { ⌜ (24576 ≤ length (now cells)) × (j < 8) × (i < 8) ⌝ }
+    requires { ⌜ (WORKCELLS ≤ length (now cells)) × (j < 8) × (i < 8) ⌝ }
     ensures { λ r. ⌜ Acts (readListM j i) (memOf (now (cells .entry))) (memOf (now (cells .exit))) r ⌝ }
 {
     let read = get(cells, CURSORS, j, i);
@@ -57,15 +60,15 @@ pub fn read_list(cells: &mut [u16], j: usize, i: usize) -> usize
     if read >= sends {
         return 0;
     }
-    if read >= 519 {
+    if read >= SENDROOM {
         return 0;
     }
     let to = get(cells, BOUNDS, j, read + 1);
-    if to > 512 {
+    if to > LABELROOM {
         return 0;
     }
     let lists = get(cells, WORKERS, i, LISTS);
-    if lists >= 65535 {
+    if lists >= LISTSMAX {
         return 0;
     }
     let from = get(cells, BOUNDS, j, read);
@@ -75,7 +78,7 @@ pub fn read_list(cells: &mut [u16], j: usize, i: usize) -> usize
 
 // The poll of this number is the last that row `i` has read, and the one that it holds.
 fn hold(cells: &mut [u16], i: usize, number: Timestamp)
-    requires { ⌜ (24576 ≤ length (now cells)) × (i < 8) ⌝ }
+    requires { ⌜ (WORKCELLS ≤ length (now cells)) × (i < 8) ⌝ }
     ensures { λ r. ⌜ memOf (now (cells .exit)) ≡ store (store (memOf (now (cells .entry))) WORKERS i POLLS (number .0)) WORKERS i HELD (number .0) ⌝ }
 {
     let n = number.0 as usize;
@@ -85,7 +88,7 @@ fn hold(cells: &mut [u16], i: usize, number: Timestamp)
 
 // Read: row `i` takes the next poll, up to the last that was sent, and holds it.
 pub fn read_poll(cells: &mut [u16], i: usize, last: Timestamp) -> usize
-    requires { ⌜ (24576 ≤ length (now cells)) × (i < 8) ⌝ }
+    requires { ⌜ (WORKCELLS ≤ length (now cells)) × (i < 8) ⌝ }
     ensures { λ r. ⌜ Acts (readPollM i (last .0)) (memOf (now (cells .entry))) (memOf (now (cells .exit))) r ⌝ }
 {
     let n = last.0 as usize;

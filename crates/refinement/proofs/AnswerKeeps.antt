@@ -1,26 +1,26 @@
 -- Answering keeps the invariant: a worker replies once at each value of its list counter.
 use Prim.Native.Nat.{ℕ, _+_, _-_, _<_, _≤_}
-use mathlib.Core.Bool.{false, _&&_}
+use mathlib.Core.Bool.{false}
 use mathlib.Core.Logic.{inl, inr, ⊎-elim}
 use mathlib.Core.Option.{some}
 use mathlib.Core.Path.{_≡_, refl, sym, _∙_, ap}
 use native.Mathlib.Decide.{ℕ-discrete}
 use native.Mathlib.Omega.{arith}
-use borrow.Author.Tests.{ltb-true, eqb-true, eqb-false, lt-leb, ne-eqb}
-use lib.Dec.{ltb, eqb}
-use Rattle.base.proofs.Bools.{decided, and-never, and-left, and-right}
-use Rattle.base.proofs.Choice.{if-some, unless-some, some-same}
+use borrow.Author.Tests.{lt-leb, ne-eqb}
+use Rattle.base.proofs.Bools.{decided, and-never}
+use Rattle.base.proofs.Choice.{if-some, some-same}
 use Rattle.base.specs.Below.{one}
 use Rattle.disac4.specs.System.{System}
 use Rattle.disac4.specs.declared.Tally.{Tally}
 use Rattle.cells.proofs.Stores.{store-same}
-use Rattle.cells.specs.Layout.{WORKERS, BOUNDS, OUT, WANTED, HEAD, TAIL, LOGEND, SENDS, LISTS, HELD, OUTEND}
+use Rattle.cells.specs.Layout.{WORKERS, OUT, WANTED, SENDS, LISTS, HELD, OUTEND}
 use Rattle.cells.specs.Memory.{Mem}
-use Rattle.answers.specs.Answers.{answerM, answeredM, emptyM}
+use Rattle.answers.proofs.AnswerLaws.{MayAnswer, may-answer, empty-lists}
+use Rattle.answers.specs.Answers.{answeredM, mayAnswer, answerM}
 use Rattle.cells.specs.View.{LISTMARK}
 use Rattle.refinement.proofs.Capacity.{risen}
-use Rattle.refinement.proofs.InvKept.{OnlyRow, only-store, only-same, Answered, worker-action}
-use Rattle.refinement.specs.Inv.{Row, Polled, Replied, Totals, Inv}
+use Rattle.refinement.proofs.InvKept.{OnlyRow, only-store, only-same, worker-action}
+use Rattle.refinement.specs.Inv.{Row, Polled, Replied, Totals, Inv, OutCounted}
 use Rattle.refinement.proofs.Outgoing.{Put, put-out, put-lists, put-counted, put-heard}
 
 -- wanted counts rise from poll to poll
@@ -53,18 +53,10 @@ module _ (i : ℕ) (m : Mem) where
       only-store WORKERS HELD _ (omega arith)
       (only-store WORKERS OUTEND _ (omega arith) (only-store OUT _ _ (omega arith) (only-same m i)))
 
--- what an answer asks: a poll is held, both lists are empty, and the list counter equals the wanted count
-record Ready (i : ℕ) (m : Mem) : Type 0 where
-  held : 0 < m WORKERS i HELD
-  low : m WORKERS i HELD < LISTMARK
-  no-work : m WORKERS i HEAD ≡ m WORKERS i TAIL
-  no-send : m BOUNDS i (m WORKERS i SENDS) ≡ m WORKERS i LOGEND
-  wanted : m WORKERS i LISTS ≡ m WANTED 0 (m WORKERS i HELD)
-
 -- ---- the parts of the invariant
 
 module _ (sys : System) (m : Mem) (t : Tally) (i : ℕ) (inv : Inv sys (record { mem = m; tally = t })) (h : i < sys .workers)
-    (ready : Ready i m) where
+    (may : MayAnswer i m) where
   row : Row sys (answeredM i m) t i
   unfolding answeredM
   row = let r = inv .rows i h in search (arith, put i m .more, none-held i m, out-list)
@@ -72,7 +64,7 @@ module _ (sys : System) (m : Mem) (t : Tally) (i : ℕ) (inv : Inv sys (record {
       out-list : (e : ℕ) → e < answeredM i m WORKERS i OUTEND → LISTMARK ≤ answeredM i m OUT i e
           → answeredM i m OUT i e - LISTMARK < m WORKERS i SENDS
       out-list =
-          put-lists i (m WORKERS i HELD) m (answeredM i m) (put i m) (omega arith) (λ l. omega (arith, ready .low))
+          put-lists i (m WORKERS i HELD) m (answeredM i m) (put i m) (omega arith) (λ l. omega (arith, may .known))
           (inv .rows i h .out-list)
 
   totals : Totals sys (answeredM i m) t
@@ -87,7 +79,7 @@ module _ (sys : System) (m : Mem) (t : Tally) (i : ℕ) (inv : Inv sys (record {
         logged = u .logged;
         all-out = λ k p.
             put-counted i (m WORKERS i HELD) m (answeredM i m) (put i m)
-            (omega (arith, ap one (lt-leb LISTMARK (m WORKERS i HELD) (ready .low)))) (λ k n. refl) k (u .all-out k p);
+            (omega (arith, ap one (lt-leb LISTMARK (m WORKERS i HELD) (omega (arith, may .known))))) (λ k n. refl) k (u .all-out k p);
         heard =
             u .heard
             ∙ sym
@@ -102,7 +94,7 @@ module _ (sys : System) (m : Mem) (t : Tally) (i : ℕ) (inv : Inv sys (record {
   more-wanted : (n : ℕ) → m WORKERS i HELD ≤ n → n ≤ t .timestamp .0
       → m WORKERS i LISTS + (n - m WORKERS i HELD) ≤ m WANTED 0 n
   more-wanted n l b =
-      omega (arith, ready .wanted, wanted-later m t (inv .polled) (m WORKERS i HELD) n (ready .held) l b)
+      omega (arith, may .wanted, wanted-later m t (inv .polled) (m WORKERS i HELD) n (omega (arith, may .holds)) l b)
 
   -- a first reply at this count
   first-reply : m WORKERS i OUTEND ≡ m WORKERS i LISTS → Replied (answeredM i m) t i
@@ -110,12 +102,12 @@ module _ (sys : System) (m : Mem) (t : Tally) (i : ℕ) (inv : Inv sys (record {
   first-reply e =
       let p = inv .polled in
       let last = more-wanted (t .timestamp .0) sent (omega arith) in
-      let some-poll : 0 < t .timestamp .0 = omega (arith, sent, ready .held) in
+      let some-poll : 0 < t .timestamp .0 = omega (arith, sent, may .holds) in
       let ended : t .polling ≡ false → m WORKERS i LISTS < t .lists .0 = λ x. omega (arith, p .wanted-ended x some-poll) in
       record {
         one-more = omega (arith, put i m .more);
-        no-work = ready .no-work;
-        no-send = ready .no-send;
+        no-work = empty-lists i m (may .empty) .no-work;
+        no-send = empty-lists i m (may .empty) .no-send;
         held-later = λ l. omega (arith, none-held i m);
         polls-later = λ n l b. omega (arith, more-wanted n (omega (arith, inv .rows i h .held-read)) b, inv .rows i h .held-read);
         ended-later = ended;
@@ -123,38 +115,27 @@ module _ (sys : System) (m : Mem) (t : Tally) (i : ℕ) (inv : Inv sys (record {
             ⊎-elim (λ x. omega (arith, p .wanted-open x .1)) (λ x. omega (arith, ended x)) (decided (t .polling));
       }
 
-  answered : Answered (answeredM i m) t i
+  outs : OutCounted (answeredM i m) t i
   unfolding answeredM
-  answered =
+  outs =
       ⊎-elim
       (λ l.
       elim (ℕ-discrete (m WORKERS i OUTEND) (m WORKERS i LISTS)) [
         | yes e ↦ inr (first-reply e)
         | no n ↦ inl (omega (arith, put i m .more))
       ])
-      (λ r. absurd (omega (arith, r .held-later (ready .held), ready .wanted)))
+      (λ r. absurd (omega (arith, r .held-later (omega (arith, may .holds)), may .wanted)))
       (inv .replied i h)
 
   answered-keeps : Inv sys (record { mem = answeredM i m; tally = t })
   answered-keeps =
-      worker-action sys (record { mem = m; tally = t }) (answeredM i m) i inv (only-row i m) row totals answered
+      worker-action sys (record { mem = m; tally = t }) (answeredM i m) i inv (only-row i m) row totals outs
 
 -- answering keeps the invariant
 pub answer-keeps : (sys : System) (m m′ : Mem) (t : Tally) (i : ℕ) → Inv sys (record { mem = m; tally = t })
     → i < sys .workers → answerM i m ≡ some m′ → Inv sys (record { mem = m′; tally = t })
-unfolding answerM emptyM
+unfolding answerM
 answer-keeps sys m m′ t i inv h e =
-    let e₁ = unless-some (eqb (m WORKERS i HELD) 0) e in
-    let e₂ = if-some (ltb (m WORKERS i HELD) 520) (e₁ .1) in
-    let e₃ = if-some (emptyM i m) (e₂ .1) in
-    let e₄ = if-some (eqb (m WORKERS i LISTS) (m WANTED 0 (m WORKERS i HELD))) (e₃ .1) in
-    let e₅ = if-some (ltb (m WORKERS i OUTEND) 520) (e₄ .1) in
-    some-same (λ x. Inv sys (record { mem = x; tally = t })) (e₅ .1)
-    (answered-keeps sys m t i inv h (record {
-      held = omega (arith, eqb-false (m WORKERS i HELD) 0 (e₁ .0));
-      low = omega (arith, ltb-true (m WORKERS i HELD) 520 (e₂ .0));
-      no-work = eqb-true (m WORKERS i HEAD) (m WORKERS i TAIL) (and-left _ _ (and-left _ _ (e₃ .0)));
-      no-send = eqb-true (m BOUNDS i (m WORKERS i SENDS)) (m WORKERS i LOGEND)
-          (and-right (eqb (m WORKERS i HEAD) (m WORKERS i TAIL) && ltb (m WORKERS i SENDS) 519) _ (e₃ .0));
-      wanted = eqb-true (m WORKERS i LISTS) (m WANTED 0 (m WORKERS i HELD)) (e₄ .0);
-    }))
+    let went = if-some (mayAnswer i m) e in
+    some-same (λ x. Inv sys (record { mem = x; tally = t })) (went .1)
+    (answered-keeps sys m t i inv h (may-answer i m (went .0)))

@@ -1,21 +1,22 @@
 -- Answer in memory is answer.
-use Prim.Native.Nat.{ℕ, suc, _<_}
-use mathlib.Core.Bool.{Bool, true, false, cond, _&&_}
+use Prim.Native.Nat.{ℕ, suc, _<_, _≤_}
+use mathlib.Core.Bool.{Bool, true, false, cond, _&&_, not}
 use mathlib.Core.List.{List, [], _∷_, _++_}
 use mathlib.Core.Option.{none, some}
 use mathlib.Core.Path.{_≡_, refl, sym, _∙_, ap, ap₂}
 use native.Mathlib.Omega.{arith}
-use borrow.Author.Tests.{lt-ltb}
+use borrow.Author.Tests.{lt-ltb, le-leb}
 use lib.Dec.{eqb}
+use Rattle.base.proofs.Bools.{and-left, and-right, and-intro, bool-ext}
 use Rattle.disac4.specs.Action.{isEmpty, afterAnswer, ready, answerTo, answer}
 use Rattle.disac4.specs.State.{Message, reply}
 use Rattle.disac4.specs.System.{System}
 use Rattle.disac4.specs.declared.Poll.{Poll}
 use Rattle.disac4.specs.declared.Tally.{Tally}
 use Rattle.cells.proofs.Queue.{labels-empty, queue-put}
-use Rattle.cells.specs.Layout.{WORKERS, BOUNDS, WORK, WANTED, HEAD, TAIL, LOGEND, SENDS, LISTS, HELD, OUTEND}
+use Rattle.cells.specs.Layout.{WORKERS, BOUNDS, WORK, WANTED, HEAD, TAIL, LOGEND, SENDS, LISTS, HELD, OUTEND, SENDROOM, OUTROOM, POLLROOM}
 use Rattle.cells.specs.Memory.{Mem}
-use Rattle.answers.specs.Answers.{answeredM, emptyM, answerM}
+use Rattle.answers.specs.Answers.{answeredM, emptyM, mayAnswer, answerM}
 use Rattle.controller.specs.Controller.{Machine}
 use Rattle.cells.specs.View.{messageOf, pollAt, view, listed, workOf, heldOf, outQueue, atActor, rowsOf}
 use Rattle.refinement.proofs.AnswerKeeps.{other-rows, none-held, put}
@@ -24,14 +25,8 @@ use Rattle.refinement.proofs.Capacity.{sends-few, outend-few, held-few,
 use Rattle.refinement.proofs.ChannelRows.{at-out, Stays, Beside, channels-update}
 use Rattle.refinement.proofs.ChannelsKept.{Grown, out-kept, channels-kept, held-row}
 use Rattle.refinement.specs.Inv.{Small, Inv}
-use Rattle.refinement.proofs.ViewParts.{mapO, mapO-cond, viewOf, view-parts, reply-code, same-state}
+use Rattle.refinement.proofs.ViewParts.{mapO, mapO-when, viewOf, view-parts, reply-code, same-state}
 use Rattle.refinement.proofs.SendRefines.{nothing-to-send}
-
--- the tests of both lists and of the count are one test
-nested : {A : Type 0} (a b c : Bool) (x y : A) → cond (a && true && b) (cond c x y) y ≡ cond (a && b && c) x y
-nested true true c x y = refl
-nested true false c x y = refl
-nested false b c x y = refl
 
 module _ (sys : System) (small : Small sys) (s : Machine) (inv : Inv sys s) (i : ℕ) (h : i < sys .workers) where
   abbrev m : Mem
@@ -46,7 +41,7 @@ module _ (sys : System) (small : Small sys) (s : Machine) (inv : Inv sys s) (i :
   held : Poll
   held = pollAt m (m WORKERS i HELD)
 
-  held-small : m WORKERS i HELD < 520
+  held-small : m WORKERS i HELD ≤ POLLROOM
   held-small = omega (arith, held-few sys small s inv i h, timestamp-few sys small s inv)
 
   answer-grown : Grown sys m t m′
@@ -118,23 +113,19 @@ module _ (sys : System) (small : Small sys) (s : Machine) (inv : Inv sys s) (i :
           ∙ labels-empty m WORK i (m WORKERS i HEAD) (m WORKERS i TAIL) (inv .rows i h .queue)
 
   -- there is room for every reply
-  answer-room : answerM i m ≡ cond (eqb (m WORKERS i HELD) 0) none (cond isReady (some m′) none)
-  unfolding answerM emptyM
+  answer-room : mayAnswer i m ≡ not (eqb (m WORKERS i HELD) 0) && isReady
+  unfolding mayAnswer emptyM
   answer-room =
-      rw (
-        lt-ltb (m WORKERS i HELD) 520 held-small,
-        lt-ltb (m WORKERS i SENDS) 519 (omega (arith, sends-few sys small s inv i h)),
-        lt-ltb (m WORKERS i OUTEND) 520 (omega (arith, outend-few sys small s inv i h)),
-      )
-      (ap (cond (eqb (m WORKERS i HELD) 0) none)
-      (nested (eqb (m WORKERS i HEAD) (m WORKERS i TAIL)) (eqb (m BOUNDS i (m WORKERS i SENDS)) (m WORKERS i LOGEND))
-      (eqb (m WORKERS i LISTS) (m WANTED 0 (m WORKERS i HELD))) (some m′) none))
+      let known = le-leb (m WORKERS i HELD) POLLROOM held-small in
+      let bound-room = lt-ltb (m WORKERS i SENDS) SENDROOM (omega (arith, sends-few sys small s inv i h)) in
+      let out-room = lt-ltb (m WORKERS i OUTEND) OUTROOM (omega (arith, outend-few sys small s inv i h)) in
+      bool-ext _ _ (λ e. search (and-left, and-right, and-intro)) (λ e. search (and-left, and-right, and-intro))
 
   -- answering in memory is answering
   pub answer-refines : mapO (λ m′. view sys m′ t) (answerM i m) ≡ answer (suc i) (viewOf sys s)
-  unfolding answer
+  unfolding answerM answer
   answer-refines =
-      ap (mapO (λ m′. view sys m′ t)) answer-room
+      ap (λ (b : Bool). mapO (λ m′. view sys m′ t) (cond b (some m′) none)) answer-room
       ∙ go (eqb (m WORKERS i HELD) 0)
       ∙ ap (answerTo (suc i) (viewOf sys s)) (sym holds)
     where
@@ -142,10 +133,7 @@ module _ (sys : System) (small : Small sys) (s : Machine) (inv : Inv sys s) (i :
       holds = unfold view held in at-worker sys (heldOf m) none i h
 
       go : (b : Bool)
-          → mapO (λ m′. view sys m′ t) (cond b none (cond isReady (some m′) none))
+          → mapO (λ m′. view sys m′ t) (cond (not b && isReady) (some m′) none)
           ≡ answerTo (suc i) (viewOf sys s) (cond b none (some held))
       go true = refl
-      go false =
-          mapO-cond (λ m′. view sys m′ t) isReady (some m′) none (some (afterAnswer (suc i) held (viewOf sys s))) none
-          (λ p. ap some answer-view) (λ p. refl)
-          ∙ ap (λ (b : Bool). cond b (some (afterAnswer (suc i) held (viewOf sys s))) none) (sym ready-row)
+      go false = mapO-when (λ m′. view sys m′ t) (sym ready-row) answer-view

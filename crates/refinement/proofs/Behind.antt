@@ -13,10 +13,11 @@ use Rattle.base.proofs.Choice.{cond-true}
 use Rattle.disac4.proofs.Outcome.{overwrite-front, overwrite-back}
 use Rattle.disac4.specs.Outcome.{overwrite, workNeed}
 use Rattle.cells.proofs.Regions.{past-table, place-low}
-use Rattle.cells.specs.Layout.{BEHIND, regionAt, address}
+use Rattle.cells.specs.Layout.{BEHIND, WORKCELLS, regionAt, address}
 use Rattle.cells.specs.Memory.{clearedM, memOf}
 
-need : workNeed ≡ 24576
+-- the needed cells are as many as the layout has
+need : workNeed ≡ WORKCELLS
 unfolding workNeed
 need = refl
 

@@ -1,12 +1,12 @@
 -- The controller's reading keeps the invariant: it counts a list message, and marks a reply to the open poll.
 use Prim.Native.Nat.{ℕ, _+_, _^_, _<_}
-use mathlib.Core.Bool.{Bool, true, false, cond, _&&_, false≢true}
+use mathlib.Core.Bool.{Bool, true, false, cond, false≢true}
 use mathlib.Core.Logic.{inl, inr, ⊎-elim}
 use mathlib.Core.Option.{some}
 use mathlib.Core.Path.{_≡_, refl, sym, ap}
 use native.Mathlib.Omega.{arith}
 use borrow.Author.Tests.{ltb-true}
-use lib.Dec.{leb, ltb, eqb}
+use lib.Dec.{leb, eqb}
 use Rattle.base.proofs.Bools.{decided, and-left}
 use Rattle.base.proofs.Choice.{if-some, some-same}
 use Rattle.base.proofs.Sums.{sum-change}
@@ -18,9 +18,9 @@ use Rattle.cells.specs.Layout.{WORKERS, OUT, OUTEND, OUTREAD}
 use Rattle.cells.specs.Memory.{Mem}
 use Rattle.controller.specs.Controller.{countedT, markedT, toldT, hasOut, outReadM, Machine, hearM}
 use Rattle.cells.specs.View.{LISTMARK}
-use Rattle.refinement.proofs.InvKept.{OnlyRow, only-store, only-same, Answered, Follows, row-action, replied-kept, follows-itself, lists-out-kept, lists-out-more}
+use Rattle.refinement.proofs.InvKept.{OnlyRow, only-store, only-same, Follows, row-action, replied-kept, follows-itself, lists-out-kept, lists-out-more}
 use Rattle.controller.proofs.Marks.{mark-small}
-use Rattle.refinement.specs.Inv.{Row, Polled, Totals, Inv, listsOut}
+use Rattle.refinement.specs.Inv.{Row, Polled, Totals, Inv, OutCounted, listsOut}
 
 -- ---- what a message makes of the tally
 
@@ -87,9 +87,9 @@ module _ (sys : System) (m : Mem) (t t′ : Tally) (i : ℕ) (inv : Inv sys (rec
                 (others i m k OUTREAD (λ p q. n p)) (λ e l. refl))),
           )
 
-  answered : Answered (outReadM i m) t′ i
+  outs : OutCounted (outReadM i m) t′ i
   unfolding outReadM
-  answered =
+  outs =
       ⊎-elim inl
       (λ r.
       inr
@@ -99,7 +99,7 @@ module _ (sys : System) (m : Mem) (t t′ : Tally) (i : ℕ) (inv : Inv sys (rec
   told-keeps : Inv sys (record { mem = outReadM i m; tally = t′ })
   told-keeps =
       row-action sys (record { mem = m; tally = t }) (record { mem = outReadM i m; tally = t′ }) i inv only-row next row
-      totals answered marks
+      totals outs marks
 
 -- whatever message is read
 message-keeps : (sys : System) (m : Mem) (t : Tally) (i : ℕ) → Inv sys (record { mem = m; tally = t }) → i < sys .workers
@@ -134,12 +134,6 @@ pub hear-keeps : (sys : System) (s s′ : Machine) (i : ℕ) → Inv sys s → i
     → Inv sys s′
 unfolding hearM hasOut
 hear-keeps sys s s′ i inv h e =
-    let e₁ = if-some (hasOut i (s .tally) (s .mem)) e in
-    some-same (Inv sys) (e₁ .1) (message-keeps sys (s .mem) (s .tally) i inv h (ltb-true read put (and-left (ltb read put) (ltb read 520)
-    (and-left (ltb read put && ltb read 520) (ltb (s .tally .lists .0) 65535) (e₁ .0)))))
-  where
-    read : ℕ
-    read = s .mem WORKERS i OUTREAD
-
-    put : ℕ
-    put = s .mem WORKERS i OUTEND
+    let went = if-some (hasOut i (s .tally) (s .mem)) e in
+    some-same (Inv sys) (went .1)
+    (message-keeps sys (s .mem) (s .tally) i inv h (ltb-true _ _ (and-left _ _ (and-left _ _ (went .0)))))

@@ -18,7 +18,7 @@ use Rattle.disac4.specs.State.{State, Controller, list, reply}
 use Rattle.disac4.specs.System.{System}
 use Rattle.disac4.specs.declared.Tally.{Tally}
 use Rattle.cells.proofs.Queue.{read-queue}
-use Rattle.cells.specs.Layout.{WORKERS, OUT, LISTS, OUTEND, OUTREAD}
+use Rattle.cells.specs.Layout.{WORKERS, OUT, LISTS, OUTEND, OUTREAD, OUTROOM, LISTSMAX}
 use Rattle.cells.specs.Memory.{Mem}
 use Rattle.controller.specs.Controller.{countedT, markedT, toldT, withMark, hasOut, outReadM, Machine, hearM}
 use Rattle.cells.specs.View.{LISTMARK, listAt, messageOf, viewLists, view, listed, outQueue, atActor, rowsOf}
@@ -90,15 +90,15 @@ module _ (sys : System) (small : Small sys) (s : Machine) (inv : Inv sys s) (i :
   unfolding view viewLists countedT afterCount
   counted-view =
       heard-view (countedT t) _ _ (record {
-        listCounter = λ k. one-more (eqb k 0) (atActor sys (λ j. m WORKERS j LISTS) 0 k);
+        listCounter = λ k. counter-after (eqb k 0) (atActor sys (λ j. m WORKERS j LISTS) 0 k);
         timestamp = refl;
         controller = refl;
       })
     where
-      one-more : (b : Bool) (n : ℕ)
+      counter-after : (b : Bool) (n : ℕ)
           → cond b (t .lists .0 + 1) n ≡ cond b (suc (t .lists .0)) (cond b (t .lists .0) n)
-      one-more true n = add-one (t .lists .0)
-      one-more false n = refl
+      counter-after true n = add-one (t .lists .0)
+      counter-after false n = refl
 
   -- a reply to another poll
   dropped-view : view sys m′ t ≡ afterDrop (suc i) 0 (listed (outQueue m′ i)) (view sys m t)
@@ -166,15 +166,9 @@ module _ (sys : System) (small : Small sys) (s : Machine) (inv : Inv sys s) (i :
   hear-room : hasOut i t m ≡ ltb (m WORKERS i OUTREAD) (m WORKERS i OUTEND)
   unfolding hasOut
   hear-room =
-      rw (
-        lt-ltb (m WORKERS i OUTREAD) 520
-            (omega (arith, inv .rows i h .out-read, outend-few sys small s inv i h)),
-        lt-ltb (t .lists .0) 65535 (omega (arith, heard-few sys small s inv)),
-      )
-      (and-true (some-out && true) refl ∙ and-true some-out refl)
-    where
-      some-out : Bool
-      some-out = ltb (m WORKERS i OUTREAD) (m WORKERS i OUTEND)
+      and-true _ (lt-ltb (t .lists .0) LISTSMAX (omega (arith, heard-few sys small s inv)))
+      ∙ and-true _
+      (lt-ltb (m WORKERS i OUTREAD) OUTROOM (omega (arith, inv .rows i h .out-read, outend-few sys small s inv i h)))
 
   abbrev heard : Machine
   heard = record { mem = m′; tally = toldT (sys .workers) i oldest t }

@@ -16,7 +16,7 @@ use Rattle.cells.specs.Layout.{WORKERS, CURSORS, BOUNDS, LOG, WORK, OUT, WANTED
 use Rattle.cells.specs.Memory.{Mem, store}
 use Rattle.controller.specs.Controller.{Machine}
 use Rattle.cells.specs.View.{LISTED, LISTMARK}
-use Rattle.refinement.specs.Inv.{LabelNumber, Row, Polled, Replied, Inv, Totals, listsOut}
+use Rattle.refinement.specs.Inv.{LabelNumber, Row, Polled, Replied, OutCounted, Inv, Totals, listsOut}
 use Rattle.index.specs.Index.{Paired}
 use Rattle.network.specs.Network.{domainSize}
 
@@ -233,10 +233,6 @@ module _ {m m′ : Mem} {i : ℕ} where
 pub only-same : (m : Mem) (i : ℕ) → OnlyRow m m i
 only-same m i = search
 
--- a row has put as many messages for the controller as its count says, or one more where it has replied
-abbrev pub Answered : Mem → Tally → ℕ → Type 0
-Answered m t i = (m WORKERS i OUTEND ≤ m WORKERS i LISTS) ⊎ Replied m t i
-
 -- a tally that may follow another one beside the same memory
 pub record Follows (m : Mem) (t t′ : Tally) : Type 0 where
   pub later : t .timestamp .0 ≤ t′ .timestamp .0
@@ -250,15 +246,15 @@ follows-itself m t p = record { later = omega arith; polled = p; replied = λ i 
 -- an action of one row keeps the invariant if it does so at its row and in the totals
 pub row-action : (sys : System) (s s′ : Machine) (i : ℕ) → Inv sys s → OnlyRow (s .mem) (s′ .mem) i
     → Follows (s .mem) (s .tally) (s′ .tally) → Row sys (s′ .mem) (s′ .tally) i → Totals sys (s′ .mem) (s′ .tally)
-    → Answered (s′ .mem) (s′ .tally) i → s′ .tally .marks < 2 ^ sys .workers → Inv sys s′
-row-action sys s s′ i inv only next row totals answered marks = record {
+    → OutCounted (s′ .mem) (s′ .tally) i → s′ .tally .marks < 2 ^ sys .workers → Inv sys s′
+row-action sys s s′ i inv only next row totals outs marks = record {
   rows =
       everywhere (λ k. k < sys .workers → Row sys (s′ .mem) (s′ .tally) k) i (λ h. row) (λ k n h.
       row-kept (s .mem) (s′ .mem) sys (s .tally) (s′ .tally) k (only .others k n) (next .later) (inv .rows k h));
   totals = totals;
   polled = polled-kept (s .mem) (s′ .mem) (s′ .tally) (only .wanted) (next .polled);
   replied =
-      everywhere (λ k. k < sys .workers → Answered (s′ .mem) (s′ .tally) k) i (λ h. answered) (λ k n h.
+      everywhere (λ k. k < sys .workers → OutCounted (s′ .mem) (s′ .tally) k) i (λ h. outs) (λ k n h.
       ⊎-elim
       (λ l.
       inl (omega (arith, only .others k n .workers OUTEND, only .others k n .workers LISTS)))
@@ -274,7 +270,7 @@ row-action sys s s′ i inv only next row totals answered marks = record {
 
 -- an action of a worker leaves the tally as it is
 pub worker-action : (sys : System) (s : Machine) (m : Mem) (i : ℕ) → Inv sys s → OnlyRow (s .mem) m i → Row sys m (s .tally) i
-    → Totals sys m (s .tally) → Answered m (s .tally) i → Inv sys (record { mem = m; tally = s .tally })
-worker-action sys s m i inv only row totals answered =
+    → Totals sys m (s .tally) → OutCounted m (s .tally) i → Inv sys (record { mem = m; tally = s .tally })
+worker-action sys s m i inv only row totals outs =
     row-action sys s (record { mem = m; tally = s .tally }) i inv only (follows-itself (s .mem) (s .tally) (inv .polled)) row
-    totals answered (inv .marks)
+    totals outs (inv .marks)

@@ -6,8 +6,7 @@ use mathlib.Core.Option.{some}
 use mathlib.Core.Path.{_≡_, sym, _∙_, ap, subst}
 use native.Mathlib.Decide.{ℕ-discrete}
 use native.Mathlib.Omega.{arith}
-use borrow.Author.Tests.{ltb-true}
-use lib.Dec.{leb, ltb, eqb}
+use lib.Dec.{eqb}
 use Rattle.base.proofs.Choice.{everywhere, if-some, some-same}
 use Rattle.base.proofs.Sums.{sum-ext, sum-change}
 use Rattle.base.specs.Below.{sumBelow}
@@ -19,12 +18,13 @@ use Rattle.cells.specs.Layout.{WORKERS, CURSORS, BOUNDS, LOG, WORK, OUT, WANTED
 use Rattle.cells.specs.Lists.{copyM}
 use Rattle.cells.specs.Memory.{Mem, store}
 use Rattle.cells.specs.View.{LISTED, labelsBetween, listAt}
-use Rattle.reads.specs.Reads.{listStart, listEnd, takenM, readListM}
+use Rattle.reads.proofs.ReadLaws.{has-list}
+use Rattle.reads.specs.Reads.{listStart, listEnd, takenM, hasList, readListM}
 use Rattle.controller.specs.Controller.{Machine}
 use Rattle.refinement.proofs.Capacity.{list-room, bound-logged}
-use Rattle.refinement.proofs.InvKept.{OnlyRow, Answered, row-grown, lists-out-kept, logged-kept, heard-kept, worker-action}
+use Rattle.refinement.proofs.InvKept.{OnlyRow, row-grown, lists-out-kept, logged-kept, heard-kept, worker-action}
 use Rattle.refinement.proofs.LongerLists.{Longer, longer-copy}
-use Rattle.refinement.specs.Inv.{Row, Totals, Inv, Small}
+use Rattle.refinement.specs.Inv.{Row, Totals, Inv, OutCounted, Small}
 
 -- how many labels the next list message of row `j` for row `i` has
 abbrev listLength : ℕ → ℕ → Mem → ℕ
@@ -231,8 +231,8 @@ module _ (sys : System) (m : Mem) (t : Tally) (j i : ℕ) (inv : Inv sys (record
       }
 
   -- a reader has not replied at its new count
-  answered : Answered (takenM j i m) t i
-  answered =
+  outs : OutCounted (takenM j i m) t i
+  outs =
       ⊎-elim (λ l. inl (omega (arith, put, more-lists j i m)))
       (λ r. inl (omega (arith, put, more-lists j i m, r .one-more))) (inv .replied i hi)
     where
@@ -241,7 +241,7 @@ module _ (sys : System) (m : Mem) (t : Tally) (j i : ℕ) (inv : Inv sys (record
 
   taken-keeps : Inv sys (record { mem = takenM j i m; tally = t })
   taken-keeps =
-      worker-action sys (record { mem = m; tally = t }) (takenM j i m) i inv (only-row j i m) row totals answered
+      worker-action sys (record { mem = m; tally = t }) (takenM j i m) i inv (only-row j i m) row totals outs
 
 -- reading a list message keeps the invariant
 pub read-list-keeps : (sys : System) → Small sys → (m m′ : Mem) (t : Tally) (j i : ℕ)
@@ -249,11 +249,8 @@ pub read-list-keeps : (sys : System) → Small sys → (m m′ : Mem) (t : Tally
     → readListM j i m ≡ some m′ → Inv sys (record { mem = m′; tally = t })
 unfolding readListM
 read-list-keeps sys small m m′ t j i inv hj hi apart e =
-    let e₁ = if-some (ltb (m CURSORS j i) (m WORKERS j SENDS)) e in
-    let e₂ = if-some (ltb (m CURSORS j i) 519) (e₁ .1) in
-    let e₃ = if-some (leb (listEnd j i m) 512) (e₂ .1) in
-    let e₄ = if-some (ltb (m WORKERS i LISTS) 65535) (e₃ .1) in
-    let unread : m CURSORS j i < m WORKERS j SENDS = ltb-true (m CURSORS j i) (m WORKERS j SENDS) (e₁ .0) in
+    let went = if-some (hasList j i m) e in
+    let unread = has-list j i m (went .0) .unread in
     let s : Machine = record { mem = m; tally = t } in
-    some-same (λ x. Inv sys (record { mem = x; tally = t })) (e₄ .1)
+    some-same (λ x. Inv sys (record { mem = x; tally = t })) (went .1)
     (taken-keeps sys m t j i inv hj hi apart unread (taken-list sys small s inv j i hj hi apart unread))

@@ -1,13 +1,11 @@
 -- Reading a list message in memory is reading from a worker.
-use Prim.Native.Nat.{ℕ, suc, _+_, _<_, _≤_}
+use Prim.Native.Nat.{ℕ, suc, _+_, _<_}
 use mathlib.Core.Bool.{cond, _&&_}
 use mathlib.Core.List.{List, [], _++_}
 use mathlib.Core.Option.{none, some}
 use mathlib.Core.Path.{_≡_, refl, sym, _∙_, ap}
 use native.Mathlib.Omega.{arith}
-use borrow.Author.Tests.{lt-ltb, le-ltb, le-leb}
 use lib.Dec.{eqb}
-use Rattle.base.proofs.Choice.{cond-false}
 use Rattle.disac4.specs.Action.{afterList, readFrom, readWorker}
 use Rattle.disac4.specs.System.{System}
 use Rattle.disac4.specs.declared.Tally.{Tally}
@@ -15,7 +13,8 @@ use Rattle.network.specs.Network.{Label, loaded}
 use Rattle.cells.proofs.Queue.{labels-same, read-queue}
 use Rattle.cells.specs.Layout.{WORKERS, CURSORS, BOUNDS, LOG, WORK, OUT, WANTED, DOMAIN, COUNTERS, HEADS, HEAD, TAIL, LOGEND, SENDS, LISTS, HELD, POLLS, OUTEND, OUTREAD}
 use Rattle.cells.specs.Memory.{Mem}
-use Rattle.reads.specs.Reads.{listEnd, takenM, readListM}
+use Rattle.reads.proofs.ReadLaws.{HasList, list-goes, list-idle}
+use Rattle.reads.specs.Reads.{takenM, readListM}
 use Rattle.controller.specs.Controller.{Machine}
 use Rattle.cells.specs.View.{LISTED, labelsBetween, listAt, counterRow, viewCounter, viewLists, view, listed, workOf, sendOf, heldOf, listMessagesQueue, rowsOf}
 use Rattle.index.proofs.Kept.{row-heads}
@@ -99,20 +98,17 @@ module _ (sys : System) (small : Small sys) (s : Machine) (inv : Inv sys s) (j i
     })
 
     -- there is room for every label of the list message
-    read-room : readListM j i m ≡ some m′
-    unfolding readListM
-    read-room =
-        rw (
-          lt-ltb (m CURSORS j i) (m WORKERS j SENDS) l,
-          lt-ltb (m CURSORS j i) 519 (omega (arith, sends-few sys small s inv j hj)),
-          le-leb (listEnd j i m) 512
-              (omega (
-                arith,
-                bound-logged sys small s inv j hj (m CURSORS j i + 1) (omega arith),
-                logend-small sys small s inv j hj,
-              )),
-          lt-ltb (m WORKERS i LISTS) 65535 (omega (arith, lists-few sys small s inv i hi)),
-        )
+    read-room : HasList j i m
+    read-room = record {
+      unread = l;
+      bound-room = omega (arith, sends-few sys small s inv j hj);
+      label-room = omega (
+        arith,
+        bound-logged sys small s inv j hj (m CURSORS j i + 1) (omega arith),
+        logend-small sys small s inv j hj,
+      );
+      count-room = omega (arith, lists-few sys small s inv i hi);
+    }
 
   -- reading a list message in memory is reading from a worker
   pub list-refines : mapO (λ m′. view sys m′ t) (readListM j i m) ≡ readWorker (suc j) (suc i) (viewOf sys s)
@@ -120,9 +116,6 @@ module _ (sys : System) (small : Small sys) (s : Machine) (inv : Inv sys s) (j i
   list-refines =
       read-queue (readFrom (suc j) (suc i) (viewOf sys s)) (listMessagesQueue m j i) (listMessagesQueue m′ j i) _
       (list-messages-kept sys small s inv m′ taken-grown j i hj) (new-cursor j i m) (steady j SENDS (omega arith))
-      (λ l. ap (mapO (λ m′. view sys m′ t)) (read-room l) ∙ ap some (taken-view l))
-      (λ l. ap (mapO (λ m′. view sys m′ t)) (idle l))
+      (λ l. ap (mapO (λ m′. view sys m′ t)) (list-goes j i m (read-room l)) ∙ ap some (taken-view l))
+      (λ l. ap (mapO (λ m′. view sys m′ t)) (list-idle j i m (λ has. omega (arith, has .unread))))
       ∙ ap (readFrom (suc j) (suc i) (viewOf sys s)) (sym (at-list-messages sys (rowsOf m t) j i hj hi apart))
-    where
-      idle : m WORKERS j SENDS ≤ m CURSORS j i → readListM j i m ≡ none
-      idle l = unfold readListM in cond-false _ none (le-ltb (m CURSORS j i) (m WORKERS j SENDS) l)

@@ -1,12 +1,11 @@
 -- Polling keeps the invariant: each poll wants more lists than the one before.
 use Prim.Native.Nat.{ℕ, _+_, _<_, _≤_}
-use mathlib.Core.Bool.{false, not, false≢true}
+use mathlib.Core.Bool.{false, false≢true}
 use mathlib.Core.Logic.{inl, inr, ⊎-elim}
 use mathlib.Core.Option.{some}
 use mathlib.Core.Path.{_≡_, refl, sym}
 use native.Mathlib.Omega.{arith}
 use borrow.Author.Tests.{not-true}
-use lib.Dec.{ltb}
 use lib.Pow.{pow-pos}
 use Rattle.base.proofs.Below.{up-to}
 use Rattle.base.proofs.Bools.{and-left}
@@ -80,7 +79,5 @@ module _ (sys : System) (m : Mem) (t : Tally) (inv : Inv sys (record { mem = m; 
 pub poll-keeps : (sys : System) (s s′ : Machine) → Inv sys s → pollM s ≡ some s′ → Inv sys s′
 unfolding pollM asksT
 poll-keeps sys s s′ inv e =
-    let e₁ = if-some (asksT (s .tally)) e in
-    some-same (Inv sys) (e₁ .1)
-    (asked-keeps sys (s .mem) (s .tally) inv
-    (not-true (s .tally .polling) (and-left (not (s .tally .polling)) (ltb (s .tally .timestamp .0) 519) (e₁ .0))))
+    let went = if-some (asksT (s .tally)) e in
+    some-same (Inv sys) (went .1) (asked-keeps sys (s .mem) (s .tally) inv (not-true _ (and-left _ _ (went .0))))

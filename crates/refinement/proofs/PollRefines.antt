@@ -1,19 +1,20 @@
 -- Poll in memory is poll.
 use Prim.Native.Nat.{ℕ, zero, suc, _+_, _<_, _≤_}
-use mathlib.Core.Bool.{Bool, true, false, cond, _&&_, not}
+use mathlib.Core.Bool.{true, not}
 use mathlib.Core.List.{List, [], _∷_, _++_}
-use mathlib.Core.Option.{none, some}
-use mathlib.Core.Path.{_≡_, refl, sym, _∙_, ap, ap₂}
+use mathlib.Core.Option.{none}
+use mathlib.Core.Path.{_≡_, refl, sym, _∙_, ap₂}
 use native.Mathlib.Numerals.{add-one}
 use native.Mathlib.Omega.{arith}
 use borrow.Author.Tests.{lt-ltb}
+use Rattle.base.proofs.Bools.{and-true}
 use Rattle.disac4.specs.Action.{nextPoll, afterAsk, ask}
 use Rattle.disac4.specs.State.{Message, poll}
 use Rattle.disac4.specs.System.{System}
 use Rattle.disac4.specs.declared.Poll.{Poll}
 use Rattle.disac4.specs.declared.Tally.{Tally}
 use Rattle.cells.proofs.Queue.{queue-put}
-use Rattle.cells.specs.Layout.{WORKERS, HELD}
+use Rattle.cells.specs.Layout.{WORKERS, HELD, POLLROOM}
 use Rattle.cells.specs.Memory.{Mem}
 use Rattle.controller.specs.Controller.{askM, askedT, asksT, Machine, pollM}
 use Rattle.cells.specs.View.{pollAt, viewLists, view, heldOf, pollsQueue, rowsOf, atChannel}
@@ -22,7 +23,7 @@ use Rattle.refinement.proofs.ChannelRows.{at-polls, Stays, channels-bro
 use Rattle.refinement.proofs.ChannelsKept.{Grown, polls-kept, channels-kept, held-row}
 use Rattle.refinement.specs.Inv.{Small, Inv}
 use Rattle.refinement.proofs.PollKeeps.{new-wanted, old-wanted}
-use Rattle.refinement.proofs.ViewParts.{mapO, viewOf, view-parts, same-state, mapO-cond}
+use Rattle.refinement.proofs.ViewParts.{mapO, viewOf, view-parts, same-state, mapO-unless}
 use Rattle.refinement.proofs.Actors.{no-marks, actors-same}
 
 module _ (sys : System) (small : Small sys) (s : Machine) (inv : Inv sys s) where
@@ -37,9 +38,6 @@ module _ (sys : System) (small : Small sys) (s : Machine) (inv : Inv sys s) wher
 
   abbrev t′ : Tally
   t′ = askedT t
-
-  abbrev after : Machine
-  after = record { mem = m′; tally = t′ }
 
   asked-grown : Grown sys m t m′
   unfolding askM
@@ -94,21 +92,11 @@ module _ (sys : System) (small : Small sys) (s : Machine) (inv : Inv sys s) wher
       })
 
   -- a poll finds room
-  ask-room : pollM s ≡ cond (t .polling) none (some after)
-  unfolding pollM asksT
-  ask-room =
-      rw (lt-ltb (t .timestamp .0) 519 (omega (arith, timestamp-few sys small s inv))) (go (t .polling))
-    where
-      go : (b : Bool)
-          → cond (not b && true) (some after) none
-          ≡ cond b none (some after)
-      go true = refl
-      go false = refl
+  ask-room : asksT t ≡ not (t .polling)
+  unfolding asksT
+  ask-room = and-true _ (lt-ltb (t .timestamp .0) POLLROOM (omega (arith, timestamp-few sys small s inv)))
 
   -- polling in memory is polling
   pub ask-refines : mapO (viewOf sys) (pollM s) ≡ ask sys (viewOf sys s)
-  unfolding view ask
-  ask-refines =
-      ap (mapO (viewOf sys)) ask-room
-      ∙ mapO-cond (viewOf sys) (t .polling) none (some after) none (some (afterAsk sys (viewOf sys s))) (λ p. refl)
-      (λ p. ap some asked-view)
+  unfolding pollM view ask
+  ask-refines = mapO-unless (viewOf sys) (t .polling) ask-room asked-view

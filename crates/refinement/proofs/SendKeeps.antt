@@ -4,11 +4,10 @@ use mathlib.Core.Logic.{inl, ⊎-elim}
 use mathlib.Core.Option.{some}
 use mathlib.Core.Path.{_≡_, sym, _∙_, ap}
 use native.Mathlib.Omega.{arith}
-use borrow.Author.Tests.{eqb-false, le-leb, ne-eqb}
-use lib.Dec.{ltb, eqb}
+use borrow.Author.Tests.{le-leb, ne-eqb}
 use Rattle.base.proofs.Below.{up-to}
 use Rattle.base.proofs.Bools.{and-never}
-use Rattle.base.proofs.Choice.{everywhere, if-some, unless-some, some-same}
+use Rattle.base.proofs.Choice.{everywhere, if-some, some-same}
 use Rattle.base.proofs.Sums.{sum-ext}
 use Rattle.base.specs.Below.{sumBelow, one}
 use Rattle.disac4.specs.System.{System}
@@ -16,10 +15,11 @@ use Rattle.disac4.specs.declared.Tally.{Tally}
 use Rattle.cells.proofs.Stores.{store-same, store-other}
 use Rattle.cells.specs.Layout.{WORKERS, CURSORS, BOUNDS, OUT, LOGEND, SENDS, LISTS, OUTEND}
 use Rattle.cells.specs.Memory.{Mem}
-use Rattle.sends.specs.Sends.{sendM, sentM}
+use Rattle.sends.proofs.SendLaws.{may-send}
+use Rattle.sends.specs.Sends.{sentM, maySend, sendM}
 use Rattle.cells.specs.View.{LISTMARK}
-use Rattle.refinement.proofs.InvKept.{OnlyRow, only-store, only-same, Answered, worker-action}
-use Rattle.refinement.specs.Inv.{Row, Totals, Inv}
+use Rattle.refinement.proofs.InvKept.{OnlyRow, only-store, only-same, worker-action}
+use Rattle.refinement.specs.Inv.{Row, Totals, Inv, OutCounted}
 use Rattle.refinement.proofs.Outgoing.{Put, put-out, put-lists, put-counted, put-heard}
 
 -- ---- what the stores changed
@@ -126,23 +126,20 @@ module _ (sys : System) (m : Mem) (t : Tally) (i : ℕ) (inv : Inv sys (record {
       }
 
   -- a worker that has labels to send has not replied at its present count
-  answered : Answered (sentM i m) t i
-  answered =
+  outs : OutCounted (sentM i m) t i
+  outs =
       ⊎-elim (λ l. inl (omega (arith, put i m .more, more-lists i m))) (λ r. absurd (unsent (r .no-send)))
       (inv .replied i h)
 
   sent-keeps : Inv sys (record { mem = sentM i m; tally = t })
   sent-keeps =
-      worker-action sys (record { mem = m; tally = t }) (sentM i m) i inv (only-row i m) row totals answered
+      worker-action sys (record { mem = m; tally = t }) (sentM i m) i inv (only-row i m) row totals outs
 
 -- sending keeps the invariant
 pub send-keeps : (sys : System) (m m′ : Mem) (t : Tally) (i : ℕ) → Inv sys (record { mem = m; tally = t })
     → i < sys .workers → sendM i m ≡ some m′ → Inv sys (record { mem = m′; tally = t })
 unfolding sendM
 send-keeps sys m m′ t i inv h e =
-    let e₁ = if-some (ltb (m WORKERS i SENDS) 519) e in
-    let e₂ = unless-some (eqb (m BOUNDS i (m WORKERS i SENDS)) (m WORKERS i LOGEND)) (e₁ .1) in
-    let e₃ = if-some (ltb (m WORKERS i OUTEND) 520) (e₂ .1) in
-    let e₄ = if-some (ltb (m WORKERS i LISTS) 65535) (e₃ .1) in
-    some-same (λ x. Inv sys (record { mem = x; tally = t })) (e₄ .1)
-    (sent-keeps sys m t i inv h (eqb-false (m BOUNDS i (m WORKERS i SENDS)) (m WORKERS i LOGEND) (e₂ .0)))
+    let went = if-some (maySend i m) e in
+    some-same (λ x. Inv sys (record { mem = x; tally = t })) (went .1)
+    (sent-keeps sys m t i inv h (may-send i m (went .0) .unsent))

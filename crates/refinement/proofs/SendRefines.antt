@@ -1,22 +1,22 @@
 -- Send in memory is send.
 use Prim.Native.Nat.{ℕ, zero, suc, _<_, _≤_}
-use mathlib.Core.Bool.{Bool, cond}
+use mathlib.Core.Bool.{not}
 use mathlib.Core.List.{List, [], _∷_, _++_}
-use mathlib.Core.Option.{none, some}
 use mathlib.Core.Path.{_≡_, refl, sym, _∙_, ap, ap₂}
 use native.Mathlib.Nat.{le-refl}
 use native.Mathlib.Omega.{arith}
 use borrow.Author.Tests.{lt-ltb}
 use lib.Dec.{eqb}
+use Rattle.base.proofs.Bools.{and-true}
 use Rattle.disac4.specs.Action.{isEmpty, afterSend, send}
 use Rattle.disac4.specs.State.{Message, list}
 use Rattle.network.specs.Network.{Label}
 use Rattle.disac4.specs.System.{System}
 use Rattle.disac4.specs.declared.Tally.{Tally}
 use Rattle.cells.proofs.Queue.{labels-same, labels-none, labels-empty, queue-put}
-use Rattle.cells.specs.Layout.{WORKERS, BOUNDS, LOG, OUT, LOGEND, SENDS, LISTS, OUTEND}
+use Rattle.cells.specs.Layout.{WORKERS, BOUNDS, LOG, OUT, LOGEND, SENDS, LISTS, OUTEND, SENDROOM, OUTROOM, LISTSMAX}
 use Rattle.cells.specs.Memory.{Mem}
-use Rattle.sends.specs.Sends.{sentM, sendM}
+use Rattle.sends.specs.Sends.{sentM, maySend, sendM}
 use Rattle.controller.specs.Controller.{Machine}
 use Rattle.cells.specs.View.{listAt, messageOf, view, sendOf, listMessagesQueue, outQueue, atActor, rowsOf, atChannel}
 use Rattle.refinement.proofs.Actors.{at-worker, actors-update, counters-more}
@@ -25,7 +25,7 @@ use Rattle.refinement.proofs.ChannelRows.{at-list-messages, at-out, Sta
 use Rattle.refinement.proofs.ChannelsKept.{Grown, send-kept, list-messages-kept, out-kept, channels-kept}
 use Rattle.refinement.specs.Inv.{Small, Inv}
 use Rattle.refinement.proofs.SendKeeps.{other-rows, old-bound, new-bound, more-sends, more-lists, put}
-use Rattle.refinement.proofs.ViewParts.{mapO, viewOf, view-parts, list-code, same-state, mapO-cond}
+use Rattle.refinement.proofs.ViewParts.{mapO, viewOf, view-parts, list-code, same-state, mapO-unless}
 
 module _ (sys : System) (small : Small sys) (s : Machine) (inv : Inv sys s) (i : ℕ) (h : i < sys .workers) where
   abbrev m : Mem
@@ -104,27 +104,22 @@ module _ (sys : System) (small : Small sys) (s : Machine) (inv : Inv sys s) (i :
           labels-none (sentM i m) LOG i (sentM i m BOUNDS i (sentM i m WORKERS i SENDS)) (m WORKERS i LOGEND)
           (omega (arith, ap (sentM i m BOUNDS i) (more-sends i m), new-bound i m))
 
-  -- there is room for every list message
-  send-room : sendM i m ≡ cond (eqb (m BOUNDS i (m WORKERS i SENDS)) (m WORKERS i LOGEND)) none (some (sentM i m))
-  unfolding sendM
-  send-room =
-      rw (
-        lt-ltb (m WORKERS i SENDS) 519 (omega (arith, sends-few sys small s inv i h)),
-        lt-ltb (m WORKERS i OUTEND) 520 (omega (arith, outend-few sys small s inv i h)),
-        lt-ltb (m WORKERS i LISTS) 65535 (omega (arith, lists-few sys small s inv i h)),
-      )
-
   -- nothing is to be sent exactly if the last list message ends where the log does
   pub nothing-to-send : isEmpty unsent ≡ eqb (m BOUNDS i (m WORKERS i SENDS)) (m WORKERS i LOGEND)
   nothing-to-send =
       ap isEmpty (at-worker sys (sendOf m) [] i h)
       ∙ labels-empty m LOG i (m BOUNDS i (m WORKERS i SENDS)) (m WORKERS i LOGEND) (inv .rows i h .last-bound)
 
+  -- there is room for every list message
+  send-room : maySend i m ≡ not (isEmpty unsent)
+  unfolding maySend
+  send-room =
+      and-true _ (lt-ltb (m WORKERS i LISTS) LISTSMAX (omega (arith, lists-few sys small s inv i h)))
+      ∙ and-true _ (lt-ltb (m WORKERS i OUTEND) OUTROOM (omega (arith, outend-few sys small s inv i h)))
+      ∙ and-true _ (lt-ltb (m WORKERS i SENDS) SENDROOM (omega (arith, sends-few sys small s inv i h)))
+      ∙ ap not (sym nothing-to-send)
+
   -- sending in memory is sending
   pub send-refines : mapO (λ m′. view sys m′ t) (sendM i m) ≡ send sys (suc i) (viewOf sys s)
-  unfolding view send
-  send-refines =
-      ap (mapO (λ m′. view sys m′ t)) send-room
-      ∙ mapO-cond (λ m′. view sys m′ t) (eqb (m BOUNDS i (m WORKERS i SENDS)) (m WORKERS i LOGEND)) none (some (sentM i m))
-      none (some (afterSend sys (suc i) (viewOf sys s))) (λ p. refl) (λ p. ap some sent-view)
-      ∙ ap (λ (b : Bool). cond b none (some (afterSend sys (suc i) (viewOf sys s)))) (sym nothing-to-send)
+  unfolding sendM view send
+  send-refines = mapO-unless (λ m′. view sys m′ t) (isEmpty unsent) send-room sent-view

@@ -13,16 +13,16 @@ use Rattle.disac4.specs.System.{System}
 use Rattle.disac4.specs.Turn.{Turn, pollNumber, allowed}
 use Rattle.disac4.specs.declared.Tally.{Tally}
 use Rattle.cells.proofs.Stores.{store-apart, copy-other}
-use Rattle.cells.specs.Layout.{WORKERS, CURSORS, BOUNDS, WORK, OUT, WANTED, HEADS, HEAD, TAIL, POLLS}
+use Rattle.cells.specs.Layout.{WORKERS, CURSORS, BOUNDS, WORK, OUT, WANTED, HEADS, HEAD, POLLS}
 use Rattle.cells.specs.Memory.{Mem, store}
-use Rattle.sends.specs.Sends.{sentM, sendM}
-use Rattle.reads.specs.Reads.{listEnd, listStart, takenM, readListM, readPollM}
-use Rattle.answers.specs.Answers.{answeredM, answerM}
+use Rattle.sends.specs.Sends.{sentM, maySend, sendM}
+use Rattle.reads.specs.Reads.{listEnd, listStart, takenM, hasList, readListM, readPollM}
+use Rattle.answers.specs.Answers.{answeredM, mayAnswer, answerM}
 use Rattle.controller.specs.Controller.{askM, asksT, hasOut, outReadM, Machine, hearM, pollM}
 use Rattle.refinement.specs.Run.{playM}
 use Rattle.refinement.specs.Step.{withMem, readM, workerM, stepM, afterM}
 use Rattle.treating.proofs.Kept.{touch-variables-kept}
-use Rattle.treating.specs.Treat.{treatM}
+use Rattle.treating.specs.Treat.{hasWork, treatM}
 
 -- a point of the index or behind
 module _ (r a b : ℕ) (h : HEADS ≤ r) where
@@ -51,17 +51,17 @@ module _ (r a b : ℕ) (h : HEADS ≤ r) where
   send-kept : (i : ℕ) (m : Mem) → KeptM m (sendM i m)
   unfolding sendM sentM
   send-kept i m =
-      let stays : sentM i m r a b ≡ m r a b =
-      rw (far WORKERS (omega arith), far OUT (omega arith), far BOUNDS (omega arith)) in
-      search (kept-if, idle, agrees)
+      kept-if (maySend i m)
+      (agrees (rw (far WORKERS (omega arith), far OUT (omega arith), far BOUNDS (omega arith)))) idle
 
   list-kept : (j i : ℕ) (m : Mem) → KeptM m (readListM j i m)
   unfolding readListM takenM
   list-kept j i m =
-      let stays : takenM j i m r a b ≡ m r a b =
-      rw (far WORKERS (omega arith), far CURSORS (omega arith))
-      (copy-other j i (listStart j i m) (listEnd j i m - listStart j i m) m r a b (omega arith)) in
-      search (kept-if, idle, agrees)
+      kept-if (hasList j i m)
+      (agrees
+      (rw (far WORKERS (omega arith), far CURSORS (omega arith))
+      (copy-other j i (listStart j i m) (listEnd j i m - listStart j i m) m r a b (omega arith))))
+      idle
 
   poll-kept : (i n : ℕ) (m : Mem) → KeptM m (readPollM i n m)
   unfolding readPollM
@@ -69,20 +69,16 @@ module _ (r a b : ℕ) (h : HEADS ≤ r) where
 
   answer-kept : (i : ℕ) (m : Mem) → KeptM m (answerM i m)
   unfolding answerM answeredM
-  answer-kept i m =
-      let stays : answeredM i m r a b ≡ m r a b = rw (far WORKERS (omega arith), far OUT (omega arith)) in
-      search (kept-if, idle, agrees) depth 6
+  answer-kept i m = kept-if (mayAnswer i m) (agrees (rw (far WORKERS (omega arith), far OUT (omega arith)))) idle
 
   treat-kept : (sys : System) (i : ℕ) (m : Mem) → KeptM m (treatM sys i m)
   unfolding treatM
   treat-kept sys i m =
-      kept-if (ltb (m WORKERS i HEAD) (m WORKERS i TAIL))
-      (kept-if (ltb (m WORKERS i HEAD) 512)
+      kept-if (hasWork i m)
       (agrees
       (touch-variables-kept sys i (m WORK i (m WORKERS i HEAD) / 16) (m WORK i (m WORKERS i HEAD) % 16) (sys .net .variables)
       (store m WORKERS i HEAD (m WORKERS i HEAD + 1)) .static r a b h
       ∙ store-apart m WORKERS i HEAD (m WORKERS i HEAD + 1) r a b (λ e. omega arith)))
-      idle)
       idle
 
   worker-kept : (sys : System) (i d : ℕ) (s : Machine) → KeptM (s .mem) (workerM sys i d s)

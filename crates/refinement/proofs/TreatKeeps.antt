@@ -3,14 +3,13 @@ use Prim.Native.Nat.{ℕ, suc, _+_, _<_}
 use mathlib.Core.Bool.{not}
 use mathlib.Core.List.{List, []}
 use mathlib.Core.Logic.{inl, ⊎-elim}
-use mathlib.Core.Option.{some, Option·some-injective, Option·none-ne-some}
-use mathlib.Core.Path.{_≡_, refl, sym, _∙_, ap, subst, fun-ext}
-use native.Mathlib.Decide.{decLt}
+use mathlib.Core.Option.{some}
+use mathlib.Core.Path.{_≡_, refl, sym, _∙_, ap, fun-ext}
 use native.Mathlib.Omega.{arith}
 use lib.Dec.{eqb}
 use lib.ListN.{length}
 use Rattle.base.proofs.Bools.{and-left}
-use Rattle.base.proofs.Choice.{everywhere}
+use Rattle.base.proofs.Choice.{everywhere, if-some, some-same}
 use Rattle.base.proofs.Sums.{sum-change}
 use Rattle.disac4.proofs.DomainSize.{treat-size}
 use Rattle.disac4.specs.Action.{deletes, deletions}
@@ -21,13 +20,13 @@ use Rattle.network.specs.Network.{Label, domainSize}
 use Rattle.cells.specs.Layout.{WORKERS, LOG, WORK, DOMAIN, HEAD, TAIL, LOGEND, SENDS, LISTS, OUTEND, OUTREAD}
 use Rattle.cells.specs.Memory.{Mem, store}
 use Rattle.controller.specs.Controller.{Machine}
-use Rattle.treating.proofs.TreatLaws.{no-work}
-use Rattle.treating.specs.Treat.{treatM}
+use Rattle.treating.proofs.TreatLaws.{has-work}
+use Rattle.treating.specs.Treat.{hasWork, treatM}
 use Rattle.cells.specs.View.{LISTED, labelOf, view}
-use Rattle.refinement.proofs.InvKept.{OnlyRow, Answered, worker-action, totals-kept}
+use Rattle.refinement.proofs.InvKept.{OnlyRow, worker-action, totals-kept}
 use Rattle.refinement.proofs.LongerLists.{Both, both-none, both-more}
-use Rattle.refinement.specs.Inv.{Small, Inv, Row, Totals}
-use Rattle.refinement.proofs.TreatRefines.{treatedM, treated-apart, treated-both, treated-unmoved, head-after, other-row, domain-after, heads-after, treat-busy}
+use Rattle.refinement.specs.Inv.{Small, Inv, OutCounted, Row, Totals}
+use Rattle.refinement.proofs.TreatRefines.{treatedM, treated-apart, treated-both, treated-unmoved, head-after, other-row, domain-after, heads-after}
 use Rattle.refinement.proofs.Unmoved.{Unmoved, row-longer}
 
 module _ (sys : System) (small : Small sys) (s : Machine) (inv : Inv sys s) (i : ℕ) (h : i < sys .workers)
@@ -116,22 +115,19 @@ module _ (sys : System) (small : Small sys) (s : Machine) (inv : Inv sys s) (i :
       refl (inv .totals)
 
   -- a row with work has not replied at its present count
-  answered : Answered n t i
-  answered =
+  outs : OutCounted n t i
+  outs =
       ⊎-elim (λ p. inl (omega (arith, u .column i OUTEND (omega arith), u .column i LISTS (omega arith))))
       (λ p. absurd (omega (arith, p .no-work))) (inv .replied i h)
 
   inv-after : Inv sys (record { mem = n; tally = t })
-  inv-after = worker-action sys s n i inv only-row row totals answered
+  inv-after = worker-action sys s n i inv only-row row totals outs
 
 -- treating keeps the invariant
 pub treat-keeps : (sys : System) → Small sys → (s : Machine) → Inv sys s → (i : ℕ) → i < sys .workers → (m′ : Mem)
     → treatM sys i (s .mem) ≡ some m′ → Inv sys (record { mem = m′; tally = s .tally })
+unfolding treatM
 treat-keeps sys small s inv i h m′ e =
-    elim (decLt (s .mem WORKERS i HEAD) (s .mem WORKERS i TAIL)) [
-      | yes busy ↦
-          subst (λ n. Inv sys (record { mem = n; tally = s .tally }))
-          (Option·some-injective _ _ (sym (treat-busy sys small s inv i h busy) ∙ e))
-          (inv-after sys small s inv i h busy)
-      | no idle ↦ absurd (Option·none-ne-some m′ (sym (no-work sys i _ _ (s .mem) refl refl (omega arith)) ∙ e))
-    ]
+    let went = if-some (hasWork i (s .mem)) e in
+    some-same (λ n. Inv sys (record { mem = n; tally = s .tally })) (went .1)
+    (inv-after sys small s inv i h (has-work i (s .mem) (went .0) .untreated))

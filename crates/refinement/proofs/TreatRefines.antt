@@ -24,7 +24,7 @@ use Rattle.cells.specs.Layout.{WORKERS, CURSORS, BOUNDS, LOG, WORK, OUT, WANTED
 use Rattle.cells.specs.Memory.{Mem, store}
 use Rattle.controller.specs.Controller.{Machine}
 use Rattle.index.proofs.Kept.{row-heads}
-use Rattle.treating.proofs.TreatLaws.{treated, no-work}
+use Rattle.treating.proofs.TreatLaws.{treat-goes, treat-idle}
 use Rattle.treating.specs.Treat.{touchVariablesM, treatM}
 use Rattle.cells.specs.View.{LISTED, labelOf, labelsBetween, counterRow, viewCounter, view, workOf, sendOf}
 use Rattle.refinement.proofs.Actors.{at-worker, actors-update}
@@ -238,7 +238,7 @@ module _ (sys : System) (small : Small sys) (s : Machine) (inv : Inv sys s) (i :
   -- the turn is not idle
   pub treat-busy : treatM sys i (s .mem) ≡ some treatedM
   treat-busy =
-      treated sys i head (m WORKERS i TAIL) m refl refl (m WORK i head) busy (omega (arith, tail-small sys small s inv i h)) refl
+      treat-goes sys i m refl refl (record { untreated = busy; head-room = omega (arith, tail-small sys small s inv i h) })
 
 -- treating in memory is treating
 pub treat-refines : (sys : System) → Small sys → (s : Machine) → Inv sys s → (i : ℕ) → i < sys .workers
@@ -250,7 +250,7 @@ treat-refines sys small s inv i h =
     (λ busy.
     ap (Option·map (λ m′. view sys m′ (s .tally))) (treat-busy sys small s inv i h busy)
     ∙ ap some (treated-view sys small s inv i h busy))
-    (λ idle. ap (Option·map (λ m′. view sys m′ (s .tally))) (no-work sys i head tail m refl refl idle))
+    (λ idle. ap (Option·map (λ m′. view sys m′ (s .tally))) (treat-idle sys i m (λ has. omega (arith, has .untreated))))
     ∙ ap (treatFrom sys (suc i) (view sys m (s .tally))) (sym (at-worker sys (workOf m) [] i h))
   where
     m : Mem

@@ -1,7 +1,7 @@
 -- A machine as the state that it stands for, and a state by its parts.
 use Prim.Native.Nat.{ℕ, _+_, _-_, _<_}
-use mathlib.Core.Bool.{Bool, true, false, cond}
-use mathlib.Core.Option.{Option}
+use mathlib.Core.Bool.{Bool, true, false, cond, not}
+use mathlib.Core.Option.{Option, none, some}
 pub use mathlib.Core.Option.{Option·map as mapO}
 use mathlib.Core.Path.{_≡_, refl, _∙_, ap, fun-ext}
 use native.Mathlib.Omega.{arith}
@@ -46,6 +46,17 @@ pub mapO-cond {ℓ κ} : {A : Type ℓ} {B : Type κ} (f : A → B) (b : Bool) (
     → (b ≡ true → mapO f x ≡ x′) → (b ≡ false → mapO f y ≡ y′) → mapO f (cond b x y) ≡ cond b x′ y′
 mapO-cond f true x y x′ y′ p q = p refl
 mapO-cond f false x y x′ y′ p q = q refl
+
+-- an action in memory, by its test and its result: those of an action that goes where a test holds
+pub mapO-when {ℓ κ} : {A : Type ℓ} {B : Type κ} (f : A → B) {b c : Bool} {x : A} {y : B} → b ≡ c → f x ≡ y
+    → mapO f (cond b (some x) none) ≡ cond c (some y) none
+mapO-when f {b} p e = rw (← p) (mapO-cond f b _ _ _ _ (λ h. ap some e) (λ h. refl))
+
+-- or where it fails
+pub mapO-unless {ℓ κ} : {A : Type ℓ} {B : Type κ} (f : A → B) (c : Bool) {b : Bool} {x : A} {y : B} → b ≡ not c → f x ≡ y
+    → mapO f (cond b (some x) none) ≡ cond c none (some y)
+mapO-unless f true p e = rw p
+mapO-unless f false p e = rw p (ap some e)
 
 -- a number from 1,024 on stands for a list message
 pub list-code : (m : Mem) (i c n : ℕ) → c ≡ LISTMARK + n → messageOf m i c ≡ list (listAt m i n)

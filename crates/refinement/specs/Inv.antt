@@ -8,7 +8,7 @@ use Rattle.base.specs.Below.{sumBelow, countBelow}
 use Rattle.disac4.specs.System.{System, Sound}
 use Rattle.disac4.specs.declared.Tally.{Tally}
 use Rattle.network.specs.Network.{loaded, labelCount, domainSize}
-use Rattle.cells.specs.Layout.{WORKERS, CURSORS, BOUNDS, LOG, WORK, OUT, WANTED, DOMAIN, HEAD, TAIL, LOGEND, SENDS, LISTS, HELD, POLLS, OUTEND, OUTREAD}
+use Rattle.cells.specs.Layout.{WORKERS, CURSORS, BOUNDS, LOG, WORK, OUT, WANTED, DOMAIN, HEAD, TAIL, LOGEND, SENDS, LISTS, HELD, POLLS, OUTEND, OUTREAD, LABELROOM}
 use Rattle.cells.specs.Memory.{Mem}
 use Rattle.index.specs.Index.{Paired}
 use Rattle.controller.specs.Controller.{Machine}
@@ -19,7 +19,7 @@ use Rattle.cells.specs.View.{LISTED, LISTMARK}
 pub record Small (sys : System) : Type 0 where
   pub sound : Sound sys
   pub few-values : (x : ℕ) → x < sys .net .variables → sys .net .size x ≤ 16
-  pub few-labels : labelCount (sys .net) ≤ 512
+  pub few-labels : labelCount (sys .net) ≤ LABELROOM
   -- constraints join two different variables of the network
   pub links-inside : (x y : ℕ) → sys .net .linked x y ≡ true
       → (x < sys .net .variables) × (y < sys .net .variables) × (x ≡ y → ⊥)
@@ -87,14 +87,17 @@ pub record Replied (m : Mem) (t : Tally) (i : ℕ) : Type 0 where
   pub ended-later : t .polling ≡ false → m WORKERS i LISTS < t .lists .0
   pub count-low : m WORKERS i LISTS ≤ t .lists .0
 
+-- row `i` has put as many messages for the controller as its list counter says, or one more where it has replied
+abbrev pub OutCounted : Mem → Tally → ℕ → Type 0
+OutCounted m t i = (m WORKERS i OUTEND ≤ m WORKERS i LISTS) ⊎ Replied m t i
+
 -- ---- all of it
 
 pub record Inv (sys : System) (s : Machine) : Type 0 where
   pub rows : (i : ℕ) → i < sys .workers → Row sys (s .mem) (s .tally) i
   pub totals : Totals sys (s .mem) (s .tally)
   pub polled : Polled (s .mem) (s .tally)
-  pub replied : (i : ℕ) → i < sys .workers
-      → (s .mem WORKERS i OUTEND ≤ s .mem WORKERS i LISTS) ⊎ Replied (s .mem) (s .tally) i
+  pub replied : (i : ℕ) → i < sys .workers → OutCounted (s .mem) (s .tally) i
   pub paired : Paired sys (s .mem)
   -- only loaded labels are in the domains
   pub listed : (x v : ℕ) → eqb (s .mem DOMAIN x v) LISTED ≡ true → loaded (sys .net) x v ≡ true

@@ -1,10 +1,10 @@
 -- Send in memory: the memory after, or nothing where it is idle. A test against a region's size stands for room
 -- that the refinement shows is never lacking.
 use Prim.Native.Nat.{ℕ, _+_}
-use mathlib.Core.Bool.{cond}
+use mathlib.Core.Bool.{Bool, cond, _&&_, not}
 use mathlib.Core.Option.{Option, none, some}
 use lib.Dec.{ltb, eqb}
-use Rattle.cells.specs.Layout.{WORKERS, BOUNDS, OUT, LOGEND, SENDS, LISTS, OUTEND}
+use Rattle.cells.specs.Layout.{WORKERS, BOUNDS, OUT, LOGEND, SENDS, LISTS, OUTEND, SENDROOM, OUTROOM, LISTSMAX}
 use Rattle.cells.specs.Memory.{Mem, store}
 use Rattle.cells.specs.View.{LISTMARK}
 
@@ -25,11 +25,13 @@ unfoldable pub sentM : ℕ → Mem → Mem
 unfolding sentWith
 sentM i m = sentWith i (m WORKERS i SENDS) (m WORKERS i LOGEND) (m WORKERS i OUTEND) (m WORKERS i LISTS) m
 
+-- whether row `i` has labels to send, and room for the message
+unfoldable pub maySend : ℕ → Mem → Bool
+maySend i m =
+    not (eqb (m BOUNDS i (m WORKERS i SENDS)) (m WORKERS i LOGEND))
+    && ltb (m WORKERS i SENDS) SENDROOM
+    && ltb (m WORKERS i OUTEND) OUTROOM
+    && ltb (m WORKERS i LISTS) LISTSMAX
+
 unfoldable pub sendM : ℕ → Mem → Option Mem
-sendM i m =
-    cond (ltb (m WORKERS i SENDS) 519)
-    (cond (eqb (m BOUNDS i (m WORKERS i SENDS)) (m WORKERS i LOGEND)) none
-    (cond (ltb (m WORKERS i OUTEND) 520)
-    (cond (ltb (m WORKERS i LISTS) 65535) (some (sentM i m)) none)
-    none))
-    none
+sendM i m = cond (maySend i m) (some (sentM i m)) none

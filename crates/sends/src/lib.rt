@@ -2,9 +2,12 @@
 use cells::layout::BOUNDS;
 use cells::layout::LISTMARK;
 use cells::layout::LISTS;
+use cells::layout::LISTSMAX;
 use cells::layout::LOGEND;
 use cells::layout::OUT;
 use cells::layout::OUTEND;
+use cells::layout::OUTROOM;
+use cells::layout::SENDROOM;
 use cells::layout::SENDS;
 use cells::layout::WORKERS;
 use cells::layout::get;
@@ -13,12 +16,13 @@ ghost use mathlib.Core.Path.{_≡_};
 ghost use Prim.Native.Nat.{_<_, _≤_};
 ghost use lib.ListN.{length};
 ghost use Rattle.cells.specs.Acts.{Acts};
+ghost use Rattle.cells.specs.Layout.{WORKCELLS, SENDROOM, OUTROOM, LISTSMAX};
 ghost use Rattle.cells.specs.Memory.{memOf};
 ghost use Rattle.sends.specs.Sends.{sendM, sentWith};
 
 // Sends row `i`'s next list message: up to `end` in the log, behind `sends` list messages and `outs` messages to the controller.
 fn put_list(cells: &mut [u16], i: usize, sends: usize, end: usize, outs: usize, lists: usize)
-    requires { ⌜ (24576 ≤ length (now cells)) × (i < 8) × (sends < 519) × (end < 65536) × (outs < 520) × (lists < 65535) ⌝ }
+    requires { ⌜ (WORKCELLS ≤ length (now cells)) × (i < 8) × (sends < SENDROOM) × (end < 65536) × (outs < OUTROOM) × (lists < LISTSMAX) ⌝ }
     ensures { λ r. ⌜ memOf (now (cells .exit)) ≡ sentWith i sends end outs lists (memOf (now (cells .entry))) ⌝ }
 {
     put(cells, BOUNDS, i, sends + 1, end);
@@ -30,11 +34,11 @@ fn put_list(cells: &mut [u16], i: usize, sends: usize, end: usize, outs: usize, 
 
 // Send: the labels behind row `i`'s last list message go to all, as one list message.
 pub fn send(cells: &mut [u16], i: usize) -> usize
-    requires { ⌜ (24576 ≤ length (now cells)) × (i < 8) ⌝ }
+    requires { ⌜ (WORKCELLS ≤ length (now cells)) × (i < 8) ⌝ }
     ensures { λ r. ⌜ Acts (sendM i) (memOf (now (cells .entry))) (memOf (now (cells .exit))) r ⌝ }
 {
     let sends = get(cells, WORKERS, i, SENDS);
-    if sends >= 519 {
+    if sends >= SENDROOM {
         return 0;
     }
     let start = get(cells, BOUNDS, i, sends);
@@ -43,11 +47,11 @@ pub fn send(cells: &mut [u16], i: usize) -> usize
         return 0;
     }
     let outs = get(cells, WORKERS, i, OUTEND);
-    if outs >= 520 {
+    if outs >= OUTROOM {
         return 0;
     }
     let lists = get(cells, WORKERS, i, LISTS);
-    if lists >= 65535 {
+    if lists >= LISTSMAX {
         return 0;
     }
     put_list(cells, i, sends, end, outs, lists);

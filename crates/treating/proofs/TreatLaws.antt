@@ -6,9 +6,9 @@ use mathlib.Core.Logic.{⊎-elim}
 use mathlib.Core.Option.{none, some}
 use mathlib.Core.Path.{_≡_, refl, sym, _∙_, ap}
 use native.Mathlib.Omega.{arith}
-use borrow.Author.Tests.{lt-ltb, le-ltb, eq-eqb, ne-eqb, eqb-true}
+use borrow.Author.Tests.{lt-ltb, ltb-true, eq-eqb, ne-eqb, eqb-true}
 use lib.Dec.{eqb}
-use Rattle.base.proofs.Bools.{decided, and-false}
+use Rattle.base.proofs.Bools.{decided, and-left, and-right, and-intro, and-false, refuted}
 use Rattle.base.proofs.Choice.{cond-true, cond-false}
 use Rattle.base.proofs.Row.{row-bit}
 use Rattle.base.specs.Row.{isOdd, bit, rowOf}
@@ -25,10 +25,10 @@ use Rattle.index.proofs.Own.{next-none, next-here, next-past, next-above}
 use Rattle.index.specs.Allowed.{Listed}
 use Rattle.index.specs.Index.{owns, ownLinked, nextOwn}
 use Rattle.cells.proofs.Stores.{one-more}
-use Rattle.cells.specs.Layout.{WORKERS, WORK, DOMAIN, COUNTERS, HEAD, TAIL}
+use Rattle.cells.specs.Layout.{WORKERS, WORK, DOMAIN, COUNTERS, HEAD, TAIL, LABELROOM}
 use Rattle.cells.specs.Lists.{deleteM}
 use Rattle.cells.specs.Memory.{Mem, store}
-use Rattle.treating.specs.Treat.{SupportRow, loseM, touchM, touchValuesM, touchVariableM, touchVariablesM, treatM}
+use Rattle.treating.specs.Treat.{SupportRow, loseM, touchM, touchValuesM, touchVariableM, touchVariablesM, hasWork, treatM}
 use Rattle.cells.specs.View.{LISTED, counterRow}
 
 -- ---- a count goes down
@@ -211,28 +211,33 @@ left-falls b i y x next h e =
 
 -- ---- the label at the head of the work list
 
-module _ (sys : System) (i head tail : ℕ) (m : Mem) (h : head ≡ m WORKERS i HEAD) (t : tail ≡ m WORKERS i TAIL) where
-  pub no-work : tail ≤ head → treatM sys i m ≡ none
-  unfolding treatM
-  no-work l = cond-false _ none (le-ltb (m WORKERS i HEAD) (m WORKERS i TAIL) (omega arith))
+-- what treating asks: a label on the work list, within the row
+pub record HasWork (i : ℕ) (m : Mem) : Type 0 where
+  pub untreated : m WORKERS i HEAD < m WORKERS i TAIL
+  pub head-room : m WORKERS i HEAD < LABELROOM
 
-  pub no-room : head < tail → 512 ≤ head → treatM sys i m ≡ none
-  unfolding treatM
-  no-room l r =
-      cond-true _ none (lt-ltb (m WORKERS i HEAD) (m WORKERS i TAIL) (omega arith))
-      ∙ cond-false _ none (le-ltb (m WORKERS i HEAD) 512 (omega arith))
+-- the test taken apart
+pub has-work : (i : ℕ) (m : Mem) → hasWork i m ≡ true → HasWork i m
+unfolding hasWork
+has-work i m e = search (and-left, and-right, ltb-true)
 
-  pub treated : (c : ℕ) → head < tail → head < 512 → c ≡ m WORK i head
+module _ (sys : System) (i : ℕ) (m : Mem) where
+  -- and put together: the label is treated
+  pub treat-goes : {head c : ℕ} → head ≡ m WORKERS i HEAD → c ≡ m WORK i head → HasWork i m
       → treatM sys i m
       ≡ some (touchVariablesM sys i (c / 16) (c % 16) (sys .net .variables) (store m WORKERS i HEAD (head + 1)))
-  unfolding treatM
-  treated c l r e =
-      cond-true _ none (lt-ltb (m WORKERS i HEAD) (m WORKERS i TAIL) (omega arith))
-      ∙ cond-true _ none (lt-ltb (m WORKERS i HEAD) 512 (omega arith)) ∙ rw (e, h)
+  unfolding treatM hasWork
+  treat-goes p q h = cond-true {b = hasWork i m} _ none (search (and-intro, lt-ltb)) ∙ rw (q, p)
 
-  -- it was loaded
-  pub head-listed : (b : List ℕ) (c : ℕ) → head < tail → c ≡ m WORK i head
-      → (m WORKERS i HEAD < m WORKERS i TAIL
-      → Listed b (m WORK i (m WORKERS i HEAD) / 16) (m WORK i (m WORKERS i HEAD) % 16))
-      → Listed b (c / 16) (c % 16)
-  head-listed b c l e f = rw (e, h) (f (omega arith))
+  -- where a part of the test fails, treating is idle
+  pub treat-idle : (HasWork i m → ⊥) → treatM sys i m ≡ none
+  unfolding treatM
+  treat-idle n = cond-false _ none (refuted (hasWork i m) (λ e. n (has-work i m e)))
+
+-- it was loaded
+pub head-listed : (b : List ℕ) (i : ℕ) (m : Mem) {head tail c : ℕ} → head ≡ m WORKERS i HEAD → tail ≡ m WORKERS i TAIL
+    → head < tail → c ≡ m WORK i head
+    → (m WORKERS i HEAD < m WORKERS i TAIL
+    → Listed b (m WORK i (m WORKERS i HEAD) / 16) (m WORK i (m WORKERS i HEAD) % 16))
+    → Listed b (c / 16) (c % 16)
+head-listed b i m p q l e f = rw (e, p) (f (omega arith))

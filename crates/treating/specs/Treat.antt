@@ -1,12 +1,12 @@
 -- Treating a label in memory: the treating worker's variables that share a constraint with it, ascending, and their values.
 use Prim.Native.Nat.{ℕ, zero, suc, _+_, _-_, _/_, _%_, _<_}
-use mathlib.Core.Bool.{cond}
+use mathlib.Core.Bool.{Bool, cond, _&&_}
 use mathlib.Core.Option.{Option, none, some}
 use mathlib.Core.Path.{_≡_}
 use lib.Dec.{ltb, eqb}
 use Rattle.base.specs.Row.{bit}
 use Rattle.disac4.specs.System.{System}
-use Rattle.cells.specs.Layout.{WORKERS, WORK, DOMAIN, COUNTERS, HEAD, TAIL}
+use Rattle.cells.specs.Layout.{WORKERS, WORK, DOMAIN, COUNTERS, HEAD, TAIL, LABELROOM}
 use Rattle.cells.specs.Lists.{deleteM}
 use Rattle.cells.specs.Memory.{Mem, store}
 use Rattle.cells.specs.View.{LISTED, counterRow}
@@ -44,13 +44,15 @@ unfoldable pub touchVariablesM : System → ℕ → ℕ → ℕ → ℕ → Mem 
 touchVariablesM sys i y w zero m = m
 touchVariablesM sys i y w (suc n) m = touchVariableM sys i y w n (touchVariablesM sys i y w n m)
 
+-- whether row `i` has a label on its work list, in bounds
+unfoldable pub hasWork : ℕ → Mem → Bool
+hasWork i m = ltb (m WORKERS i HEAD) (m WORKERS i TAIL) && ltb (m WORKERS i HEAD) LABELROOM
+
 -- row `i` takes the oldest label from its work list
 unfoldable pub treatM : System → ℕ → Mem → Option Mem
 treatM sys i m =
-    cond (ltb (m WORKERS i HEAD) (m WORKERS i TAIL))
-    (cond (ltb (m WORKERS i HEAD) 512)
+    cond (hasWork i m)
     (some
     (touchVariablesM sys i (m WORK i (m WORKERS i HEAD) / 16) (m WORK i (m WORKERS i HEAD) % 16) (sys .net .variables)
     (store m WORKERS i HEAD (m WORKERS i HEAD + 1))))
-    none)
     none

@@ -87,7 +87,7 @@ pub fn treat(b: &[u8], cells: &mut [u16], i: usize) -> usize
     if head >= layout::get(cells, layout::WORKERS, i, layout::TAIL) {
         return 0;
     }
-    if head >= 512 {
+    if head >= layout::LABELROOM {
         return 0;
     }
     let c = layout::get(cells, layout::WORK, i, head);

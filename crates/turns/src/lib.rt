@@ -3,8 +3,10 @@ use base::between;
 use base::byte_at;
 use base::one_if;
 use disac4::ANSWER_ACTION;
+use disac4::LIST_CELLS;
 use disac4::POLL_ACTION;
 use disac4::TREAT_ACTION;
+use disac4::WORK_CELLS;
 use plan::Fault;
 use plan::Verdict;
 ghost use mathlib.Core.Path.{_≡_};
@@ -20,10 +22,10 @@ ghost use Rattle.disac4.specs.Outcome.{bufferChecks};
 pub fn check_buffers(work: &[u16], lists: &[u16]) -> Verdict
     ensures { λ r. ⌜ r ≡ verdictOf (firstFault (bufferChecks (now (work .entry)) (now (lists .entry)))) ⌝ }
 {
-    if work.len() < 24576 {
+    if work.len() < WORK_CELLS {
         return Verdict::Fails(Fault::ShortWork);
     }
-    if lists.len() < 32 {
+    if lists.len() < LIST_CELLS {
         return Verdict::Fails(Fault::ShortLists);
     }
     Verdict::Passes

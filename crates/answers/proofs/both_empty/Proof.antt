@@ -1,7 +1,7 @@
 -- `answers::both_empty` says whether both lists are empty. Assumes nothing.
 use mathlib.Core.Path.{refl}
 use native.Mathlib.Omega.{arith}
-use Rattle.answers.proofs.AnswerLaws.{not-treated, not-within, empty-by}
+use Rattle.answers.proofs.AnswerLaws.{some-left, empty-by}
 use Rattle.cells.proofs.Ranges.{may-get}
 use Rattle.answers.proofs.both_empty.Statement.{statement}
 use Rattle.answers.proofs.both_empty.Tie as tie
@@ -13,22 +13,13 @@ get-requires-2 : tie.Need-get-requires-2
 get-requires-2 c κs = may-get _ _ _ refl _ (omega arith)
 
 returns : tie.Need-returns
-returns c =
-    let at-get2 = c .before in
-    let at-get = at-get2 .before in
-    not-treated _ _ (at-get .get .ensures .0) (at-get2 .get2 .ensures .0) (c .if1 .taken)
+returns c = some-left _ _ (λ none-left. c .if1 .taken (cc))
 
 get-requires-3 : tie.Need-get-requires-3
 get-requires-3 c κs = may-get _ _ _ refl _ (omega arith)
 
 returns-2 : tie.Need-returns-2
-returns-2 c =
-    let at-get3 = c .before in
-    let at-if1 = at-get3 .before in
-    let at-get2 = at-if1 .before in
-    let at-get = at-get2 .before in
-    not-within _ _ (at-get .get .ensures .0) (at-get2 .get2 .ensures .0) (at-if1 .if1 .left)
-    (at-get3 .get3 .ensures .0) (c .if2 .taken)
+returns-2 c = some-left _ _ (λ none-left. omega arith)
 
 get-requires-4 : tie.Need-get-requires-4
 get-requires-4 c κs = may-get _ _ _ refl _ (omega arith)
@@ -41,11 +32,7 @@ returns-3 c =
     let at-get4 = c .before in
     let at-if2 = at-get4 .before in
     let at-get3 = at-if2 .before in
-    let at-if1 = at-get3 .before in
-    let at-get2 = at-if1 .before in
-    let at-get = at-get2 .before in
-    empty-by _ _ (at-get .get .ensures .0) (at-get2 .get2 .ensures .0) (at-if1 .if1 .left)
-    (at-get3 .get3 .ensures .0) (at-if2 .if2 .left) (at-get4 .get4 .ensures .0) (c .get5 .ensures .0)
+    empty-by _ _ (cc) (at-if2 .if2 .left) (at-get3 .get3 .ensures .0) (at-get4 .get4 .ensures .0) (c .get5 .ensures .0)
 
 pub both-empty-spec : {M : Type 1} → statement M
 both-empty-spec =

@@ -1,7 +1,11 @@
 -- `controller::asks` says whether a poll is sent. Assumes nothing.
+use borrow.Author.Needs.{needs}
 use Rattle.controller.proofs.asks.Statement.{statement}
 use Rattle.controller.proofs.asks.Tie as tie
 use Rattle.controller.specs.Controller.{asksT}
+
+cast-n : tie.Need-cast-n
+cast-n c = search needs
 
 returns : tie.Need-returns
 unfolding asksT
@@ -12,4 +16,4 @@ unfolding asksT
 returns-2 c = rw (c .if1 .left)
 
 pub asks-spec : {M : Type 1} → statement M
-asks-spec = tie.close (tie.spec returns returns-2)
+asks-spec = tie.close (tie.spec cast-n returns returns-2)

@@ -3,7 +3,7 @@ use mathlib.Core.Path.{refl}
 use native.Mathlib.Omega.{arith}
 use borrow.Author.Needs.{needs}
 use Rattle.cells.proofs.Acting.{idle, acts}
-use Rattle.reads.proofs.ReadLaws.{read-all, read-full, read-past, read-counted, read-takes}
+use Rattle.reads.proofs.ReadLaws.{list-goes, list-idle, taken-from}
 use Rattle.cells.proofs.Ranges.{may-get}
 use Rattle.reads.proofs.read_list.Statement.{statement}
 use Rattle.reads.proofs.read_list.Tie as tie
@@ -18,20 +18,13 @@ same-length : tie.Need-same-length
 same-length c = search needs
 
 returns : tie.Need-returns
-returns c =
-    let at-get2 = c .before in
-    let at-get = at-get2 .before .before in
-    idle _ _ (read-all _ _ _ (at-get .get .ensures .0) (at-get2 .get2 .ensures .0) (c .if1 .taken))
+returns c = idle _ _ (list-idle _ _ _ (λ has. omega arith))
 
 same-length-2 : tie.Need-same-length-2
 same-length-2 c = search needs
 
 returns-2 : tie.Need-returns-2
-returns-2 c =
-    let at-if1 = c .before in
-    let at-get2 = at-if1 .before in
-    let at-get = at-get2 .before .before in
-    idle _ _ (read-full _ _ _ (at-get .get .ensures .0) (at-get2 .get2 .ensures .0) (at-if1 .if1 .left) (c .if2 .taken))
+returns-2 c = idle _ _ (list-idle _ _ _ (λ has. omega arith))
 
 add-get : tie.Need-add-get
 add-get c = search needs
@@ -44,13 +37,8 @@ same-length-3 c = search needs
 
 returns-3 : tie.Need-returns-3
 returns-3 c =
-    let at-get3 = c .before in
-    let at-if2 = at-get3 .before .before in
-    let at-if1 = at-if2 .before in
-    let at-get2 = at-if1 .before in
-    let at-get = at-get2 .before .before in
-    idle _ _ (read-past _ _ _ (at-get .get .ensures .0) (at-get2 .get2 .ensures .0) (at-if1 .if1 .left)
-    (at-if2 .if2 .left) (at-get3 .get3 .ensures .0) (c .if3 .taken))
+    let at-get = c .before .before .before .before .before .before .before in
+    idle _ _ (list-idle _ _ _ (λ has. omega (arith, rw (← (at-get .get .ensures .0)) at (has .label-room))))
 
 get-requires-4 : tie.Need-get-requires-4
 get-requires-4 c κs = may-get _ _ _ refl _ (omega arith)
@@ -59,16 +47,7 @@ same-length-4 : tie.Need-same-length-4
 same-length-4 c = search needs
 
 returns-4 : tie.Need-returns-4
-returns-4 c =
-    let at-get4 = c .before in
-    let at-if3 = at-get4 .before .before in
-    let at-get3 = at-if3 .before in
-    let at-if2 = at-get3 .before .before in
-    let at-if1 = at-if2 .before in
-    let at-get2 = at-if1 .before in
-    let at-get = at-get2 .before .before in
-    idle _ _ (read-counted _ _ _ (at-get .get .ensures .0) (at-get2 .get2 .ensures .0) (at-if1 .if1 .left)
-    (at-if2 .if2 .left) (at-get3 .get3 .ensures .0) (at-if3 .if3 .left) (at-get4 .get4 .ensures .0) (c .if4 .taken))
+returns-4 c = idle _ _ (list-idle _ _ _ (λ has. omega arith))
 
 get-requires-5 : tie.Need-get-requires-5
 get-requires-5 c κs = may-get _ _ _ refl _ (omega arith)
@@ -83,17 +62,20 @@ returns-5 : tie.Need-returns-5
 returns-5 c =
     let at-take-list = c .before .before in
     let at-get5 = at-take-list .before .before in
-    let at-if4 = at-get5 .before .before in
-    let at-get4 = at-if4 .before in
-    let at-if3 = at-get4 .before .before in
-    let at-get3 = at-if3 .before in
-    let at-if2 = at-get3 .before .before in
-    let at-if1 = at-if2 .before in
+    let at-get4 = at-get5 .before .before .before in
+    let at-get3 = at-get4 .before .before .before in
+    let at-if1 = at-get3 .before .before .before in
     let at-get2 = at-if1 .before in
     let at-get = at-get2 .before .before in
-    acts _ _ _ _ (read-takes _ _ _ (at-get .get .ensures .0) (at-get2 .get2 .ensures .0) (at-if1 .if1 .left)
-    (at-if2 .if2 .left) (at-get3 .get3 .ensures .0) (at-if3 .if3 .left) (at-get4 .get4 .ensures .0)
-    (at-if4 .if4 .left) (at-get5 .get5 .ensures .0)) (at-take-list .take-list .ensures)
+    acts _ _ _ _
+    (list-goes _ _ _ (record {
+      unread = omega (arith, at-get .get .ensures .0, at-get2 .get2 .ensures .0, at-if1 .if1 .left);
+      bound-room = omega (arith, at-get .get .ensures .0);
+      label-room = rw (← (at-get .get .ensures .0)) (omega (arith, at-get3 .get3 .ensures .0));
+      count-room = omega (arith, at-get4 .get4 .ensures .0);
+    }))
+    (taken-from _ _ _ (at-get .get .ensures .0) (at-get5 .get5 .ensures .0) (at-get3 .get3 .ensures .0)
+    (at-get4 .get4 .ensures .0) (at-take-list .take-list .ensures))
 
 pub read-list-spec : {M : Type 1} → statement M
 read-list-spec =

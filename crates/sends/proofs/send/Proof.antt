@@ -3,7 +3,7 @@ use mathlib.Core.Path.{refl}
 use native.Mathlib.Omega.{arith}
 use borrow.Author.Needs.{needs}
 use Rattle.cells.proofs.Acting.{idle, acts}
-use Rattle.sends.proofs.SendLaws.{send-full, send-nothing, send-crowded, send-counted, send-goes}
+use Rattle.sends.proofs.SendLaws.{send-goes, send-idle, sent-from}
 use Rattle.cells.proofs.Ranges.{may-get}
 use Rattle.sends.proofs.send.Statement.{statement}
 use Rattle.sends.proofs.send.Tie as tie
@@ -15,9 +15,7 @@ same-length : tie.Need-same-length
 same-length c = search needs
 
 returns : tie.Need-returns
-returns c =
-    let at-get = c .before in
-    idle _ _ (send-full _ _ (at-get .get .ensures .0) (c .if1 .taken))
+returns c = idle _ _ (send-idle _ _ (λ may. omega arith))
 
 get-requires-2 : tie.Need-get-requires-2
 get-requires-2 c κs = may-get _ _ _ refl _ (omega arith)
@@ -29,13 +27,7 @@ same-length-2 : tie.Need-same-length-2
 same-length-2 c = search needs
 
 returns-2 : tie.Need-returns-2
-returns-2 c =
-    let at-get3 = c .before in
-    let at-get2 = at-get3 .before .before in
-    let at-if1 = at-get2 .before .before in
-    let at-get = at-if1 .before in
-    idle _ _ (send-nothing _ _ (at-get .get .ensures .0) (at-if1 .if1 .left) (at-get2 .get2 .ensures .0)
-    (at-get3 .get3 .ensures .0) (c .if2 .taken))
+returns-2 c = idle _ _ (send-idle _ _ (λ may. may .unsent (cc)))
 
 get-requires-4 : tie.Need-get-requires-4
 get-requires-4 c κs = may-get _ _ _ refl _ (omega arith)
@@ -44,15 +36,7 @@ same-length-3 : tie.Need-same-length-3
 same-length-3 c = search needs
 
 returns-3 : tie.Need-returns-3
-returns-3 c =
-    let at-get4 = c .before in
-    let at-if2 = at-get4 .before .before in
-    let at-get3 = at-if2 .before in
-    let at-get2 = at-get3 .before .before in
-    let at-if1 = at-get2 .before .before in
-    let at-get = at-if1 .before in
-    idle _ _ (send-crowded _ _ (at-get .get .ensures .0) (at-if1 .if1 .left) (at-get2 .get2 .ensures .0)
-    (at-get3 .get3 .ensures .0) (at-if2 .if2 .left) (at-get4 .get4 .ensures .0) (c .if3 .taken))
+returns-3 c = idle _ _ (send-idle _ _ (λ may. omega arith))
 
 get-requires-5 : tie.Need-get-requires-5
 get-requires-5 c κs = may-get _ _ _ refl _ (omega arith)
@@ -61,18 +45,7 @@ same-length-4 : tie.Need-same-length-4
 same-length-4 c = search needs
 
 returns-4 : tie.Need-returns-4
-returns-4 c =
-    let at-get5 = c .before in
-    let at-if3 = at-get5 .before .before in
-    let at-get4 = at-if3 .before in
-    let at-if2 = at-get4 .before .before in
-    let at-get3 = at-if2 .before in
-    let at-get2 = at-get3 .before .before in
-    let at-if1 = at-get2 .before .before in
-    let at-get = at-if1 .before in
-    idle _ _ (send-counted _ _ (at-get .get .ensures .0) (at-if1 .if1 .left) (at-get2 .get2 .ensures .0)
-    (at-get3 .get3 .ensures .0) (at-if2 .if2 .left) (at-get4 .get4 .ensures .0) (at-if3 .if3 .left)
-    (at-get5 .get5 .ensures .0) (c .if4 .taken))
+returns-4 c = idle _ _ (send-idle _ _ (λ may. omega arith))
 
 put-list-requires : tie.Need-put-list-requires
 put-list-requires c κs = search needs
@@ -83,18 +56,20 @@ same-length-5 c = search needs
 returns-5 : tie.Need-returns-5
 returns-5 c =
     let at-put-list = c .before .before in
-    let at-if4 = at-put-list .before .before in
-    let at-get5 = at-if4 .before in
-    let at-if3 = at-get5 .before .before in
-    let at-get4 = at-if3 .before in
+    let at-get5 = at-put-list .before .before .before in
+    let at-get4 = at-get5 .before .before .before in
     let at-if2 = at-get4 .before .before in
     let at-get3 = at-if2 .before in
-    let at-get2 = at-get3 .before .before in
-    let at-if1 = at-get2 .before .before in
-    let at-get = at-if1 .before in
-    acts _ _ _ _ (send-goes _ _ (at-get .get .ensures .0) (at-if1 .if1 .left) (at-get2 .get2 .ensures .0)
-    (at-get3 .get3 .ensures .0) (at-if2 .if2 .left) (at-get4 .get4 .ensures .0) (at-if3 .if3 .left)
-    (at-get5 .get5 .ensures .0) (at-if4 .if4 .left)) (at-put-list .put-list .ensures)
+    let at-get = at-get3 .before .before .before .before .before in
+    acts _ _ _ _
+    (send-goes _ _ (record {
+      unsent = λ e. at-if2 .if2 .left (cc);
+      send-room = omega arith;
+      out-room = omega arith;
+      count-room = omega arith;
+    }))
+    (sent-from _ _ (at-get .get .ensures .0) (at-get3 .get3 .ensures .0) (at-get4 .get4 .ensures .0)
+    (at-get5 .get5 .ensures .0) (at-put-list .put-list .ensures))
 
 pub send-spec : {M : Type 1} → statement M
 send-spec =

@@ -7,7 +7,7 @@ use Rattle.disac4.specs.System.{systemOf}
 use Rattle.plan.specs.Decode.{planOf}
 use Rattle.index.proofs.Kept.{ready-kept, stored, same}
 use Rattle.cells.proofs.Acting.{idle, acts}
-use Rattle.treating.proofs.TreatLaws.{no-work, no-room, treated, head-listed}
+use Rattle.treating.proofs.TreatLaws.{treat-goes, treat-idle, head-listed}
 use Rattle.cells.specs.Layout.{WORKERS, HEAD}
 use Rattle.cells.specs.Memory.{memOf}
 use Rattle.treating.specs.Treat.{touchVariablesM}
@@ -24,20 +24,13 @@ same-length : tie.Need-same-length
 same-length c = search needs
 
 returns : tie.Need-returns
-returns c =
-    let g2 = c .before in
-    let g = g2 .before .before in
-    idle _ _ (no-work _ _ _ _ _ (g .get .ensures .0) (g2 .get2 .ensures .0) (c .if1 .taken))
+returns c = idle _ _ (treat-idle _ _ _ (λ has. omega arith))
 
 same-length-2 : tie.Need-same-length-2
 same-length-2 c = search needs
 
 returns-2 : tie.Need-returns-2
-returns-2 c =
-    let t = c .before in
-    let g2 = t .before in
-    let g = g2 .before .before in
-    idle _ _ (no-room _ _ _ _ _ (g .get .ensures .0) (g2 .get2 .ensures .0) (t .if1 .left) (c .if2 .taken))
+returns-2 c = idle _ _ (treat-idle _ _ _ (λ has. omega arith))
 
 get-requires-3 : tie.Need-get-requires-3
 get-requires-3 c κs = search needs
@@ -59,8 +52,8 @@ touch-variables-requires c κs =
       ready-kept (now (s .args .b)) (now (s .args .cells)) _ (s .pre .0) (p .put .kept .0) (p .put .ensures)
           (stored WORKERS (s .args .i) HEAD _ (omega arith) same),
       s .pre .1,
-      head-listed (systemOf (planOf (now (s .args .b)))) (s .args .i) _ _ (memOf (now (s .args .cells))) (g .get .ensures .0)
-          (g2 .get2 .ensures .0) (now (s .args .b)) _ (t .if1 .left) (g3 .get3 .ensures .0) (s .pre .2),
+      head-listed (now (s .args .b)) (s .args .i) (memOf (now (s .args .cells))) (g .get .ensures .0) (g2 .get2 .ensures .0)
+          (t .if1 .left) (g3 .get3 .ensures .0) (s .pre .2),
     )
 
 same-length-3 : tie.Need-same-length-3
@@ -77,8 +70,10 @@ returns-3 c =
     let a = g .before .before .before .before .args in
     let sys = systemOf (planOf (now (a .b))) in
     acts _ _ _ _
-    (treated sys (a .i) _ _ _ (g .get .ensures .0) (g2 .get2 .ensures .0) _ (t .if1 .left) (g3 .before .before .if2 .left)
-    (g3 .get3 .ensures .0))
+    (treat-goes sys (a .i) _ (g .get .ensures .0) (g3 .get3 .ensures .0) (record {
+      untreated = omega (arith, g .get .ensures .0, g2 .get2 .ensures .0, t .if1 .left);
+      head-room = omega (arith, g .get .ensures .0, g3 .before .before .if2 .left);
+    }))
     (t2 .touch-variables .ensures ∙ ap (touchVariablesM sys (a .i) _ _ (sys .net .variables)) (p .put .ensures))
 
 pub treat-spec : {M : Type 1} → statement M

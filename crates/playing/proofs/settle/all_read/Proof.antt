@@ -1,9 +1,10 @@
 -- `playing::settle::all_read` sees that there is nothing to read. Assumes nothing.
 use mathlib.Core.Path.{_∙_}
+use native.Mathlib.Omega.{arith}
 use borrow.Author.Needs.{needs}
 use borrow.Author.Tests.{leb-true}
 use Rattle.engine.proofs.RunLaws.{read-polls, read-lists}
-use Rattle.reads.proofs.ReadLaws.{read-no-poll, read-all}
+use Rattle.reads.proofs.ReadLaws.{read-no-poll, list-idle}
 use Rattle.playing.proofs.settle.all_read.Statement.{statement}
 use Rattle.playing.proofs.settle.all_read.Tie as tie
 
@@ -33,7 +34,7 @@ get-requires-3 c κs = search needs
 returns-2 : tie.Need-returns-2
 returns-2 c e =
     let g = c .before in
-    read-lists _ _ _ _ (g .before .if1 .left) ∙ read-all _ _ _ (g .get2 .ensures .0) (c .get3 .ensures .0) (leb-true _ _ e)
+    read-lists _ _ _ _ (g .before .if1 .left) ∙ list-idle _ _ _ (λ has. omega (arith, leb-true))
 
 pub all-read-spec : {M : Type 1} → statement M
 all-read-spec =
