@@ -4,6 +4,7 @@ use mathlib.Core.Option.{none, some}
 use mathlib.Core.Path.{_≡_}
 use native.Mathlib.Omega.{arith}
 use borrow.Author.Tests.{lt-ltb, le-ltb, le-leb, lt-leb}
+use Rattle.cells.proofs.ListLaws.{copy-none}
 use Rattle.cells.specs.Layout.{WORKERS, CURSORS, BOUNDS, SENDS, LISTS, HELD, POLLS}
 use Rattle.cells.specs.Lists.{copyM}
 use Rattle.cells.specs.Memory.{Mem, store}
@@ -17,8 +18,7 @@ module _ (m m₁ m₂ m₃ : Mem) where
 
 -- nothing stands between two places the wrong way round
 pub copied-none : (j i from to : ℕ) (m : Mem) → to < from → m ≡ copyM j i from (to - from) m
-unfolding copyM
-copied-none j i from to m h = let e : to - from ≡ 0 = omega arith in rw e
+copied-none j i from to m h = copy-none j i from (to - from) m (omega arith)
 
 module _ (j i : ℕ) (m : Mem) {read sends : ℕ} (q₁ : read ≡ m CURSORS j i) (q₂ : sends ≡ m WORKERS j SENDS) where
   pub read-all : sends ≤ read → readListM j i m ≡ none

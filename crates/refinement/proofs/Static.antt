@@ -29,22 +29,22 @@ module _ (r a b : ℕ) (h : HEADS ≤ r) where
 
   -- ---- an action gives a memory that agrees at the point, or nothing
 
-  data Kept (m : Mem) : Option Mem → Type 0 where
-    idle : Kept m none
-    agrees : {n : Mem} → n r a b ≡ m r a b → Kept m (some n)
+  data PointKept (m : Mem) : Option Mem → Type 0 where
+    idle : PointKept m none
+    agrees : {n : Mem} → n r a b ≡ m r a b → PointKept m (some n)
 
-  kept-if : {m : Mem} (t : Bool) {o p : Option Mem} → Kept m o → Kept m p → Kept m (cond t o p)
+  kept-if : {m : Mem} (t : Bool) {o p : Option Mem} → PointKept m o → PointKept m p → PointKept m (cond t o p)
   kept-if true x y = x
   kept-if false x y = y
 
-  send-kept : (i : ℕ) (m : Mem) → Kept m (sendM i m)
+  send-kept : (i : ℕ) (m : Mem) → PointKept m (sendM i m)
   unfolding sendM sentM
   send-kept i m =
       let stays : sentM i m r a b ≡ m r a b =
       rw (far WORKERS (omega arith), far OUT (omega arith), far BOUNDS (omega arith)) in
       search (kept-if, idle, agrees)
 
-  list-kept : (j i : ℕ) (m : Mem) → Kept m (readListM j i m)
+  list-kept : (j i : ℕ) (m : Mem) → PointKept m (readListM j i m)
   unfolding readListM takenM
   list-kept j i m =
       let stays : takenM j i m r a b ≡ m r a b =
@@ -52,35 +52,35 @@ module _ (r a b : ℕ) (h : HEADS ≤ r) where
       (copy-other j i (listStart j i m) (listEnd j i m - listStart j i m) m r a b (omega arith)) in
       search (kept-if, idle, agrees)
 
-  poll-kept : (i n : ℕ) (m : Mem) → Kept m (readPollM i n m)
+  poll-kept : (i n : ℕ) (m : Mem) → PointKept m (readPollM i n m)
   unfolding readPollM
   poll-kept i n m = kept-if (ltb (m WORKERS i POLLS) n) (agrees (rw (far WORKERS (omega arith)))) idle
 
-  answer-kept : (i : ℕ) (m : Mem) → Kept m (answerM i m)
+  answer-kept : (i : ℕ) (m : Mem) → PointKept m (answerM i m)
   unfolding answerM answeredM
   answer-kept i m =
       let stays : answeredM i m r a b ≡ m r a b = rw (far WORKERS (omega arith), far OUT (omega arith)) in
       search (kept-if, idle, agrees) depth 6
 
-  treat-kept : (sys : System) (i : ℕ) (m : Mem) → Kept m (treatM sys i m)
+  treat-kept : (sys : System) (i : ℕ) (m : Mem) → PointKept m (treatM sys i m)
   unfolding treatM
   treat-kept sys i m =
       kept-if (ltb (m WORKERS i HEAD) (m WORKERS i TAIL))
       (kept-if (ltb (m WORKERS i HEAD) 512)
       (agrees
-      (touch-variables-kept sys i (m WORK i (m WORKERS i HEAD) / 16) (m WORK i (m WORKERS i HEAD) % 16) (sys .net .variables)
+      (touch-variables-kept sys i (m WORK i (m WORKERS i HEAD) / 16) (m WORK i (m WORKERS i HEAD) % 16)
       (store m WORKERS i HEAD (m WORKERS i HEAD + 1)) .static r a b h
       ∙ store-apart m WORKERS i HEAD (m WORKERS i HEAD + 1) r a b (λ e. omega arith)))
       idle)
       idle
 
-  worker-kept : (sys : System) (i d : ℕ) (s : Machine) → Kept (s .mem) (workerM sys i d s)
+  worker-kept : (sys : System) (i d : ℕ) (s : Machine) → PointKept (s .mem) (workerM sys i d s)
   unfolding workerM readM
   worker-kept sys i d s = search (kept-if, treat-kept, send-kept, answer-kept, poll-kept, list-kept)
 
   -- ---- turns
 
-  after-kept : (s : Machine) (o : Option Mem) → Kept (s .mem) o
+  after-kept : (s : Machine) (o : Option Mem) → PointKept (s .mem) o
       → Option·getD (withMem (s .tally) o) s .mem r a b ≡ s .mem r a b
   after-kept s none k = refl
   after-kept s (some n) (agrees e) = e
