@@ -3,6 +3,7 @@ pub mod Bools
 pub mod Bytes
 pub mod Choice
 pub mod Each
+pub mod Loops
 pub mod Members
 pub mod Row
 pub mod Sums

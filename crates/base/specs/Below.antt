@@ -36,3 +36,8 @@ listBelow n f = gatherBelow n (λ i. f i ∷ [])
 abbrev pub firstBelow {ℓ} : {A : Type ℓ} → ℕ → (ℕ → Option A) → Option A
 firstBelow zero f = none
 firstBelow (suc n) f = firstOf (firstBelow n f) (f n)
+
+-- the steps `f 0`, `f 1`, .. one after the other
+unfoldable pub loop : {A : Type 0} → ℕ → (ℕ → A → A) → A → A
+loop zero f a = a
+loop (suc n) f a = f n (loop n f a)

@@ -1,8 +1,10 @@
 pub mod Acting
 pub mod Cleared
+pub mod Done
 pub mod ListLaws
 pub mod Overwritten
 pub mod Queue
 pub mod Ranges
 pub mod Regions
+pub mod RegionsKept
 pub mod Stores

@@ -1,9 +1,9 @@
 -- Laws by which the code of the lists meets its definitions, over plain memories and numbers.
 use Prim.Native.Nat.{ℕ, _+_, _<_, _≤_}
 use mathlib.Core.Path.{_≡_, sym, _∙_, ap}
-use native.Mathlib.Numerals.{add-one}
 use borrow.Author.Tests.{le-ltb}
 use Rattle.base.proofs.Choice.{cond-false}
+use Rattle.base.specs.Below.{loop}
 use Rattle.cells.proofs.Stores.{push-stores}
 use Rattle.cells.specs.Layout.{WORKERS, LOG, WORK, DOMAIN, TAIL, LOGEND}
 use Rattle.cells.specs.Lists.{pushM, deleteM, copyM}
@@ -31,11 +31,8 @@ unfolding deleteM
 deleted i x v m m₁ m₂ m₃ p₁ p₂ p₃ =
     p₃ ∙ ap (pushM WORK TAIL i (labelNumber x v)) (p₂ ∙ ap (pushM LOG LOGEND i (labelNumber x v)) p₁)
 
--- ---- a copy takes one label more
+-- ---- a copy of no label
 
-pub copied : (j i from k c : ℕ) (m m₁ m₂ : Mem) → m₁ ≡ copyM j i from k m → c ≡ m₁ LOG j (from + k)
-    → m₂ ≡ pushM WORK TAIL i c m₁ → m₂ ≡ copyM j i from (k + 1) m
-unfolding copyM
-copied j i from k c m m₁ m₂ p₁ q p₂ =
-    p₂ ∙ ap (λ (d : ℕ). pushM WORK TAIL i d m₁) q ∙ ap (λ (n : Mem). pushM WORK TAIL i (n LOG j (from + k)) n) p₁
-    ∙ ap (λ (n : ℕ). copyM j i from n m) (sym (add-one k))
+pub copy-none : (j i from n : ℕ) (m : Mem) → n ≡ 0 → m ≡ copyM j i from n m
+unfolding copyM loop
+copy-none j i from n m e = rw e

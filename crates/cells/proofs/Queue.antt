@@ -16,8 +16,8 @@ use Rattle.cells.specs.View.{labelNumber, labelOf, Queue, queue, listed,
 
 module _ {A : Type 0} where
   -- what stands in the first queue stands there in the second
-  abbrev pub Kept : Queue A → Queue A → Type 0
-  Kept q q′ = (n : ℕ) → q .start ≤ n → n < q .stop → q′ .place n ≡ q .place n
+  abbrev pub QueueKept : Queue A → Queue A → Type 0
+  QueueKept q q′ = (n : ℕ) → q .start ≤ n → n < q .stop → q′ .place n ≡ q .place n
 
   -- as many places, each with the same content
   queue-shift : (q q′ : Queue A) → q .stop - q .start ≡ q′ .stop - q′ .start
@@ -28,7 +28,7 @@ module _ {A : Type 0} where
       ∙ ap (λ (n : ℕ). listBelow n (λ d. q′ .place (q′ .start + d))) e
 
   -- the same ends
-  pub queue-same : (q q′ : Queue A) → Kept q q′ → q′ .start ≡ q .start → q′ .stop ≡ q .stop → listed q′ ≡ listed q
+  pub queue-same : (q q′ : Queue A) → QueueKept q q′ → q′ .start ≡ q .start → q′ .stop ≡ q .stop → listed q′ ≡ listed q
   queue-same q q′ h a b =
       queue-shift q′ q (omega arith)
       (λ d l. h (q′ .start + d) (omega arith) (omega arith) ∙ ap (λ (k : ℕ). q .place (k + d)) a)
@@ -41,7 +41,7 @@ module _ {A : Type 0} where
       ap (λ (n : ℕ). listBelow n (λ d. q .place (q .start + d))) e
 
   -- one more at the end
-  pub queue-put : (q q′ : Queue A) → Kept q q′ → q .start ≤ q .stop → q′ .start ≡ q .start → q′ .stop ≡ q .stop + 1
+  pub queue-put : (q q′ : Queue A) → QueueKept q q′ → q .start ≤ q .stop → q′ .start ≡ q .start → q′ .stop ≡ q .stop + 1
       → listed q′ ≡ listed q ++ (q′ .place (q .stop) ∷ [])
   unfolding listed
   queue-put q q′ h l a b =
@@ -52,7 +52,7 @@ module _ {A : Type 0} where
       (queue-same q (queue (q′ .start) (q .stop) (q′ .place)) h a refl) (ap (q′ .place) z)
 
   -- the oldest taken
-  pub queue-taken : (q q′ : Queue A) → Kept q q′ → q .start < q .stop → q′ .start ≡ q .start + 1 → q′ .stop ≡ q .stop
+  pub queue-taken : (q q′ : Queue A) → QueueKept q q′ → q .start < q .stop → q′ .start ≡ q .start + 1 → q′ .stop ≡ q .stop
       → listed q ≡ q .place (q .start) ∷ listed q′
   unfolding listed
   queue-taken q q′ h l a b =
@@ -69,7 +69,7 @@ module _ {A : Type 0} where
           sym (h (q .start + suc d) (omega arith) (omega arith)) ∙ ap (q′ .place) (sym y)
 
   -- a read makes something of the oldest and the others, or of an empty queue
-  pub read-queue : {S : Type 0} (from : List A → S) (q q′ : Queue A) (z : S) → Kept q q′ → q′ .start ≡ q .start + 1
+  pub read-queue : {S : Type 0} (from : List A → S) (q q′ : Queue A) (z : S) → QueueKept q q′ → q′ .start ≡ q .start + 1
       → q′ .stop ≡ q .stop → (q .start < q .stop → z ≡ from (q .place (q .start) ∷ listed q′))
       → (q .stop ≤ q .start → z ≡ from []) → z ≡ from (listed q)
   read-queue from q q′ z h a b oldest none =

@@ -1,14 +1,14 @@
 -- Stores, pushes and copies: what is at a point after them.
-use Prim.Native.Nat.{ℕ, zero, suc, _+_, _<_}
+use Prim.Native.Nat.{ℕ, _+_, _<_}
 use mathlib.Core.Bool.{Bool, true, false, cond, _&&_}
-use mathlib.Core.Path.{_≡_, refl, sym, _∙_, ap}
-use native.Mathlib.Numerals.{add-one}
+use mathlib.Core.Path.{_≡_, refl, _∙_}
 use borrow.Author.Tests.{eqb-true, eq-eqb, lt-ltb}
 use lib.Dec.{ltb, eqb}
 use Rattle.base.proofs.Bools.{and-left, and-right, and-intro, refuted}
 use Rattle.base.proofs.Choice.{cond-true, cond-false}
+use Rattle.base.proofs.Loops.{loop-same}
 use Rattle.cells.specs.Layout.{WORKERS, LOG, WORK, TAIL}
-use Rattle.cells.specs.Lists.{pushM, copyM}
+use Rattle.cells.specs.Lists.{pushM, copyLabelM, copyM}
 use Rattle.cells.specs.Memory.{Mem, store}
 
 module _ (m : Mem) (r i j v : ℕ) where
@@ -56,10 +56,5 @@ module _ (q col i c : ℕ) (m : Mem) where
 -- a copy changes the reader's work list alone
 pub copy-other : (j i from n : ℕ) (m : Mem) (r a b : ℕ) → Beside WORK TAIL i r a b → copyM j i from n m r a b ≡ m r a b
 unfolding copyM
-copy-other j i from zero m r a b h = refl
-copy-other j i from (suc n) m r a b h =
-    push-other WORK TAIL i (copyM j i from n m LOG j (from + n)) (copyM j i from n m) r a b h ∙ copy-other j i from n m r a b h
-
--- a recursion by steps has one step more
-pub one-more : (f : ℕ → Mem) (g : Mem → Mem) (k : ℕ) (m n : Mem) → f (suc k) ≡ g (f k) → m ≡ f k → n ≡ g m → n ≡ f (k + 1)
-one-more f g k m n e p q = q ∙ ap g p ∙ sym e ∙ ap f (sym (add-one k))
+copy-other j i from n m r a b h =
+    loop-same (λ o. o r a b) n (copyLabelM j i from) (λ k l o. push-other WORK TAIL i (o LOG j (from + k)) o r a b h) m

@@ -1,10 +1,11 @@
 -- The work list and the log in memory: pushing a label, deleting one, and copying a list message.
-use Prim.Native.Nat.{ℕ, zero, suc, _+_, _<_, _≤_}
+use Prim.Native.Nat.{ℕ, _+_, _<_, _≤_}
 use mathlib.Core.Bool.{cond}
 use mathlib.Core.List.{List}
 use mathlib.Core.Path.{_≡_}
 use lib.Dec.{ltb}
 use lib.ListN.{length}
+use Rattle.base.specs.Below.{loop}
 use Rattle.cells.specs.Layout.{WORKERS, LOG, WORK, DOMAIN, BEHIND, TAIL, LOGEND, WORKCELLS, LABELROOM, regionAt}
 use Rattle.cells.specs.Memory.{Mem, store}
 use Rattle.cells.specs.View.{labelNumber}
@@ -33,7 +34,10 @@ unfoldable pub deleteM : ℕ → ℕ → ℕ → Mem → Mem
 deleteM i x v m =
     pushM WORK TAIL i (labelNumber x v) (pushM LOG LOGEND i (labelNumber x v) (store m DOMAIN x v 0))
 
--- the first `n` labels behind `from` in row `j`'s log join the end of row `i`'s work list
+-- label `k` behind `from` in row `j`'s log joins the end of row `i`'s work list
+abbrev pub copyLabelM : ℕ → ℕ → ℕ → ℕ → Mem → Mem
+copyLabelM j i from k m = pushM WORK TAIL i (m LOG j (from + k)) m
+
+-- so do the first `n`
 unfoldable pub copyM : ℕ → ℕ → ℕ → ℕ → Mem → Mem
-copyM j i from zero m = m
-copyM j i from (suc n) m = pushM WORK TAIL i (copyM j i from n m LOG j (from + n)) (copyM j i from n m)
+copyM j i from n = loop n (copyLabelM j i from)

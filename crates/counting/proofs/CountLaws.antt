@@ -3,7 +3,7 @@ use Prim.Native.Nat.{ℕ, _+_, _^_, _<_, _≤_}
 use mathlib.Core.Bool.{Bool, true, false, cond, _&&_}
 use mathlib.Core.List.{List}
 use mathlib.Core.Option.{none}
-use mathlib.Core.Path.{_≡_, refl, sym, _∙_, ap, ap₂}
+use mathlib.Core.Path.{_≡_, sym, _∙_, ap, ap₂}
 use native.Mathlib.Omega.{arith}
 use lib.ListN.{getD, set, length-set}
 use lib.Seq.{getD-set-same, getD-set-other}
@@ -12,20 +12,17 @@ use Rattle.base.proofs.Choice.{cond-true, cond-false}
 use Rattle.base.proofs.Row.{row-bit, row-small, row-ext, row-more, row-low}
 use Rattle.base.specs.Row.{bit, rowOf}
 use Rattle.disac4.specs.System.{System}
-use Rattle.network.specs.Network.{supports, supportCount}
+use Rattle.network.specs.Network.{supports}
 use Rattle.plan.proofs.Links.{linked-symmetric}
 use Rattle.plan.proofs.Pairs.{allowed-symmetric}
 use Rattle.plan.proofs.Parts.{size-read}
 use Rattle.plan.specs.Decode.{planFault, planOf}
 use Rattle.plan.specs.Network.{shareConstraint, networkOf}
 use Rattle.plan.specs.Plan.{Plan}
-use Rattle.cells.proofs.Stores.{one-more}
-use Rattle.cells.specs.Layout.{COUNTERS}
-use Rattle.cells.specs.Memory.{Mem, store}
-use Rattle.cells.specs.View.{counterRow}
+use Rattle.cells.specs.Memory.{Mem}
 use Rattle.index.proofs.Permitted.{linked-inside}
 use Rattle.index.proofs.Places.{few-values}
-use Rattle.counting.specs.Count.{Rows, supportRow, countPairM, countAgainstM, countBothM, countVariableM, countM}
+use Rattle.counting.specs.Count.{Rows, supportRow, countPairM, countAgainstM, countBothM}
 
 -- a variable has at most 16 values, so a row of them fits a cell
 module _ (b : List ℕ) (sound : planFault b ≡ none) (x y : ℕ) (e : shareConstraint (planOf b) x y ≡ true) where
@@ -85,31 +82,14 @@ module _ (plan : Plan) (x y : ℕ) where
         ∙ ap₂ _&&_ (linked-symmetric plan x y) (allowed-symmetric plan x v y w));
   }
 
--- ---- one value more, both directions, one variable more
+-- ---- both directions
 
-module _ (sys : System) where
-  pub counter-more : (x y v : ℕ) (m m₁ m₂ : Mem) (row count : ℕ) → m₁ ≡ countPairM sys x y v m → row ≡ counterRow m x y
-      → count ≡ supportCount (sys .net) x v y → m₂ ≡ store m₁ COUNTERS row v count → m₂ ≡ countPairM sys x y (v + 1) m
-  unfolding countPairM
-  counter-more x y v m m₁ m₂ row count p r c e =
-      one-more (λ n. countPairM sys x y n m) (λ o. store o COUNTERS (counterRow m x y) v (supportCount (sys .net) x v y)) v m₁ m₂
-      refl p (e ∙ rw (r, c) refl)
-
-  pub both-linked : (x y : ℕ) (m m₁ m₂ : Mem) → sys .net .linked x y ≡ true → sys .net .linked y x ≡ true
-      → m₁ ≡ countPairM sys x y (sys .net .size x) m → m₂ ≡ countPairM sys y x (sys .net .size y) m₁ → m₂ ≡ countBothM sys x y m
+module _ (sys : System) (x y : ℕ) (m : Mem) where
+  pub both-linked : (m₁ m₂ : Mem) → sys .net .linked x y ≡ true → sys .net .linked y x ≡ true → m₁ ≡ countPairM sys x y m
+      → m₂ ≡ countPairM sys y x m₁ → m₂ ≡ countBothM sys x y m
   unfolding countBothM countAgainstM
-  both-linked x y m m₁ m₂ l l′ p q =
-      q ∙ ap (countPairM sys y x (sys .net .size y)) (p ∙ sym (cond-true _ m l)) ∙ sym (cond-true _ _ l′)
+  both-linked m₁ m₂ l l′ p q = q ∙ ap (countPairM sys y x) (p ∙ sym (cond-true _ m l)) ∙ sym (cond-true _ _ l′)
 
-  pub both-apart : (x y : ℕ) (m : Mem) → sys .net .linked x y ≡ false → sys .net .linked y x ≡ false → m ≡ countBothM sys x y m
+  pub both-apart : sys .net .linked x y ≡ false → sys .net .linked y x ≡ false → m ≡ countBothM sys x y m
   unfolding countBothM countAgainstM
-  both-apart x y m l l′ = sym (cond-false _ _ l′ ∙ cond-false _ m l)
-
-  pub variable-more : (x y : ℕ) (m m₁ m₂ : Mem) → m₁ ≡ countVariableM sys x y m → m₂ ≡ countBothM sys y x m₁
-      → m₂ ≡ countVariableM sys x (y + 1) m
-  unfolding countVariableM
-  variable-more x y m m₁ m₂ = one-more (λ n. countVariableM sys x n m) (countBothM sys y x) y m₁ m₂ refl
-
-  pub counted-more : (x : ℕ) (m m₁ m₂ : Mem) → m₁ ≡ countM sys x m → m₂ ≡ countVariableM sys x x m₁ → m₂ ≡ countM sys (x + 1) m
-  unfolding countM
-  counted-more x m m₁ m₂ = one-more (λ n. countM sys n m) (countVariableM sys x x) x m₁ m₂ refl
+  both-apart l l′ = sym (cond-false _ _ l′ ∙ cond-false _ m l)

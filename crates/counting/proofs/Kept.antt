@@ -1,33 +1,41 @@
--- Counting keeps the plan's index.
-use Prim.Native.Nat.{ℕ, zero, suc}
+-- Counting writes the counters alone; so it keeps the plan's index.
+use Prim.Native.Nat.{ℕ}
+use mathlib.Core.Path.{_≡_, refl}
 use native.Mathlib.Omega.{arith}
 use Rattle.disac4.specs.System.{System}
-use Rattle.network.specs.Network.{supportCount}
+use Rattle.cells.proofs.RegionsKept.{RegionsKept, same, then, either, repeated, stored, fewer}
 use Rattle.cells.specs.Layout.{COUNTERS}
 use Rattle.cells.specs.Memory.{Mem}
 use Rattle.cells.specs.View.{counterRow}
-use Rattle.index.proofs.Kept.{Kept, same, then, repeated, either, stored}
-use Rattle.counting.specs.Count.{countPairM, countAgainstM, countBothM, countVariableM, countM}
+use Rattle.index.proofs.Kept.{IndexKept}
+use Rattle.counting.specs.Count.{countValueM, countPairM, countAgainstM, countBothM, countVariableM, countSupportsM}
+
+-- beside the counters, `n` is what `m` is
+abbrev pub SameElse : Mem → Mem → Type 0
+SameElse = RegionsKept (λ r. r ≡ COUNTERS → ⊥)
+
+-- so the index is kept
+pub counters-alone : {m n : Mem} → SameElse m n → IndexKept m n
+counters-alone = fewer (λ r h. omega arith)
 
 module _ (sys : System) where
-  pub pair-kept : (x y n : ℕ) {m : Mem} → Kept m (countPairM sys x y n m)
+  pub pair-else : (x y : ℕ) (m : Mem) → SameElse m (countPairM sys x y m)
   unfolding countPairM
-  pair-kept x y zero = same
-  pair-kept x y (suc n) {m} =
-      stored COUNTERS (counterRow m x y) n (supportCount (sys .net) x n y) (omega arith) (pair-kept x y n)
+  pair-else x y m =
+      repeated (countValueM sys x y (counterRow m x y)) (λ v o. stored COUNTERS (counterRow m x y) v _ (λ d. d refl) same) _ m
 
-  against-kept : (x y : ℕ) (m : Mem) → Kept m (countAgainstM sys x y m)
+  pub against-else : (x y : ℕ) (m : Mem) → SameElse m (countAgainstM sys x y m)
   unfolding countAgainstM
-  against-kept x y m = either (sys .net .linked x y) (pair-kept x y (sys .net .size x)) same
+  against-else x y m = either (sys .net .linked x y) (pair-else x y m) same
 
-  both-kept : (x y : ℕ) (m : Mem) → Kept m (countBothM sys x y m)
+  pub both-else : (x y : ℕ) (m : Mem) → SameElse m (countBothM sys x y m)
   unfolding countBothM
-  both-kept x y m = then (against-kept x y m) (against-kept y x (countAgainstM sys x y m))
+  both-else x y m = then (against-else x y m) (against-else y x (countAgainstM sys x y m))
 
-  pub variable-kept : (x n : ℕ) (m : Mem) → Kept m (countVariableM sys x n m)
+  pub variable-else : (x : ℕ) (m : Mem) → SameElse m (countVariableM sys x m)
   unfolding countVariableM
-  variable-kept x = repeated (countVariableM sys x) (λ m. same) (λ n m. both-kept n x (countVariableM sys x n m))
+  variable-else x = repeated (λ y. countBothM sys y x) (λ y. both-else y x) x
 
-  pub count-kept : (n : ℕ) (m : Mem) → Kept m (countM sys n m)
-  unfolding countM
-  count-kept = repeated (countM sys) (λ m. same) (λ n m. variable-kept n n (countM sys n m))
+  pub count-else : (m : Mem) → SameElse m (countSupportsM sys m)
+  unfolding countSupportsM
+  count-else = repeated (countVariableM sys) variable-else (sys .net .variables)

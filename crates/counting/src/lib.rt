@@ -18,7 +18,7 @@ ghost use Rattle.plan.specs.WellFormed.{sizeOf};
 ghost use Rattle.format.specs.Format.{variableCount};
 ghost use Rattle.index.specs.Index.{Ready};
 ghost use Rattle.cells.specs.Memory.{memOf};
-ghost use Rattle.counting.specs.Count.{Rows, supportRow, countPairM, countBothM, countVariableM, countM};
+ghost use Rattle.counting.specs.Count.{Rows, supportRow, countPairM, countBothM, countVariableM, countSupportsM};
 
 // Rows without a value.
 fn no_rows() -> [u16; 16]
@@ -60,7 +60,7 @@ fn support_rows(b: &[u8], cells: &[u16], x: usize, y: usize, others: &mut [u16; 
 // The counters of the values of x against y, whose rows are given. Every count is made by the function that calls itself.
 fn put_counts(b: &[u8], cells: &mut [u16], x: usize, y: usize, rows: &[u16; 16])
     requires { ⌜ Ready (now b) (now cells) × (shareConstraint (planOf (now b)) x y ≡ true) × Rows (supportRow (networkOf (planOf (now b))) x y) (sizeOf (planOf (now b)) x) (now rows) ⌝ }
-    ensures { λ _. ⌜ memOf (now (cells .exit)) ≡ countPairM (systemOf (planOf (now (b .entry)))) x y (sizeOf (planOf (now (b .entry))) x) (memOf (now (cells .entry))) ⌝ }
+    ensures { λ _. ⌜ memOf (now (cells .exit)) ≡ countPairM (systemOf (planOf (now (b .entry)))) x y (memOf (now (cells .entry))) ⌝ }
 {
     let n = parts::size(b, cells, x);
     let at = parts::counter_row(cells, x, y);
@@ -87,7 +87,7 @@ fn count_both(b: &[u8], cells: &mut [u16], x: usize, y: usize)
 // The counters of x and each variable before it, from the rows of that one: a table has those as they are.
 fn count_variable(b: &[u8], cells: &mut [u16], x: usize)
     requires { ⌜ Ready (now b) (now cells) × (x < variableCount (now b)) ⌝ }
-    ensures { λ _. ⌜ memOf (now (cells .exit)) ≡ countVariableM (systemOf (planOf (now (b .entry)))) x x (memOf (now (cells .entry))) ⌝ }
+    ensures { λ _. ⌜ memOf (now (cells .exit)) ≡ countVariableM (systemOf (planOf (now (b .entry)))) x (memOf (now (cells .entry))) ⌝ }
 {
     let mut y = 0;
     while y < x {
@@ -99,7 +99,7 @@ fn count_variable(b: &[u8], cells: &mut [u16], x: usize)
 // The counters of each two variables.
 pub fn count_supports(b: &[u8], cells: &mut [u16])
     requires { ⌜ Ready (now b) (now cells) ⌝ }
-    ensures { λ _. ⌜ memOf (now (cells .exit)) ≡ countM (systemOf (planOf (now (b .entry)))) (systemOf (planOf (now (b .entry))) .net .variables) (memOf (now (cells .entry))) ⌝ }
+    ensures { λ _. ⌜ memOf (now (cells .exit)) ≡ countSupportsM (systemOf (planOf (now (b .entry)))) (memOf (now (cells .entry))) ⌝ }
 {
     let n = read::variable_count(b);
     let mut x = 0;

@@ -5,7 +5,6 @@ use mathlib.Core.List.{List}
 use mathlib.Core.Logic.{_⊎_, ⊎-elim}
 use mathlib.Core.Option.{none}
 use mathlib.Core.Path.{_≡_, sym, _∙_, ap}
-use native.Mathlib.Nat.{le-refl}
 use native.Mathlib.Omega.{arith}
 use lib.Dec.{eqb}
 use Rattle.base.specs.Below.{anyBelow}
@@ -17,7 +16,7 @@ use Rattle.index.specs.Index.{over, chainBelow, Indexed, placesM, chains
 use Rattle.cells.specs.Layout.{HEADS, PLACES, NEXT, FIRST, FOLLOW}
 use Rattle.cells.specs.Memory.{Mem}
 use Rattle.plan.specs.Decode.{planFault}
-use Rattle.format.specs.Format.{variableCount, constraintCount, sectionCount}
+use Rattle.format.specs.Format.{constraintCount}
 
 -- a test is the contrary of its contrary
 not-turned : (a b : Bool) → a ≡ not b → b ≡ not a
@@ -29,42 +28,36 @@ pub indexed : (b : List ℕ) → planFault b ≡ none → (m : Mem) → ((x y : 
     → ((i y : ℕ) → m FIRST i y ≡ 0) → Indexed b (indexM b m)
 unfolding indexM
 indexed b none-found m empty unled =
-    let n = sectionCount b in
     let c = constraintCount b in
-    let l = chainsM b c (placesM b n m) in
-    let empty′ : (x y : ℕ) → placesM b n m HEADS x y ≡ 0 =
-    λ x y. places-keep b n m HEADS x y (λ e. omega arith) ∙ empty x y in
+    let p = placesM b m in
+    let l = chainsM b p in
+    let empty′ : (x y : ℕ) → p HEADS x y ≡ 0 = λ x y. places-keep b m HEADS x y (λ e. omega arith) ∙ empty x y in
     let unled′ : (i y : ℕ) → l FIRST i y ≡ 0 =
     λ i y.
-    chains-keep b c (placesM b n m) FIRST i y (λ e. omega arith) (λ e. omega arith)
-    ∙ places-keep b n m FIRST i y (λ e. omega arith) ∙ unled i y in
-    let v = variableCount b in
-    let kept : (r i j : ℕ) → r < FIRST → ownM b v l r i j ≡ l r i j =
-    λ r i j h. own-keeps b l v r i j (λ e. omega arith) (λ e. omega arith) in
+    chains-keep b p FIRST i y (λ e. omega arith) (λ e. omega arith) ∙ places-keep b m FIRST i y (λ e. omega arith) ∙ unled i y in
+    let kept : (r i j : ℕ) → r < FIRST → ownM b l r i j ≡ l r i j =
+    λ r i j h. own-keeps b l r i j (λ e. omega arith) (λ e. omega arith) in
     let linked : (x y : ℕ) → eqb (l HEADS x y) 0 ≡ not (anyBelow c (over b x y)) =
     λ x y.
-    ap (λ (h : ℕ). eqb h 0) (chains-heads b none-found (placesM b n m) empty′ c (le-refl c) x y)
+    ap (λ (h : ℕ). eqb h 0) (chains-heads b none-found p empty′ x y)
     ∙ not-turned (anyBelow c (over b x y)) (eqb (chainBelow b x y c) 0) (last-any (over b x y) c) in
     record {
       places = λ k h.
           kept PLACES 0 k (omega arith)
-          ∙ chains-keep b c (placesM b n m) PLACES 0 k (λ e. omega arith) (λ e. omega arith) ∙ places-at b n m k h;
-      heads = λ x y. kept HEADS x y (omega arith) ∙ chains-heads b none-found (placesM b n m) empty′ c (le-refl c) x y;
-      nexts = λ k h x y o.
-          kept NEXT 0 k (omega arith) ∙ chains-nexts b none-found (placesM b n m) empty′ c (le-refl c) k h x y o;
-      first = own-first b none-found l linked unled′ v (le-refl v);
-      follow = λ i h x y. own-follow b none-found l linked unled′ v (le-refl v) i h x y (omega arith);
+          ∙ chains-keep b p PLACES 0 k (λ e. omega arith) (λ e. omega arith) ∙ places-at b m k h;
+      heads = λ x y. kept HEADS x y (omega arith) ∙ chains-heads b none-found p empty′ x y;
+      nexts = λ k h x y o. kept NEXT 0 k (omega arith) ∙ chains-nexts b none-found p empty′ k h x y o;
+      first = own-first b none-found l linked unled′;
+      follow = own-follow b none-found l linked unled′;
     }
 
 -- every region but the index's own is as it was
 pub index-keeps : (b : List ℕ) (m : Mem) (r : ℕ) → (r < HEADS) ⊎ (FOLLOW < r) → (i j : ℕ) → indexM b m r i j ≡ m r i j
 unfolding indexM
 index-keeps b m r apart i j =
-    own-keeps b (chainsM b (constraintCount b) (placesM b (sectionCount b) m)) (variableCount b) r i j
-    (other FIRST (omega arith) (omega arith)) (other FOLLOW (omega arith) (omega arith))
-    ∙ chains-keep b (constraintCount b) (placesM b (sectionCount b) m) r i j (other HEADS (omega arith) (omega arith))
-    (other NEXT (omega arith) (omega arith))
-    ∙ places-keep b (sectionCount b) m r i j (other PLACES (omega arith) (omega arith))
+    own-keeps b (chainsM b (placesM b m)) r i j (other FIRST (omega arith) (omega arith)) (other FOLLOW (omega arith) (omega arith))
+    ∙ chains-keep b (placesM b m) r i j (other HEADS (omega arith) (omega arith)) (other NEXT (omega arith) (omega arith))
+    ∙ places-keep b m r i j (other PLACES (omega arith) (omega arith))
   where
     other : (s : ℕ) → HEADS ≤ s → s ≤ FOLLOW → r ≡ s → ⊥
     other s l h e = ⊎-elim (λ (p : r < HEADS). omega arith) (λ (p : FOLLOW < r). omega arith) apart

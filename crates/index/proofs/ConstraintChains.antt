@@ -1,22 +1,23 @@
 -- The memory with the chains of constraints in it.
-use Prim.Native.Nat.{ℕ, zero, suc, _+_, _-_, _<_, _≤_}
+use Prim.Native.Nat.{ℕ, suc, _+_, _-_, _<_, _≤_}
 use mathlib.Core.Bool.{true, false}
 use mathlib.Core.List.{List}
-use mathlib.Core.Logic.{⊎-elim}
+use mathlib.Core.Logic.{_⊎_, inl, inr, ⊎-elim}
 use mathlib.Core.Option.{none}
-use mathlib.Core.Path.{_≡_, refl, sym, _∙_}
-use native.Mathlib.Nat.{not-suc-le-zero}
+use mathlib.Core.Path.{_≡_, sym, _∙_}
+use native.Mathlib.Nat.{le-refl}
 use native.Mathlib.Numerals.{add-one}
 use native.Mathlib.Omega.{arith}
-use Rattle.base.proofs.Below.{below-cases}
 use Rattle.base.proofs.Bools.{decided, clash}
+use Rattle.base.proofs.Loops.{loop-carries, loop-same, loop-from}
+use Rattle.base.specs.Below.{loop}
 use Rattle.cells.proofs.Stores.{store-same, store-other, store-apart}
 use Rattle.cells.specs.Layout.{HEADS, NEXT}
 use Rattle.cells.specs.Memory.{Mem, store}
 use Rattle.format.specs.Format.{constraintCount, firstAt, secondAt}
 use Rattle.index.proofs.Ends.{Ends, ends, ends-over, over-ends, over-turned}
 use Rattle.index.proofs.Nearest.{near-none, near-here, near-past, near-ext}
-use Rattle.index.specs.Index.{over, chainBelow, linkM, constraintStart, chainsM}
+use Rattle.index.specs.Index.{over, chainBelow, linkM, constraintStart, chainM, chainsM}
 use Rattle.plan.specs.Decode.{planFault}
 
 -- ---- one constraint in front of its chain
@@ -31,7 +32,7 @@ module _ (x y c : ℕ) (m : Mem) where
       ∙ store-same m NEXT 0 c (m HEADS x y)
 
   -- other regions, and what the other constraints go on with, are as they were
-  link-keeps : (r i j : ℕ) → (r ≡ HEADS → ⊥) → (r ≡ NEXT → j ≡ c → ⊥) → linkM x y c m r i j ≡ m r i j
+  pub link-keeps : (r i j : ℕ) → (r ≡ HEADS → ⊥) → (r ≡ NEXT → j ≡ c → ⊥) → linkM x y c m r i j ≡ m r i j
   unfolding linkM
   link-keeps r i j h l =
       store-apart (store (store m NEXT 0 c (m HEADS x y)) HEADS x y (c + 1)) HEADS y x (c + 1) r i j h
@@ -67,52 +68,47 @@ module _ (b : List ℕ) (c f s : ℕ) (e : Ends b c f s) (m : Mem) (x y : ℕ) w
 -- ---- the chains
 
 -- writing the chains touches no other region
-pub chains-keep : (b : List ℕ) (k : ℕ) (m : Mem) (r i j : ℕ) → (r ≡ HEADS → ⊥) → (r ≡ NEXT → ⊥)
-    → chainsM b k m r i j ≡ m r i j
+pub chains-keep : (b : List ℕ) (m : Mem) (r i j : ℕ) → (r ≡ HEADS → ⊥) → (r ≡ NEXT → ⊥) → chainsM b m r i j ≡ m r i j
 unfolding chainsM
-chains-keep b zero m r i j h l = refl
-chains-keep b (suc k) m r i j h l =
-    link-keeps (firstAt b (constraintStart b k) - 1) (secondAt b (constraintStart b k) - 1) k (chainsM b k m) r i j h
-    (λ p e. l p)
-    ∙ chains-keep b k m r i j h l
+chains-keep b m r i j h l =
+    loop-same (λ o. o r i j) (constraintCount b) (chainM b) (λ c k o. link-keeps _ _ c o r i j h (λ p e. l p)) m
 
 -- from a memory without chains
 module _ (b : List ℕ) (none-found : planFault b ≡ none) (m : Mem) (empty : (x y : ℕ) → m HEADS x y ≡ 0) where
-  -- each chain begins with the last constraint
-  pub chains-heads : (k : ℕ) → k ≤ constraintCount b → (x y : ℕ) → chainsM b k m HEADS x y ≡ chainBelow b x y k
-  unfolding chainsM
-  chains-heads zero h x y = empty x y ∙ sym (near-none (λ c. c) (over b x y))
-  chains-heads (suc k) h x y =
+  -- each chain begins with the last of the first `k` constraints
+  heads-below : (k : ℕ) → k ≤ constraintCount b → (x y : ℕ) → loop k (chainM b) m HEADS x y ≡ chainBelow b x y k
+  heads-below k h x y =
+      loop-carries (λ k o. o HEADS x y ≡ chainBelow b x y k) k (chainM b) m
+      (λ c l before.
       ⊎-elim
-      (λ p. link-here b k _ _ (ends b none-found k h) (chainsM b k m) x y p ∙ sym (near-here (λ c. c) (over b x y) k p))
       (λ p.
-      link-past b k _ _ (ends b none-found k h) (chainsM b k m) x y p ∙ chains-heads k (omega arith) x y
-      ∙ sym (near-past (λ c. c) (over b x y) k p))
-      (decided (over b x y k))
+      link-here b c _ _ (ends b none-found c (omega arith)) (loop c (chainM b) m) x y p
+      ∙ sym (near-here (λ c. c) (over b x y) c p))
+      (λ p.
+      link-past b c _ _ (ends b none-found c (omega arith)) (loop c (chainM b) m) x y p ∙ before
+      ∙ sym (near-past (λ c. c) (over b x y) c p))
+      (decided (over b x y c)))
+      (empty x y ∙ sym (near-none (λ c. c) (over b x y)))
+
+  -- so it does when all are linked
+  pub chains-heads : (x y : ℕ) → chainsM b m HEADS x y ≡ chainBelow b x y (constraintCount b)
+  unfolding chainsM
+  chains-heads = heads-below (constraintCount b) (le-refl (constraintCount b))
 
   -- and goes on with the one before
-  pub chains-nexts : (k : ℕ) → k ≤ constraintCount b → (c : ℕ) → c < k → (x y : ℕ) → over b x y c ≡ true
-      → chainsM b k m NEXT 0 c ≡ chainBelow b x y c
+  pub chains-nexts : (c : ℕ) → c < constraintCount b → (x y : ℕ) → over b x y c ≡ true → chainsM b m NEXT 0 c ≡ chainBelow b x y c
   unfolding chainsM
-  chains-nexts zero h c l x y p = absurd (not-suc-le-zero l)
-  chains-nexts (suc k) h c l x y p =
-      ⊎-elim
-      (λ e.
-      rw e (link-next f s k (chainsM b k m) ∙ chains-heads k (omega arith) f s ∙ same (rw e at p)))
-      (λ q.
-      link-keeps f s k (chainsM b k m) NEXT 0 c (λ r. omega arith) (λ r e. omega arith)
-      ∙ chains-nexts k (omega arith) c q x y p)
-      (below-cases l)
+  chains-nexts c h x y p =
+      loop-from (λ o. o NEXT 0 c ≡ chainBelow b x y c) (constraintCount b) (chainM b) m c h
+      (link-next f s c (loop c (chainM b) m) ∙ heads-below c (omega arith) f s ∙ same (over-ends b c f s (ends b none-found c h) x y p))
+      (λ k after inside o e. link-keeps _ _ k o NEXT 0 c (λ r. omega arith) (λ r q. omega arith) ∙ e)
     where
       f : ℕ
-      f = firstAt b (constraintStart b k) - 1
+      f = firstAt b (constraintStart b c) - 1
 
       s : ℕ
-      s = secondAt b (constraintStart b k) - 1
+      s = secondAt b (constraintStart b c) - 1
 
-      same : over b x y k ≡ true → chainBelow b f s k ≡ chainBelow b x y k
-      same q =
-          ⊎-elim (λ (r : (x ≡ f) × (y ≡ s)). rw (r .0, r .1))
-          (λ (r : (x ≡ s) × (y ≡ f)).
-          rw (r .0, r .1) (near-ext (λ c. c) (over b f s) (over b s f) (over-turned b f s) k))
-          (over-ends b k f s (ends b none-found k h) x y q)
+      same : ((x ≡ f) × (y ≡ s)) ⊎ ((x ≡ s) × (y ≡ f)) → chainBelow b f s c ≡ chainBelow b x y c
+      same (inl e) = rw (e .0, e .1)
+      same (inr e) = rw (e .0, e .1) (near-ext (λ c. c) (over b f s) (over b s f) (over-turned b f s) c)

@@ -1,16 +1,15 @@
 -- A variable in front of its owner's chains: which points of the memory change.
-use Prim.Native.Nat.{ℕ, zero, suc, _+_, _<_}
+use Prim.Native.Nat.{ℕ, suc, _+_, _<_}
 use mathlib.Core.Bool.{Bool, true, false, cond, _&&_}
-use mathlib.Core.Logic.{⊎-elim}
 use mathlib.Core.Path.{_≡_, refl, sym, _∙_, ap, ap₂}
 use borrow.Author.Tests.{eq-eqb, ne-eqb}
-use native.Mathlib.Nat.{not-suc-le-zero}
 use native.Mathlib.Numerals.{add-one}
 use native.Mathlib.Omega.{arith}
 use lib.Dec.{eqb}
-use Rattle.base.proofs.Below.{below-cases}
 use Rattle.base.proofs.Choice.{cond-true, cond-false}
-use Rattle.index.specs.Index.{leadM, leadsM}
+use Rattle.base.proofs.Loops.{loop-same, loop-from}
+use Rattle.base.specs.Below.{loop}
+use Rattle.index.specs.Index.{leadM}
 use Rattle.cells.proofs.Stores.{store-same, store-other, store-apart}
 use Rattle.cells.specs.Layout.{HEADS, FIRST, FOLLOW}
 use Rattle.cells.specs.Memory.{Mem, store}
@@ -41,12 +40,10 @@ module _ (i x : ℕ) where
 
   -- all of them: the columns behind, the other rows and the other regions are as they were
   pub leads-same : (n : ℕ) (m : Mem) (r k j : ℕ) → (r ≡ FIRST → k ≡ i → j < n → ⊥) → (r ≡ FOLLOW → k ≡ x → j < n → ⊥)
-      → leadsM i x n m r k j ≡ m r k j
-  unfolding leadsM
-  leads-same zero m r k j h l = refl
-  leads-same (suc n) m r k j h l =
-      lead-same n (leadsM i x n m) r k j (λ p q e. h p q (omega arith)) (λ p q e. l p q (omega arith))
-      ∙ leads-same n m r k j (λ p q e. h p q (omega arith)) (λ p q e. l p q (omega arith))
+      → loop n (leadM i x) m r k j ≡ m r k j
+  leads-same n m r k j h l =
+      loop-same (λ o. o r k j) n (leadM i x)
+      (λ y c o. lead-same y o r k j (λ p q e. h p q (omega arith)) (λ p q e. l p q (omega arith))) m
 
   -- what it puts into its column hangs on that column alone
   lead-column : (y : ℕ) (m n : Mem) → ((r k : ℕ) → n r k y ≡ m r k y) → (r k : ℕ) → leadM i x y n r k y ≡ leadM i x y m r k y
@@ -65,32 +62,25 @@ module _ (i x : ℕ) where
           (same FIRST i) (same r k)
 
   -- so each column is as if its own step were the only one
-  leads-column : (n : ℕ) (m : Mem) (r k y : ℕ) → y < n → leadsM i x n m r k y ≡ leadM i x y m r k y
-  unfolding leadsM
-  leads-column zero m r k y h = absurd (not-suc-le-zero h)
-  leads-column (suc n) m r k y h =
-      ⊎-elim
-      (λ e.
-      rw e
-      (lead-column n m (leadsM i x n m)
-      (λ r k. leads-same n m r k n (λ p q l. omega arith) (λ p q l. omega arith)) r k))
-      (λ l.
-      lead-same n (leadsM i x n m) r k y (λ p q e. omega arith) (λ p q e. omega arith) ∙ leads-column n m r k y l)
-      (below-cases h)
+  leads-column : (n : ℕ) (m : Mem) (r k y : ℕ) → y < n → loop n (leadM i x) m r k y ≡ leadM i x y m r k y
+  leads-column n m r k y h =
+      loop-from (λ o. o r k y ≡ leadM i x y m r k y) n (leadM i x) m y h
+      (lead-column y m (loop y (leadM i x) m) (λ r k. leads-same y m r k y (λ p q l. omega arith) (λ p q l. omega arith)) r k)
+      (λ z after inside o e. lead-same z o r k y (λ p q e. omega arith) (λ p q e. omega arith) ∙ e)
 
   -- the column of a variable that is not linked is as it was
-  pub leads-none : (n : ℕ) (m : Mem) (r k y : ℕ) → y < n → eqb (m HEADS x y) 0 ≡ true → leadsM i x n m r k y ≡ m r k y
+  pub leads-none : (n : ℕ) (m : Mem) (r k y : ℕ) → y < n → eqb (m HEADS x y) 0 ≡ true → loop n (leadM i x) m r k y ≡ m r k y
   leads-none n m r k y h e = leads-column n m r k y h ∙ ap (λ (o : Mem). o r k y) (lead-none y m e)
 
   -- in that of a linked one, the variable comes first
-  pub leads-first : (n : ℕ) (m : Mem) (y : ℕ) → y < n → eqb (m HEADS x y) 0 ≡ false → leadsM i x n m FIRST i y ≡ suc x
+  pub leads-first : (n : ℕ) (m : Mem) (y : ℕ) → y < n → eqb (m HEADS x y) 0 ≡ false → loop n (leadM i x) m FIRST i y ≡ suc x
   leads-first n m y h e =
       leads-column n m FIRST i y h ∙ ap (λ (o : Mem). o FIRST i y) (lead-made y m e)
       ∙ store-same (store m FOLLOW x y (m FIRST i y)) FIRST i y (x + 1) ∙ add-one x
 
   -- and what came first follows it
   pub leads-follow : (n : ℕ) (m : Mem) (y : ℕ) → y < n → eqb (m HEADS x y) 0 ≡ false
-      → leadsM i x n m FOLLOW x y ≡ m FIRST i y
+      → loop n (leadM i x) m FOLLOW x y ≡ m FIRST i y
   leads-follow n m y h e =
       leads-column n m FOLLOW x y h ∙ ap (λ (o : Mem). o FOLLOW x y) (lead-made y m e)
       ∙ store-apart (store m FOLLOW x y (m FIRST i y)) FIRST i y (x + 1) FOLLOW x y (λ p. omega arith)

@@ -3,15 +3,15 @@ use Prim.Native.Nat.{ℕ, zero, suc, _+_, _*_, _-_, _<_, _≤_}
 use mathlib.Core.List.{List}
 use mathlib.Core.Logic.{⊎-elim}
 use mathlib.Core.Option.{none}
-use mathlib.Core.Path.{_≡_, refl, _∙_, ap}
+use mathlib.Core.Path.{_≡_, _∙_, ap}
 use borrow.Author.Tests.{leb-true, eqb-true}
-use native.Mathlib.Nat.{not-suc-le-zero}
 use native.Mathlib.Omega.{arith}
 use lib.Dec.{eqb}
 use lib.ListN.{length}
-use Rattle.base.proofs.Below.{below-cases}
 use Rattle.base.proofs.Bools.{decided}
 use Rattle.base.proofs.Choice.{cond-true, cond-false}
+use Rattle.base.proofs.Loops.{loop-same, loop-from}
+use Rattle.base.specs.Below.{loop}
 use Rattle.base.specs.Bytes.{wordAt}
 use Rattle.plan.proofs.Checks.{each-holds}
 use Rattle.plan.proofs.Faults.{sound-section}
@@ -23,8 +23,9 @@ use Rattle.plan.specs.Check.{firstFault, headChecks, variableChecks, constraint
 use Rattle.plan.specs.Decode.{planFault, planOf}
 use Rattle.format.specs.Format.{sectionStart, variableCount, constraintCount, sectionCount, valueCountAt, firstAt, kindAt, sizeAt}
 use Rattle.plan.specs.WellFormed.{WellFormed, VariableFits}
+use Rattle.cells.proofs.Done.{Done}
 use Rattle.cells.proofs.Stores.{store-same, store-other, store-apart}
-use Rattle.index.specs.Index.{Located, placesM}
+use Rattle.index.specs.Index.{Located, placeM, placesM}
 use Rattle.cells.specs.Layout.{PLACES}
 use Rattle.cells.specs.Memory.{Mem, memOf}
 
@@ -89,21 +90,18 @@ module _ (b : List ℕ) (none-found : planFault b ≡ none) where
 -- ---- in the cells
 
 -- writing the places touches no other region
-pub places-keep : (b : List ℕ) (n : ℕ) (m : Mem) (r i j : ℕ) → (r ≡ PLACES → ⊥) → placesM b n m r i j ≡ m r i j
+pub places-keep : (b : List ℕ) (m : Mem) (r i j : ℕ) → (r ≡ PLACES → ⊥) → placesM b m r i j ≡ m r i j
 unfolding placesM
-places-keep b zero m r i j h = refl
-places-keep b (suc n) m r i j h =
-    store-apart (placesM b n m) PLACES 0 n (sectionStart b n) r i j h ∙ places-keep b n m r i j h
+places-keep b m r i j h =
+    loop-same (λ o. o r i j) (sectionCount b) (placeM b) (λ k l o. store-apart o PLACES 0 k (sectionStart b k) r i j h) m
 
 -- and leaves each section's start
-pub places-at : (b : List ℕ) (n : ℕ) (m : Mem) (k : ℕ) → k < n → placesM b n m PLACES 0 k ≡ sectionStart b k
+pub places-at : (b : List ℕ) (m : Mem) (k : ℕ) → k < sectionCount b → placesM b m PLACES 0 k ≡ sectionStart b k
 unfolding placesM
-places-at b zero m k h = absurd (not-suc-le-zero h)
-places-at b (suc n) m k h =
-    ⊎-elim (λ e. rw e (store-same (placesM b n m) PLACES 0 n (sectionStart b n)))
-    (λ l.
-    store-other (placesM b n m) PLACES 0 n (sectionStart b n) PLACES 0 k (λ p q e. omega arith) ∙ places-at b n m k l)
-    (below-cases h)
+places-at b m k h =
+    loop-from (λ o. o PLACES 0 k ≡ sectionStart b k) (sectionCount b) (placeM b) m k h
+    (store-same (loop k (placeM b) m) PLACES 0 k (sectionStart b k))
+    (λ l after inside o e. store-other o PLACES 0 l (sectionStart b l) PLACES 0 k (λ p q r. omega arith) ∙ e)
 
 -- the sections' places are still known where their cells are as they were
 pub located-kept : (b old new : List ℕ) (n : Mem) → Located b old → length new ≡ length old → memOf new ≡ n
@@ -113,3 +111,9 @@ located-kept b old new n l e p same = record {
   places = λ k h. ap (λ (m : Mem). m PLACES 0 k) p ∙ same k ∙ l .places k h;
   long = omega (arith, l .long);
 }
+
+-- so they are while a loop goes on whose steps leave these cells alone
+pub located-done : (b : List ℕ) {f : ℕ → Mem → Mem} {n k : ℕ} {old new : List ℕ} → Located b old → Done f n old k new
+    → ((j : ℕ) (m : Mem) (s : ℕ) → f j m PLACES 0 s ≡ m PLACES 0 s) → Located b new
+located-done b {f = f} {k = k} {old = old} {new = new} l d same =
+    located-kept b old new _ l (d .size) (d .mem) (λ s. loop-same (λ m. m PLACES 0 s) k f (λ j h m. same j m s) (memOf old))

@@ -8,7 +8,7 @@ use mathlib.Core.Option.{none}
 use mathlib.Core.Path.{_≡_}
 use lib.Dec.{eqb}
 use lib.ListN.{length}
-use Rattle.base.specs.Below.{anyBelow}
+use Rattle.base.specs.Below.{anyBelow, loop}
 use Rattle.disac4.specs.System.{System, systemOf}
 use Rattle.cells.specs.Layout.{HEADS, PLACES, NEXT, FIRST, FOLLOW}
 use Rattle.cells.specs.Memory.{Mem, memOf, store}
@@ -82,10 +82,13 @@ pub record Paired (sys : System) (m : Mem) : Type 0 where
 
 -- ---- the memory that indexing leaves
 
--- the starts of the first `n` sections
-unfoldable pub placesM : List ℕ → ℕ → Mem → Mem
-placesM b zero m = m
-placesM b (suc k) m = store (placesM b k m) PLACES 0 k (sectionStart b k)
+-- the start of section `k`
+abbrev pub placeM : List ℕ → ℕ → Mem → Mem
+placeM b k m = store m PLACES 0 k (sectionStart b k)
+
+-- the starts of all sections
+unfoldable pub placesM : List ℕ → Mem → Mem
+placesM b = loop (sectionCount b) (placeM b)
 
 -- constraint `c` in front of the chain of `x` and `y`
 unfoldable pub linkM : ℕ → ℕ → ℕ → Mem → Mem
@@ -95,26 +98,29 @@ linkM x y c m = store (store (store m NEXT 0 c (m HEADS x y)) HEADS x y (c + 1))
 abbrev pub constraintStart : List ℕ → ℕ → ℕ
 constraintStart b c = sectionStart b (suc (variableCount b + c))
 
--- the chains of the first `n` constraints
-unfoldable pub chainsM : List ℕ → ℕ → Mem → Mem
-chainsM b zero m = m
-chainsM b (suc c) m =
-    linkM (firstAt b (constraintStart b c) - 1) (secondAt b (constraintStart b c) - 1) c (chainsM b c m)
+-- constraint `c` in front of the chain of its two variables
+abbrev pub chainM : List ℕ → ℕ → Mem → Mem
+chainM b c = linkM (firstAt b (constraintStart b c) - 1) (secondAt b (constraintStart b c) - 1) c
+
+-- the chains of all constraints
+unfoldable pub chainsM : List ℕ → Mem → Mem
+chainsM b = loop (constraintCount b) (chainM b)
 
 -- variable `x` in front of the chain of row `i` for `y`, if there is a chain of constraints over the two
 unfoldable pub leadM : ℕ → ℕ → ℕ → Mem → Mem
 leadM i x y m = cond (eqb (m HEADS x y) 0) m (store (store m FOLLOW x y (m FIRST i y)) FIRST i y (x + 1))
 
--- the same for each of the first `n` variables
-unfoldable pub leadsM : ℕ → ℕ → ℕ → Mem → Mem
-leadsM i x zero m = m
-leadsM i x (suc y) m = leadM i x y (leadsM i x y m)
+-- variable `x` in front of its owner's chains for all variables
+abbrev pub leadsM : List ℕ → ℕ → Mem → Mem
+leadsM b x = loop (variableCount b) (leadM (systemOf (planOf b) .owner x - 1) x)
 
--- the last `n` variables, from the last one on, each in front of its owner's chains
-unfoldable pub ownM : List ℕ → ℕ → Mem → Mem
-ownM b zero m = m
-ownM b (suc n) m =
-    leadsM (systemOf (planOf b) .owner (variableCount b - suc n) - 1) (variableCount b - suc n) (variableCount b) (ownM b n m)
+-- the same for the last variable but `k`
+abbrev pub lastLeadsM : List ℕ → ℕ → Mem → Mem
+lastLeadsM b k = leadsM b (variableCount b - suc k)
+
+-- each variable, from the last one on, in front of its owner's chains
+unfoldable pub ownM : List ℕ → Mem → Mem
+ownM b = loop (variableCount b) (lastLeadsM b)
 
 unfoldable pub indexM : List ℕ → Mem → Mem
-indexM b m = ownM b (variableCount b) (chainsM b (constraintCount b) (placesM b (sectionCount b) m))
+indexM b m = ownM b (chainsM b (placesM b m))

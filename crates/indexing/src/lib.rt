@@ -7,15 +7,15 @@ ghost use mathlib.Core.Option.{none};
 ghost use mathlib.Core.Path.{_≡_};
 ghost use Prim.Native.Nat.{_<_, _≤_};
 ghost use lib.ListN.{length};
-ghost use Rattle.index.specs.Index.{Located, placesM, linkM, chainsM, leadM, leadsM, ownM, indexM};
+ghost use Rattle.base.specs.Below.{loop};
+ghost use Rattle.index.specs.Index.{Located, placesM, linkM, chainsM, leadM, ownM, indexM};
 ghost use Rattle.cells.specs.Memory.{memOf};
 ghost use Rattle.plan.specs.Decode.{planFault};
-ghost use Rattle.format.specs.Format.{variableCount, constraintCount, sectionCount};
 
 // Where each section starts.
 fn index_places(b: &[u8], cells: &mut [u16])
     requires { ⌜ (planFault (now b) ≡ none) × (24576 ≤ length (now cells)) ⌝ }
-    ensures { λ _. ⌜ memOf (now (cells .exit)) ≡ placesM (now (b .entry)) (sectionCount (now (b .entry))) (memOf (now (cells .entry))) ⌝ }
+    ensures { λ _. ⌜ memOf (now (cells .exit)) ≡ placesM (now (b .entry)) (memOf (now (cells .entry))) ⌝ }
 {
     let count = read::section_count(b);
     let mut at = 1;
@@ -41,7 +41,7 @@ fn link(cells: &mut [u16], x: usize, y: usize, c: usize)
 // The chains, from the first constraint to the last.
 fn index_chains(b: &[u8], cells: &mut [u16])
     requires { ⌜ Located (now b) (now cells) ⌝ }
-    ensures { λ _. ⌜ memOf (now (cells .exit)) ≡ chainsM (now (b .entry)) (constraintCount (now (b .entry))) (memOf (now (cells .entry))) ⌝ }
+    ensures { λ _. ⌜ memOf (now (cells .exit)) ≡ chainsM (now (b .entry)) (memOf (now (cells .entry))) ⌝ }
 {
     let variables = read::variable_count(b);
     let count = read::constraint_count(b);
@@ -73,7 +73,7 @@ fn lead(cells: &mut [u16], i: usize, x: usize, y: usize)
 // The same for each of the first n variables.
 fn leads(cells: &mut [u16], i: usize, x: usize, n: usize)
     requires { ⌜ (i < 8) × (x < 32) × (n ≤ 32) × (24576 ≤ length (now cells)) ⌝ }
-    ensures { λ _. ⌜ memOf (now (cells .exit)) ≡ leadsM i x n (memOf (now (cells .entry))) ⌝ }
+    ensures { λ _. ⌜ memOf (now (cells .exit)) ≡ loop n (leadM i x) (memOf (now (cells .entry))) ⌝ }
 {
     let mut y = 0;
     while y < n {
@@ -85,7 +85,7 @@ fn leads(cells: &mut [u16], i: usize, x: usize, n: usize)
 // The chains of the workers' own variables, from the last variable to the first, so that they ascend.
 fn index_own(b: &[u8], cells: &mut [u16])
     requires { ⌜ Located (now b) (now cells) ⌝ }
-    ensures { λ _. ⌜ memOf (now (cells .exit)) ≡ ownM (now (b .entry)) (variableCount (now (b .entry))) (memOf (now (cells .entry))) ⌝ }
+    ensures { λ _. ⌜ memOf (now (cells .exit)) ≡ ownM (now (b .entry)) (memOf (now (cells .entry))) ⌝ }
 {
     let n = read::variable_count(b);
     let mut x = n;

@@ -9,14 +9,13 @@ use Rattle.base.proofs.Bools.{and-true}
 use Rattle.base.proofs.Choice.{cond-true, cond-false}
 use Rattle.base.proofs.Row.{row-full, row-ext, row-both}
 use Rattle.base.specs.Below.{allBelow}
-use Rattle.base.specs.Row.{bit, rowOf}
+use Rattle.base.specs.Row.{rowOf}
 use Rattle.disac4.specs.System.{System}
-use Rattle.cells.proofs.Stores.{one-more}
 use Rattle.cells.specs.Layout.{DOMAIN, COUNTERS}
 use Rattle.cells.specs.Lists.{deleteM}
 use Rattle.cells.specs.Memory.{Mem, store}
 use Rattle.cells.specs.View.{LISTED, counterRow}
-use Rattle.loading.specs.Load.{suits, suitedRow, listLabelM, listValuesM, listVariableM, listM}
+use Rattle.loading.specs.Load.{suits, suitedRow, listLabelM}
 
 -- ---- the row of the values that suit
 
@@ -65,22 +64,3 @@ module _ (sys : System) (x v : ℕ) (m m₁ : Mem) (listed : m₁ ≡ store m DO
   pub label-kept : supported ≡ true → m₁ ≡ listLabelM sys x v supported m
   unfolding listLabelM
   label-kept u = rw listed (sym (cond-true _ _ u))
-
--- ---- one value, one variable more
-
-pub value-listed : (sys : System) (x row v : ℕ) (t : Bool) (m m₁ m₂ : Mem) → t ≡ bit row v → m₁ ≡ listValuesM sys x row v m
-    → m₂ ≡ listLabelM sys x v t m₁ → m₂ ≡ listValuesM sys x row (v + 1) m
-unfolding listValuesM
-value-listed sys x row v t m m₁ m₂ e p q =
-    one-more (λ n. listValuesM sys x row n m) (listLabelM sys x v (bit row v)) v m₁ m₂ refl p
-    (q ∙ ap (λ (t : Bool). listLabelM sys x v t m₁) e)
-
-pub values-listed : (sys : System) (x row n : ℕ) (m m₁ : Mem) → row ≡ suitedRow sys m x (sys .net .variables)
-    → n ≡ sys .net .size x → m₁ ≡ listValuesM sys x row n m → m₁ ≡ listVariableM sys x m
-unfolding listVariableM
-values-listed sys x row n m m₁ e s p = p ∙ ap₂ (λ (row n : ℕ). listValuesM sys x row n m) e s
-
-pub variable-listed : (sys : System) (x : ℕ) (m m₁ m₂ : Mem) → m₁ ≡ listM sys x m → m₂ ≡ listVariableM sys x m₁
-    → m₂ ≡ listM sys (x + 1) m
-unfolding listM
-variable-listed sys x m m₁ m₂ = one-more (λ n. listM sys n m) (listVariableM sys x) x m₁ m₂ refl

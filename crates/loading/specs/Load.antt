@@ -1,16 +1,16 @@
 -- Loading in memory, where the plan's index stands already: all supports are counted, then for each label the domain cell is
 -- set, and the label deleted where a counter is 0.
-use Prim.Native.Nat.{ℕ, zero, suc, _-_}
+use Prim.Native.Nat.{ℕ, _-_}
 use mathlib.Core.Bool.{Bool, cond, _&&_, not}
 use lib.Dec.{eqb}
-use Rattle.base.specs.Below.{allBelow}
+use Rattle.base.specs.Below.{allBelow, loop}
 use Rattle.base.specs.Row.{bit, rowOf}
 use Rattle.disac4.specs.System.{System}
 use Rattle.cells.specs.Layout.{DOMAIN, COUNTERS}
 use Rattle.cells.specs.Lists.{deleteM}
 use Rattle.cells.specs.Memory.{Mem, store}
 use Rattle.cells.specs.View.{LISTED, counterRow}
-use Rattle.counting.specs.Count.{countM}
+use Rattle.counting.specs.Count.{countSupportsM}
 
 -- label `v` of `x` has no counter against `y`, or one that is not 0
 unfoldable pub suits : System → Mem → ℕ → ℕ → ℕ → Bool
@@ -25,20 +25,22 @@ unfoldable pub listLabelM : System → ℕ → ℕ → Bool → Mem → Mem
 listLabelM sys x v supported m =
     cond supported (store m DOMAIN x v LISTED) (deleteM (sys .owner x - 1) x v (store m DOMAIN x v LISTED))
 
--- the first `n` values of `x`, of which the row holds those that are supported
-unfoldable pub listValuesM : System → ℕ → ℕ → ℕ → Mem → Mem
-listValuesM sys x row zero m = m
-listValuesM sys x row (suc n) m = listLabelM sys x n (bit row n) (listValuesM sys x row n m)
+-- value `v` of `x`, which the row holds if it is supported
+abbrev pub listValueM : System → ℕ → ℕ → ℕ → Mem → Mem
+listValueM sys x row v = listLabelM sys x v (bit row v)
 
--- the values of `x`
+-- all values of `x`
+unfoldable pub listValuesM : System → ℕ → ℕ → Mem → Mem
+listValuesM sys x row = loop (sys .net .size x) (listValueM sys x row)
+
+-- the values of `x`, by its counters
 unfoldable pub listVariableM : System → ℕ → Mem → Mem
-listVariableM sys x m = listValuesM sys x (suitedRow sys m x (sys .net .variables)) (sys .net .size x) m
+listVariableM sys x m = listValuesM sys x (suitedRow sys m x (sys .net .variables)) m
 
--- the first `n` variables
-unfoldable pub listM : System → ℕ → Mem → Mem
-listM sys zero m = m
-listM sys (suc n) m = listVariableM sys n (listM sys n m)
+-- the values of all variables
+unfoldable pub listM : System → Mem → Mem
+listM sys = loop (sys .net .variables) (listVariableM sys)
 
 -- from a memory that holds the plan's index and is 0 elsewhere
 unfoldable pub loadM : System → Mem → Mem
-loadM sys m = listM sys (sys .net .variables) (countM sys (sys .net .variables) m)
+loadM sys m = listM sys (countSupportsM sys m)

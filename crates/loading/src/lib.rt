@@ -74,7 +74,7 @@ fn list_label(b: &[u8], cells: &mut [u16], x: usize, v: usize, supported: bool)
 // The values of x, of which the row holds those that are supported.
 fn list_values(b: &[u8], cells: &mut [u16], x: usize, row: usize)
     requires { ⌜ Ready (now b) (now cells) × (x < variableCount (now b)) ⌝ }
-    ensures { λ _. ⌜ memOf (now (cells .exit)) ≡ listValuesM (systemOf (planOf (now (b .entry)))) x row (sizeOf (planOf (now (b .entry))) x) (memOf (now (cells .entry))) ⌝ }
+    ensures { λ _. ⌜ memOf (now (cells .exit)) ≡ listValuesM (systemOf (planOf (now (b .entry)))) x row (memOf (now (cells .entry))) ⌝ }
 {
     let n = parts::size(b, cells, x);
     let mut v = 0;
@@ -96,7 +96,7 @@ fn list_variable(b: &[u8], cells: &mut [u16], x: usize)
 // The values of all variables.
 fn list_plan(b: &[u8], cells: &mut [u16])
     requires { ⌜ Ready (now b) (now cells) ⌝ }
-    ensures { λ _. ⌜ memOf (now (cells .exit)) ≡ listM (systemOf (planOf (now (b .entry)))) (systemOf (planOf (now (b .entry))) .net .variables) (memOf (now (cells .entry))) ⌝ }
+    ensures { λ _. ⌜ memOf (now (cells .exit)) ≡ listM (systemOf (planOf (now (b .entry)))) (memOf (now (cells .entry))) ⌝ }
 {
     let n = read::variable_count(b);
     let mut x = 0;

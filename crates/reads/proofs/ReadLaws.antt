@@ -7,6 +7,7 @@ use native.Mathlib.Omega.{arith}
 use borrow.Author.Tests.{lt-ltb, le-ltb, le-leb, ltb-true, leb-true}
 use Rattle.base.proofs.Bools.{and-left, and-right, and-intro, refuted}
 use Rattle.base.proofs.Choice.{cond-true, cond-false}
+use Rattle.cells.proofs.ListLaws.{copy-none}
 use Rattle.cells.specs.Layout.{WORKERS, CURSORS, BOUNDS, SENDS, LISTS, HELD, POLLS, LABELROOM, SENDROOM, LISTSMAX}
 use Rattle.cells.specs.Lists.{copyM}
 use Rattle.cells.specs.Memory.{Mem, store}
@@ -20,8 +21,7 @@ module _ (m m₁ m₂ m₃ : Mem) where
 
 -- nothing stands between two places the wrong way round
 pub copied-none : (j i from to : ℕ) (m : Mem) → to < from → m ≡ copyM j i from (to - from) m
-unfolding copyM
-copied-none j i from to m h = let e : to - from ≡ 0 = omega arith in rw e
+copied-none j i from to m h = copy-none j i from (to - from) m (omega arith)
 
 -- what the read of a list message asks: one that is not read, and room for its labels and its count
 pub record HasList (j i : ℕ) (m : Mem) : Type 0 where

@@ -10,7 +10,7 @@ use Rattle.base.proofs.Choice.{cond-ext}
 use Rattle.disac4.specs.State.{list, poll}
 use Rattle.disac4.specs.System.{System}
 use Rattle.disac4.specs.declared.Tally.{Tally}
-use Rattle.cells.proofs.Queue.{labels-same, Kept, queue-same}
+use Rattle.cells.proofs.Queue.{labels-same, QueueKept, queue-same}
 use Rattle.cells.specs.Layout.{WORKERS, CURSORS, BOUNDS, LOG, OUT, WANTED, LOGEND, SENDS, HELD, POLLS, OUTEND, OUTREAD}
 use Rattle.cells.specs.Memory.{Mem}
 use Rattle.controller.specs.Controller.{Machine}
@@ -80,15 +80,15 @@ module _ (sys : System) (small : Small sys) (s : Machine) (inv : Inv sys s) (m�
       (ap (m′ BOUNDS i) e ∙ grown .bounds i h (m WORKERS i SENDS) (le-refl _)) f (λ d p q. grown .logs i h d q)
 
   -- list messages stay in their channels
-  pub list-messages-kept : (j i : ℕ) → j < sys .workers → Kept (listMessagesQueue m j i) (listMessagesQueue m′ j i)
+  pub list-messages-kept : (j i : ℕ) → j < sys .workers → QueueKept (listMessagesQueue m j i) (listMessagesQueue m′ j i)
   list-messages-kept j i h n p q = ap list (list-kept j h n q)
 
   -- messages to the controller too
-  pub out-kept : (i : ℕ) → i < sys .workers → Kept (outQueue m i) (outQueue m′ i)
+  pub out-kept : (i : ℕ) → i < sys .workers → QueueKept (outQueue m i) (outQueue m′ i)
   out-kept i h e p q = message-kept i h e q
 
   -- and polls
-  pub polls-kept : (t′ : Tally) (i : ℕ) → Kept (pollsQueue m (s .tally) i) (pollsQueue m′ t′ i)
+  pub polls-kept : (t′ : Tally) (i : ℕ) → QueueKept (pollsQueue m (s .tally) i) (pollsQueue m′ t′ i)
   polls-kept t′ i n p q = ap poll (poll-kept m m′ n (grown .wanted n (omega arith)))
 
   -- channels whose ends stay are the same

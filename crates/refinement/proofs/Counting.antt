@@ -1,101 +1,46 @@
--- Counting the supports in memory writes the counters alone, and leaves each label its count against each linked variable.
-use Prim.Native.Nat.{ℕ, zero, suc, _<_}
-use mathlib.Core.Bool.{Bool, true, false, cond}
+-- Counting the supports in memory leaves each label its count against each linked variable.
+use Prim.Native.Nat.{ℕ, _<_}
+use mathlib.Core.Bool.{Bool, true, false}
 use mathlib.Core.Logic.{_⊎_, inl, inr, ⊎-elim}
-use mathlib.Core.Path.{_≡_, refl, sym, _∙_, ap, subst}
+use mathlib.Core.Path.{_≡_, refl, sym, _∙_, ap}
 use native.Mathlib.Decide.{decLt}
-use native.Mathlib.Nat.{not-suc-le-zero}
 use native.Mathlib.Omega.{arith}
-use Rattle.base.proofs.Below.{below-cases}
 use Rattle.base.proofs.Choice.{cond-true, cond-false}
+use Rattle.base.proofs.Loops.{loop-keeps, loop-same, loop-from, loop-at}
+use Rattle.base.specs.Below.{loop}
 use Rattle.disac4.specs.System.{System}
 use Rattle.network.specs.Network.{supportCount}
-use Rattle.cells.proofs.Stores.{store-same, store-other, store-apart}
+use Rattle.cells.proofs.Stores.{store-same, store-other}
 use Rattle.cells.specs.Layout.{COUNTERS, HEADS}
-use Rattle.cells.specs.Memory.{Mem, store}
+use Rattle.cells.specs.Memory.{Mem}
 use Rattle.cells.specs.View.{counterRow}
-use Rattle.counting.specs.Count.{countPairM, countAgainstM, countBothM, countVariableM, countM}
+use Rattle.counting.proofs.Kept.{SameElse, against-else, both-else, variable-else}
+use Rattle.counting.specs.Count.{countValueM, countPairM, countAgainstM, countBothM, countVariableM, countSupportsM}
 use Rattle.index.proofs.Kept.{row-heads}
 use Rattle.index.specs.Index.{Paired}
 use Rattle.refinement.proofs.InvKept.{SameHeads}
 use Rattle.refinement.proofs.Labelwise.{own-row}
-use Rattle.refinement.proofs.Walking.{loop, is-loop, loop-keeps, loop-at}
 use Rattle.refinement.specs.Inv.{Small}
-
--- ---- beside the counters, all stays
-
--- the two memories are the same beside the counters
-abbrev pub SameElse : Mem → Mem → Type 0
-SameElse m n = (r a b : ℕ) → (r ≡ COUNTERS → ⊥) → n r a b ≡ m r a b
-
-module _ (sys : System) where
-  pair-else : (x y n : ℕ) (m : Mem) → SameElse m (countPairM sys x y n m)
-  unfolding countPairM
-  pair-else x y zero m r a b d = refl
-  pair-else x y (suc n) m r a b d =
-      store-apart (countPairM sys x y n m) COUNTERS (counterRow m x y) n (supportCount (sys .net) x n y) r a b d
-      ∙ pair-else x y n m r a b d
-
-  against-else : (x y : ℕ) (m : Mem) → SameElse m (countAgainstM sys x y m)
-  unfolding countAgainstM
-  against-else x y m = go (sys .net .linked x y)
-    where
-      go : (t : Bool) → SameElse m (cond t (countPairM sys x y (sys .net .size x) m) m)
-      go true = pair-else x y (sys .net .size x) m
-      go false = λ r a b d. refl
-
-  both-else : (x y : ℕ) (m : Mem) → SameElse m (countBothM sys x y m)
-  unfolding countBothM
-  both-else x y m r a b d = against-else y x (countAgainstM sys x y m) r a b d ∙ against-else x y m r a b d
-
-  variable-loop : (x n : ℕ) (m : Mem) → countVariableM sys x n m ≡ loop (λ y. countBothM sys y x) n m
-  unfolding countVariableM
-  variable-loop x = is-loop (λ y. countBothM sys y x) (countVariableM sys x) (λ m. refl) (λ n m. refl)
-
-  variable-else : (x n : ℕ) (m : Mem) → SameElse m (countVariableM sys x n m)
-  unfolding countVariableM
-  variable-else x zero m r a b d = refl
-  variable-else x (suc n) m r a b d = both-else n x (countVariableM sys x n m) r a b d ∙ variable-else x n m r a b d
-
-  count-loop : (n : ℕ) (m : Mem) → countM sys n m ≡ loop (λ x. countVariableM sys x x) n m
-  unfolding countM
-  count-loop = is-loop (λ x. countVariableM sys x x) (countM sys) (λ m. refl) (λ n m. refl)
-
-  pub count-else : (n : ℕ) (m : Mem) → SameElse m (countM sys n m)
-  unfolding countM
-  count-else zero m r a b d = refl
-  count-else (suc n) m r a b d = variable-else n n (countM sys n m) r a b d ∙ count-else n m r a b d
 
 -- ---- the counters of one variable against another
 
-module _ (sys : System) (x y : ℕ) where
-  pair-apart : (n : ℕ) (m : Mem) (a b : ℕ) → (a ≡ counterRow m x y → ⊥) → countPairM sys x y n m COUNTERS a b ≡ m COUNTERS a b
-  unfolding countPairM
-  pair-apart zero m a b d = refl
-  pair-apart (suc n) m a b d =
-      store-other (countPairM sys x y n m) COUNTERS (counterRow m x y) n (supportCount (sys .net) x n y) COUNTERS a b (λ e p q. d p)
-      ∙ pair-apart n m a b d
+module _ (sys : System) (x y : ℕ) (m : Mem) where
+  abbrev count : ℕ → ℕ
+  count v = supportCount (sys .net) x v y
 
-  pair-at : (n : ℕ) (m : Mem) (v : ℕ) → v < n → countPairM sys x y n m COUNTERS (counterRow m x y) v ≡ supportCount (sys .net) x v y
+  pair-apart : (a b : ℕ) → (a ≡ counterRow m x y → ⊥) → countPairM sys x y m COUNTERS a b ≡ m COUNTERS a b
   unfolding countPairM
-  pair-at zero m v h = absurd (not-suc-le-zero h)
-  pair-at (suc n) m v h =
-      ⊎-elim
-      (λ e.
-      subst
-      (λ (w : ℕ).
-      store before COUNTERS (counterRow m x y) n (count n) COUNTERS (counterRow m x y) w ≡ count w)
-      (sym e) (store-same before COUNTERS (counterRow m x y) n (count n)))
-      (λ l.
-      store-other before COUNTERS (counterRow m x y) n (count n) COUNTERS (counterRow m x y) v (λ e p q. omega arith)
-      ∙ pair-at n m v l)
-      (below-cases h)
-    where
-      before : Mem
-      before = countPairM sys x y n m
+  pair-apart a b d =
+      loop-same (λ o. o COUNTERS a b) (sys .net .size x) (countValueM sys x y (counterRow m x y))
+      (λ v h o. store-other o COUNTERS (counterRow m x y) v (count v) COUNTERS a b (λ e p q. d p)) m
 
-      count : ℕ → ℕ
-      count w = supportCount (sys .net) x w y
+  pair-at : (v : ℕ) → v < sys .net .size x → countPairM sys x y m COUNTERS (counterRow m x y) v ≡ count v
+  unfolding countPairM
+  pair-at v h =
+      loop-from (λ o. o COUNTERS (counterRow m x y) v ≡ count v) (sys .net .size x) (countValueM sys x y (counterRow m x y)) m v h
+      (store-same (loop v (countValueM sys x y (counterRow m x y)) m) COUNTERS (counterRow m x y) v (count v))
+      (λ w after inside o e.
+      store-other o COUNTERS (counterRow m x y) w (count w) COUNTERS (counterRow m x y) v (λ r p q. omega arith) ∙ e)
 
 -- ---- one counter among all
 
@@ -106,7 +51,7 @@ module _ (sys : System) (small : Small sys) (z : Mem) (paired : Paired sys z) (x
   Stands m = SameHeads z m × (m COUNTERS (counterRow z x y) v ≡ supportCount (sys .net) x v y)
 
   heads-after : (m m′ : Mem) → SameElse m m′ → SameHeads z m → SameHeads z m′
-  heads-after m m′ e s a b = e HEADS a b (omega arith) ∙ s a b
+  heads-after m m′ e s a b = e .static HEADS a b (omega arith) ∙ s a b
 
   -- no other two variables' counters disturb it
   others : (x′ y′ : ℕ) → (x′ ≡ x → y′ ≡ y → ⊥) → (m : Mem) → Stands m → Stands (countAgainstM sys x′ y′ m)
@@ -117,19 +62,19 @@ module _ (sys : System) (small : Small sys) (z : Mem) (paired : Paired sys z) (x
       go : (t : Bool) → sys .net .linked x′ y′ ≡ t
           → countAgainstM sys x′ y′ m COUNTERS (counterRow z x y) v ≡ m COUNTERS (counterRow z x y) v
       go true e =
-          ap (λ (o : Mem). o COUNTERS (counterRow z x y) v) (cond-true (countPairM sys x′ y′ (sys .net .size x′) m) m e)
-          ∙ pair-apart sys x′ y′ (sys .net .size x′) m (counterRow z x y) v
+          ap (λ (o : Mem). o COUNTERS (counterRow z x y) v) (cond-true (countPairM sys x′ y′ m) m e)
+          ∙ pair-apart sys x′ y′ m (counterRow z x y) v
           (λ p.
           let q = own-row sys small z paired x y x′ y′ l e (p ∙ row-heads z m x′ y′ (s .0 x′ y′)) in d (sym (q .0)) (sym (q .1)))
-      go false e = ap (λ (o : Mem). o COUNTERS (counterRow z x y) v) (cond-false (countPairM sys x′ y′ (sys .net .size x′) m) m e)
+      go false e = ap (λ (o : Mem). o COUNTERS (counterRow z x y) v) (cond-false (countPairM sys x′ y′ m) m e)
 
   own : (m : Mem) → SameHeads z m → Stands (countAgainstM sys x y m)
   unfolding countAgainstM
   own m s = (
     heads-after m (countAgainstM sys x y m) (against-else sys x y m) s,
-    ap (λ (o : Mem). o COUNTERS (counterRow z x y) v) (cond-true (countPairM sys x y (sys .net .size x) m) m l)
-        ∙ ap (λ (k : ℕ). countPairM sys x y (sys .net .size x) m COUNTERS k v) (sym (row-heads z m x y (s x y)))
-        ∙ pair-at sys x y (sys .net .size x) m v h,
+    ap (λ (o : Mem). o COUNTERS (counterRow z x y) v) (cond-true (countPairM sys x y m) m l)
+        ∙ ap (λ (k : ℕ). countPairM sys x y m COUNTERS k v) (sym (row-heads z m x y (s x y)))
+        ∙ pair-at sys x y m v h,
   )
 
   -- the two variables in their order; their turn comes when the higher one is counted with the lower
@@ -151,23 +96,19 @@ module _ (sys : System) (small : Small sys) (z : Mem) (paired : Paired sys z) (x
             rw (p .0, p .1)
             (own (countAgainstM sys y x m) (heads-after m (countAgainstM sys y x m) (against-else sys y x m) s))
 
-    counted-once : countM sys (sys .net .variables) z COUNTERS (counterRow z x y) v ≡ supportCount (sys .net) x v y
+    counted-once : countSupportsM sys z COUNTERS (counterRow z x y) v ≡ supportCount (sys .net) x v y
+    unfolding countSupportsM countVariableM
     counted-once =
-        ap (λ (m : Mem). m COUNTERS (counterRow z x y) v) (count-loop sys (sys .net .variables) z)
-        ∙ loop-at (SameHeads z) Stands (λ j. countVariableM sys j j) (sys .net .variables) high inside
-        (λ j k d m. heads-after m (countVariableM sys j j m) (variable-else sys j j m))
-        (λ j k d m s.
-        subst Stands (sym (variable-loop sys j j m))
-        (loop-keeps Stands (λ i. countBothM sys i j) j (λ i b. other-two i j b (λ e f. d f)) m s))
-        (λ m s.
-        subst Stands (sym (variable-loop sys high high m))
-        (loop-at (SameHeads z) Stands (λ i. countBothM sys i high) high low below
+        loop-at (SameHeads z) Stands (sys .net .variables) (countVariableM sys) high inside
+        (λ j k d m. heads-after m (countVariableM sys j m) (variable-else sys j m))
+        (λ j k d. loop-keeps Stands j (λ i. countBothM sys i j) (λ i b. other-two i j b (λ e f. d f)))
+        (loop-at (SameHeads z) Stands high (λ i. countBothM sys i high) low below
         (λ i b d m. heads-after m (countBothM sys i high m) (both-else sys i high m))
-        (λ i b d. other-two i high b (λ e f. d e)) own-two m s))
+        (λ i b d. other-two i high b (λ e f. d e)) own-two)
         z (λ a b. refl) .1
 
   -- in the end each label has its count against each linked variable
-  pub counted-at : countM sys (sys .net .variables) z COUNTERS (counterRow z x y) v ≡ supportCount (sys .net) x v y
+  pub counted-at : countSupportsM sys z COUNTERS (counterRow z x y) v ≡ supportCount (sys .net) x v y
   counted-at =
       let i = small .links-inside x y l in
       elim (decLt x y) [

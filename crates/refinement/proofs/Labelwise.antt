@@ -93,7 +93,7 @@ module _ (sys : System) (small : Small sys) (f : ℕ → ℕ → Mem → Mem) (r
 
   -- the walk from `m₀` ends in `m₁`
   module _ (local : Local) (m₀ : Mem) (paired : Paired sys m₀) (m₁ : Mem)
-      (walked : m₁ ≡ walk (sys .net) f (sys .net .variables) m₀) where
+      (walked : m₁ ≡ walk (sys .net) f m₀) where
     keeps-heads : (x v : ℕ) → x < sys .net .variables → v < sys .net .size x → (m : Mem) → SameHeads m₀ m
         → SameHeads m₀ (f x v m)
     keeps-heads x v h l m s a b = local x v h l m HEADS a b (omega arith) ∙ s a b

@@ -1,13 +1,13 @@
 -- Listing the labels by their counters leaves the counters alone: each label is deleted exactly if it is unsupported.
-use Prim.Native.Nat.{ℕ, zero, suc, _-_, _<_, _≤_}
+use Prim.Native.Nat.{ℕ, zero, suc, _-_, _<_}
 use mathlib.Core.Bool.{Bool, true, false, _&&_, _||_, not}
 use mathlib.Core.Path.{_≡_, refl, _∙_, ap}
-use native.Mathlib.Nat.{le-refl}
 use native.Mathlib.Omega.{arith}
 use lib.Dec.{eqb}
 use Rattle.base.proofs.Below.{all-ext}
+use Rattle.base.proofs.Loops.{loop-keeps, loop-ext}
 use Rattle.base.proofs.Row.{row-bit}
-use Rattle.base.specs.Below.{anyBelow, allBelow}
+use Rattle.base.specs.Below.{anyBelow, allBelow, loop}
 use Rattle.base.specs.Row.{bit}
 use Rattle.disac4.specs.Loading.{loadedCounter, unsupported}
 use Rattle.disac4.specs.System.{System}
@@ -17,14 +17,15 @@ use Rattle.cells.proofs.Stores.{store-apart}
 use Rattle.cells.specs.Layout.{DOMAIN, COUNTERS, HEADS}
 use Rattle.cells.specs.Memory.{Mem, store}
 use Rattle.cells.specs.View.{LISTED, counterRow}
-use Rattle.counting.specs.Count.{countM}
+use Rattle.counting.proofs.Kept.{count-else}
+use Rattle.counting.specs.Count.{countSupportsM}
 use Rattle.index.proofs.Kept.{row-heads}
 use Rattle.index.specs.Index.{Paired}
-use Rattle.loading.specs.Load.{suits, suitedRow, listLabelM, listValuesM, listVariableM, listM, loadM}
-use Rattle.refinement.proofs.Counting.{count-else, counted-at}
+use Rattle.loading.specs.Load.{suits, suitedRow, listLabelM, listValueM, listValuesM, listVariableM, listM, loadM}
+use Rattle.refinement.proofs.Counting.{counted-at}
 use Rattle.refinement.proofs.DeleteApart.{deleteIf, delete-counter}
 use Rattle.refinement.proofs.LabelLoad.{listStep, list-apart}
-use Rattle.refinement.proofs.Walking.{loop, loop-keeps, walk}
+use Rattle.refinement.proofs.Walking.{values, walk}
 use Rattle.refinement.specs.Inv.{Small}
 
 -- a label that suits every variable by its count is supported
@@ -79,16 +80,11 @@ module _ (sys : System) where
         go true = refl
         go false = refl
 
-    values-walk : (n : ℕ) → n ≤ sys .net .size x
-        → listValuesM sys x (suitedRow sys m x (sys .net .variables)) n m ≡ loop (listStep sys x) n m
-    unfolding listValuesM
-    values-walk zero h = refl
-    values-walk (suc n) h =
-        label-step n (bit row n) (suited-bit n h) (listValuesM sys x row n m)
-        ∙ ap (listStep sys x n) (values-walk n (omega arith))
-      where
-        row : ℕ
-        row = suitedRow sys m x (sys .net .variables)
+    variable-walk : listVariableM sys x m ≡ values (sys .net) (listStep sys) x m
+    unfolding listVariableM listValuesM
+    variable-walk =
+        loop-ext (sys .net .size x) (listValueM sys x (suitedRow sys m x (sys .net .variables))) (listStep sys x) m
+        (λ v h. label-step v _ (suited-bit v h) (loop v (listStep sys x) m))
 
   -- ---- all of them
 
@@ -109,38 +105,30 @@ module _ (sys : System) where
       go a b true = delete-counter sys (sys .owner x - 1) x v listed a b
       go a b false = refl
 
-  walk-same : (z : Mem) (n : ℕ) → Same z (walk (sys .net) (listStep sys) n z)
+  walk-same : (z : Mem) (n : ℕ) → Same z (loop n (values (sys .net) (listStep sys)) z)
   walk-same z n =
-      loop-keeps (Same z) (λ x m. loop (listStep sys x) (sys .net .size x) m) n
-      (λ x h m s. loop-keeps (Same z) (listStep sys x) (sys .net .size x) (λ v k. step-same z x v) m s)
+      loop-keeps (Same z) n (values (sys .net) (listStep sys))
+      (λ x h. loop-keeps (Same z) (sys .net .size x) (listStep sys x) (λ v k. step-same z x v))
       z ((λ a b. refl), (λ a b. refl))
 
-  list-walk : (z : Mem) → ((x : ℕ) → Counted x z) → (n : ℕ) → n ≤ sys .net .variables
-      → listM sys n z ≡ walk (sys .net) (listStep sys) n z
-  unfolding listM listVariableM
-  list-walk z counted zero h = refl
-  list-walk z counted (suc n) h =
-      ap (listVariableM sys n) (list-walk z counted n (omega arith))
-      ∙ values-walk n h m
+  list-walk : (z : Mem) → ((x : ℕ) → Counted x z) → listM sys z ≡ walk (sys .net) (listStep sys) z
+  unfolding listM
+  list-walk z counted =
+      loop-ext (sys .net .variables) (listVariableM sys) (values (sys .net) (listStep sys)) z
+      (λ x h.
+      let m = loop x (values (sys .net) (listStep sys)) z in
+      variable-walk x h m
       (λ v y k l.
-      ap (λ (a : ℕ). m COUNTERS a v) (row-heads z m n y (walk-same z n .0 n y))
-      ∙ walk-same z n .1 (counterRow z n y) v
-      ∙ counted n v y k l)
-      (sys .net .size n) (le-refl (sys .net .size n))
-    where
-      m : Mem
-      m = walk (sys .net) (listStep sys) n z
+      ap (λ (a : ℕ). m COUNTERS a v) (row-heads z m x y (walk-same z x .0 x y))
+      ∙ walk-same z x .1 (counterRow z x y) v
+      ∙ counted x v y k l))
 
   -- loading lists the labels one by one in a memory where all is counted
-  pub load-walk : Small sys → (z : Mem) → Paired sys z
-      → loadM sys z ≡ walk (sys .net) (listStep sys) (sys .net .variables) (countM sys (sys .net .variables) z)
+  pub load-walk : Small sys → (z : Mem) → Paired sys z → loadM sys z ≡ walk (sys .net) (listStep sys) (countSupportsM sys z)
   unfolding loadM
   load-walk small z paired =
-      list-walk z₁
+      list-walk (countSupportsM sys z)
       (λ x v y h l.
-      ap (λ (a : ℕ). z₁ COUNTERS a v) (row-heads z z₁ x y (count-else sys (sys .net .variables) z HEADS x y (omega arith)))
+      ap (λ (a : ℕ). countSupportsM sys z COUNTERS a v)
+      (row-heads z (countSupportsM sys z) x y (count-else sys z .static HEADS x y (omega arith)))
       ∙ counted-at sys small z paired x v y h l)
-      (sys .net .variables) (le-refl (sys .net .variables))
-    where
-      z₁ : Mem
-      z₁ = countM sys (sys .net .variables) z

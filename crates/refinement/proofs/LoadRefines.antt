@@ -21,7 +21,8 @@ use Rattle.network.proofs.Supports.{support-count}
 use Rattle.network.specs.Network.{Label, label, loaded, labelsWhere, supports, supportCount}
 use Rattle.cells.proofs.Queue.{labels-none, queue-none}
 use Rattle.cells.specs.Layout.{WORKERS, CURSORS, BOUNDS, LOG, WORK, OUT, WANTED, DOMAIN, COUNTERS, HEADS, HEAD, TAIL, LOGEND, SENDS, LISTS, HELD, OUTEND}
-use Rattle.counting.specs.Count.{countM}
+use Rattle.counting.proofs.Kept.{count-else}
+use Rattle.counting.specs.Count.{countSupportsM}
 use Rattle.index.proofs.Kept.{row-heads}
 use Rattle.loading.specs.Load.{loadM}
 use Rattle.cells.specs.Memory.{Mem}
@@ -32,7 +33,7 @@ use Rattle.refinement.proofs.DeleteApart.{Apart}
 use Rattle.refinement.proofs.LongerLists.{Longer, Both, both-none, both-more}
 use Rattle.refinement.specs.Inv.{Small}
 use Rattle.index.specs.Index.{Paired}
-use Rattle.refinement.proofs.Counting.{count-else, counted-at}
+use Rattle.refinement.proofs.Counting.{counted-at}
 use Rattle.refinement.proofs.InvKept.{paired-kept}
 use Rattle.refinement.proofs.LabelLoad.{listStep, list-apart, list-shows, list-both}
 use Rattle.refinement.proofs.Labelwise.{unloaded-apart, Shows, walk-apart, walk-shows, walk-both, Local}
@@ -59,10 +60,10 @@ module _ (sys : System) (small : Small sys) (z : Mem) (paired : Paired sys z) (b
 
   -- the memory where all is counted, and no label is listed yet
   abbrev z₁ : Mem
-  z₁ = countM sys (sys .net .variables) z
+  z₁ = countSupportsM sys z
 
   counted-heads : (a b : ℕ) → z₁ HEADS a b ≡ z HEADS a b
-  counted-heads a b = count-else sys (sys .net .variables) z HEADS a b (omega arith)
+  counted-heads a b = count-else sys z .static HEADS a b (omega arith)
 
   paired₁ : Paired sys z₁
   paired₁ = paired-kept z z₁ sys counted-heads paired
@@ -76,7 +77,7 @@ module _ (sys : System) (small : Small sys) (z : Mem) (paired : Paired sys z) (b
       → loadM sys z r a b ≡ z r a b
   loaded-apart r a b d p =
       walk-apart sys small (listStep sys) (λ x. sys .owner x - 1) local z₁ paired₁ n (load-walk sys small z paired) r a b p
-      ∙ count-else sys (sys .net .variables) z r a b d
+      ∙ count-else sys z .static r a b d
 
   -- each label's own cells
   pub loaded-shows : (x v : ℕ) → x < sys .net .variables → v < sys .net .size x
@@ -119,7 +120,7 @@ module _ (sys : System) (small : Small sys) (z : Mem) (paired : Paired sys z) (b
       (omega (arith, put WORKERS TAIL (omega arith), blank WORKERS i TAIL (omega arith), few-deleted i h)))
     where
       put : (r b : ℕ) → (r ≡ COUNTERS → ⊥) → z₁ r i b ≡ z r i b
-      put r b d = count-else sys (sys .net .variables) z r i b d
+      put r b d = count-else sys z .static r i b d
 
   -- what else the view shows stays
   pub loaded-unmoved : Unmoved z (loadM sys z)

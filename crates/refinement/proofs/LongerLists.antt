@@ -1,17 +1,18 @@
 -- A row's log or work list that has grown: its end, the labels before it, and the new ones behind them.
-use Prim.Native.Nat.{ℕ, zero, suc, _+_, _/_, _%_, _<_, _≤_}
+use Prim.Native.Nat.{ℕ, suc, _+_, _/_, _%_, _<_, _≤_}
 use mathlib.Core.Bool.{Bool, true, false, cond}
 use mathlib.Core.List.{List, [], _∷_, _++_, append-assoc, append-nil}
 use mathlib.Core.Path.{_≡_, refl, sym, _∙_, ap, ap₂, subst}
 use native.Mathlib.Decide.{ℕ-discrete}
 use native.Mathlib.Omega.{arith}
 use lib.ListN.{length, length-append}
+use Rattle.base.proofs.Loops.{loop-carries}
 use Rattle.disac4.specs.System.{System}
 use Rattle.network.specs.Network.{Label, label}
 use Rattle.cells.proofs.Queue.{labels-same, labels-none, labels-last, labels-length, label-code}
 use Rattle.cells.proofs.Stores.{store-same, store-other, Beside, push-stores, push-other, copy-other}
 use Rattle.cells.specs.Layout.{WORKERS, LOG, WORK, DOMAIN, TAIL, LOGEND}
-use Rattle.cells.specs.Lists.{pushM, deleteM, copyM}
+use Rattle.cells.specs.Lists.{pushM, deleteM, copyLabelM, copyM}
 use Rattle.cells.specs.Memory.{Mem, store}
 use Rattle.cells.specs.View.{labelNumber, labelOf, labelsBetween}
 use Rattle.refinement.specs.Inv.{LabelNumber}
@@ -106,34 +107,29 @@ pub longer-copy : (sys : System) (j i from n : ℕ) (m : Mem) → m WORKERS i TA
     → ((d : ℕ) → d < from + n → LabelNumber sys (m LOG j d))
     → Longer sys WORK TAIL i m (copyM j i from n m) (labelsBetween m LOG j from (from + n))
 unfolding copyM
-longer-copy sys j i from zero m room codes =
-    subst (Longer sys WORK TAIL i m m) (sym (labels-none m LOG j from (from + 0) (omega arith)))
-    (longer-none sys WORK TAIL i m m refl (λ d. refl))
-longer-copy sys j i from (suc n) m room codes = go (longer-copy sys j i from n m (omega arith) (λ d h. codes d (omega arith)))
+longer-copy sys j i from n m room codes =
+    loop-carries (λ k o. Longer sys WORK TAIL i m o (copied k)) n (copyLabelM j i from) m step
+    (subst (Longer sys WORK TAIL i m m) (sym (labels-none m LOG j from (from + 0) (omega arith)))
+    (longer-none sys WORK TAIL i m m refl (λ d. refl)))
   where
-    before : Mem
-    before = copyM j i from n m
+    copied : ℕ → List Label
+    copied k = labelsBetween m LOG j from (from + k)
 
-    next : ℕ
-    next = before LOG j (from + n)
-
-    same : next ≡ m LOG j (from + n)
-    same = copy-other j i from n m LOG j (from + n) (omega arith)
-
-    copied : List Label
-    copied = labelsBetween m LOG j from (from + n)
-
-    go : Longer sys WORK TAIL i m before copied
-        → Longer sys WORK TAIL i m (pushM WORK TAIL i next before) (labelsBetween m LOG j from (from + suc n))
-    go grown =
+    step : (k : ℕ) → k < n → Longer sys WORK TAIL i m (copyM j i from k m) (copied k)
+        → Longer sys WORK TAIL i m (copyLabelM j i from k (copyM j i from k m)) (copied (suc k))
+    step k h grown =
+        let before = copyM j i from k m in
+        let next = before LOG j (from + k) in
+        let same : next ≡ m LOG j (from + k) = copy-other j i from k m LOG j (from + k) (omega arith) in
+        let end : from + k + 1 ≡ from + suc k = omega arith in
         subst (Longer sys WORK TAIL i m (pushM WORK TAIL i next before))
-        (ap (λ (c : ℕ). copied ++ (labelOf c ∷ [])) same
-        ∙ sym (labels-last m LOG j from (from + n) (omega arith))
-        ∙ ap (labelsBetween m LOG j from) (let e : from + n + 1 ≡ from + suc n = omega arith in e))
-        (longer-more sys WORK TAIL i m before (pushM WORK TAIL i next before) copied (labelOf next ∷ []) grown
+        (ap (λ (c : ℕ). copied k ++ (labelOf c ∷ [])) same
+        ∙ sym (labels-last m LOG j from (from + k) (omega arith))
+        ∙ ap (labelsBetween m LOG j from) end)
+        (longer-more sys WORK TAIL i m before (pushM WORK TAIL i next before) (copied k) (labelOf next ∷ []) grown
         (longer-push sys WORK TAIL i before next (λ e. omega arith)
-        (omega (arith, grown .end, labels-length m LOG j from (from + n)))
-        (subst (LabelNumber sys) (sym same) (codes (from + n) (omega arith)))))
+        (omega (arith, grown .end, labels-length m LOG j from (from + k)))
+        (subst (LabelNumber sys) (sym same) (codes (from + k) (omega arith)))))
 
 -- ---- a row's log and work list that have grown by the same labels
 

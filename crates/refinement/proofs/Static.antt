@@ -31,22 +31,22 @@ module _ (r a b : ℕ) (h : HEADS ≤ r) where
 
   -- ---- an action gives a memory, or a turn a machine, that agrees at the point, or nothing
 
-  data Kept {A : Type 0} (mem : A → Mem) (m : Mem) : Option A → Type 0 where
-    idle : Kept mem m none
-    agrees : {n : A} → mem n r a b ≡ m r a b → Kept mem m (some n)
+  data PointKept {A : Type 0} (mem : A → Mem) (m : Mem) : Option A → Type 0 where
+    idle : PointKept mem m none
+    agrees : {n : A} → mem n r a b ≡ m r a b → PointKept mem m (some n)
 
-  kept-if : {A : Type 0} {mem : A → Mem} {m : Mem} (t : Bool) {o p : Option A} → Kept mem m o → Kept mem m p
-      → Kept mem m (cond t o p)
+  kept-if : {A : Type 0} {mem : A → Mem} {m : Mem} (t : Bool) {o p : Option A} → PointKept mem m o → PointKept mem m p
+      → PointKept mem m (cond t o p)
   kept-if true x y = x
   kept-if false x y = y
 
   -- by an action
   abbrev KeptM : Mem → Option Mem → Type 0
-  KeptM = Kept (λ n. n)
+  KeptM = PointKept (λ n. n)
 
   -- by a turn
   abbrev KeptS : Mem → Option Machine → Type 0
-  KeptS = Kept (λ s. s .mem)
+  KeptS = PointKept (λ s. s .mem)
 
   send-kept : (i : ℕ) (m : Mem) → KeptM m (sendM i m)
   unfolding sendM sentM
@@ -76,7 +76,7 @@ module _ (r a b : ℕ) (h : HEADS ≤ r) where
   treat-kept sys i m =
       kept-if (hasWork i m)
       (agrees
-      (touch-variables-kept sys i (m WORK i (m WORKERS i HEAD) / 16) (m WORK i (m WORKERS i HEAD) % 16) (sys .net .variables)
+      (touch-variables-kept sys i (m WORK i (m WORKERS i HEAD) / 16) (m WORK i (m WORKERS i HEAD) % 16)
       (store m WORKERS i HEAD (m WORKERS i HEAD + 1)) .static r a b h
       ∙ store-apart m WORKERS i HEAD (m WORKERS i HEAD + 1) r a b (λ e. omega arith)))
       idle

@@ -9,6 +9,8 @@ use borrow.Author.Tests.{eq-eqb, ne-eqb}
 use lib.Dec.{eqb}
 use Rattle.base.proofs.Bools.{and-left, and-right, and-intro}
 use Rattle.base.proofs.Choice.{cond-true, cond-false}
+use Rattle.base.proofs.Loops.{loop-ext, loop-if}
+use Rattle.base.specs.Below.{loop}
 use Rattle.disac4.specs.Action.{loses, lowered, deletes}
 use Rattle.disac4.specs.State.{State}
 use Rattle.disac4.specs.System.{System}
@@ -19,14 +21,14 @@ use Rattle.cells.proofs.Stores.{store-same, store-other}
 use Rattle.cells.specs.Layout.{DOMAIN, COUNTERS}
 use Rattle.cells.specs.Memory.{Mem, store}
 use Rattle.index.proofs.Kept.{row-heads}
-use Rattle.treating.specs.Treat.{loseM, touchM, touchValuesM, touchVariableM, touchVariablesM}
+use Rattle.treating.specs.Treat.{loseM, touchM, touchVariableM, touchVariablesM}
 use Rattle.cells.specs.View.{LISTED, counterRow, viewCounter, view}
 use Rattle.refinement.proofs.DeleteApart.{Apart, deleteIf, delete-if-apart}
 use Rattle.refinement.proofs.LongerLists.{both-none, Appends, appends-if}
 use Rattle.refinement.specs.Inv.{Small}
 use Rattle.index.specs.Index.{Paired}
 use Rattle.refinement.proofs.Labelwise.{own-row, Shows, As, shows-if}
-use Rattle.refinement.proofs.Walking.{loop, walk, is-loop}
+use Rattle.refinement.proofs.Walking.{values, walk}
 
 module _ (sys : System) (i y w : ℕ) where
   -- the step at one label
@@ -34,26 +36,17 @@ module _ (sys : System) (i y w : ℕ) where
   touchLabelM x v m =
       cond (eqb (sys .owner x) (suc i)) (cond (sys .net .linked x y) (touchM sys i y w x v m) m) m
 
-  idle-loop : (n : ℕ) (m : Mem) → m ≡ loop (λ v m. m) n m
-  idle-loop = is-loop (λ v m. m) (λ n m. m) (λ m. refl) (λ n m. refl)
-
-  variable-loop : (x : ℕ) (m : Mem) → touchVariableM sys i y w x m ≡ loop (touchLabelM x) (sys .net .size x) m
-  unfolding touchVariableM touchValuesM
-  variable-loop x m = go (eqb (sys .owner x) (suc i)) (sys .net .linked x y)
-    where
-      go : (a b : Bool)
-          → cond a (cond b (touchValuesM sys i y w x (sys .net .size x) m) m) m
-          ≡ loop (λ v m. cond a (cond b (touchM sys i y w x v m) m) m) (sys .net .size x) m
-      go true true = is-loop (touchM sys i y w x) (touchValuesM sys i y w x) (λ m. refl) (λ n m. refl) (sys .net .size x) m
-      go true false = idle-loop (sys .net .size x) m
-      go false b = idle-loop (sys .net .size x) m
-
   -- the two loops are a walk over the labels
-  pub touch-walk : (n : ℕ) (m : Mem) → touchVariablesM sys i y w n m ≡ walk (sys .net) touchLabelM n m
-  unfolding touchVariablesM
-  touch-walk =
-      is-loop (λ x. loop (touchLabelM x) (sys .net .size x)) (touchVariablesM sys i y w) (λ m. refl)
-      (λ x m. variable-loop x (touchVariablesM sys i y w x m))
+  pub touch-walk : (m : Mem) → touchVariablesM sys i y w m ≡ walk (sys .net) touchLabelM m
+  unfolding touchVariablesM touchVariableM
+  touch-walk m =
+      loop-ext (sys .net .variables) (touchVariableM sys i y w) (values (sys .net) touchLabelM) m
+      (λ x h. variable x (loop x (values (sys .net) touchLabelM) m))
+    where
+      variable : (x : ℕ) (o : Mem) → touchVariableM sys i y w x o ≡ values (sys .net) touchLabelM x o
+      variable x o =
+          ap (λ (n : Mem). cond (eqb (sys .owner x) (suc i)) n o) (loop-if (sys .net .linked x y) (sys .net .size x) (touchM sys i y w x) o)
+          ∙ loop-if (eqb (sys .owner x) (suc i)) (sys .net .size x) (λ v n. cond (sys .net .linked x y) (touchM sys i y w x v n) n) o
 
   -- ---- one label
 

@@ -62,15 +62,14 @@ module _ (sys : System) (small : Small sys) (s : Machine) (inv : Inv sys s) (i :
 
   -- and treated
   abbrev pub treatedM : Mem
-  treatedM =
-      touchVariablesM sys i (a .variable) (a .value) (sys .net .variables) taken
+  treatedM = touchVariablesM sys i (a .variable) (a .value) taken
 
   step : ℕ → ℕ → Mem → Mem
   step = touchLabelM sys i (a .variable) (a .value)
 
-  walked : treatedM ≡ walk (sys .net) step (sys .net .variables) taken
+  walked : treatedM ≡ walk (sys .net) step taken
   unfolding step
-  walked = touch-walk sys i (a .variable) (a .value) (sys .net .variables) taken
+  walked = touch-walk sys i (a .variable) (a .value) taken
 
   local : Local sys small step (λ x. i)
   unfolding step

@@ -11,6 +11,7 @@ use lib.Dec.{eqb}
 use Rattle.base.proofs.Bools.{decided, and-left, and-right, and-intro, and-false, refuted}
 use Rattle.base.proofs.Choice.{cond-true, cond-false}
 use Rattle.base.proofs.Row.{row-bit}
+use Rattle.base.specs.Below.{loop}
 use Rattle.base.specs.Row.{isOdd, bit, rowOf}
 use Rattle.disac4.specs.System.{System, systemOf}
 use Rattle.network.specs.Network.{supports}
@@ -24,11 +25,10 @@ use Rattle.index.proofs.Permitted.{supports-allowed}
 use Rattle.index.proofs.Own.{next-none, next-here, next-past, next-above}
 use Rattle.index.specs.Allowed.{Listed}
 use Rattle.index.specs.Index.{owns, ownLinked, nextOwn}
-use Rattle.cells.proofs.Stores.{one-more}
 use Rattle.cells.specs.Layout.{WORKERS, WORK, DOMAIN, COUNTERS, HEAD, TAIL, LABELROOM}
 use Rattle.cells.specs.Lists.{deleteM}
 use Rattle.cells.specs.Memory.{Mem, store}
-use Rattle.treating.specs.Treat.{SupportRow, loseM, touchM, touchValuesM, touchVariableM, touchVariablesM, hasWork, treatM}
+use Rattle.treating.specs.Treat.{SupportRow, loseM, touchM, touchVariableM, touchVariablesM, hasWork, treatM}
 use Rattle.cells.specs.View.{LISTED, counterRow}
 
 -- ---- a count goes down
@@ -100,42 +100,36 @@ supported b m y w x n s r l k e c = record {
 
 module _ (sys : System) (i y w x : ℕ) (m : Mem) where
   pub variable-touched : (n : Mem) (k : ℕ) → eqb (sys .owner x) (suc i) ≡ true → sys .net .linked x y ≡ true → k ≡ sys .net .size x
-      → n ≡ touchValuesM sys i y w x k m → n ≡ touchVariableM sys i y w x m
+      → n ≡ loop k (touchM sys i y w x) m → n ≡ touchVariableM sys i y w x m
   unfolding touchVariableM
   variable-touched n k o l s e =
-      e ∙ ap (λ (k : ℕ). touchValuesM sys i y w x k m) s
+      e ∙ ap (λ (k : ℕ). loop k (touchM sys i y w x) m) s
       ∙ sym (cond-true _ _ o ∙ cond-true _ _ l)
 
   pub not-linked : sys .net .linked x y ≡ false → m ≡ touchVariableM sys i y w x m
   unfolding touchVariableM
-  not-linked l = second-fails (eqb (sys .owner x) (suc i)) (touchValuesM sys i y w x (sys .net .size x) m) m l
+  not-linked l = second-fails (eqb (sys .owner x) (suc i)) (loop (sys .net .size x) (touchM sys i y w x) m) m l
 
   pub not-owned : eqb (sys .owner x) (suc i) ≡ false → m ≡ touchVariableM sys i y w x m
   unfolding touchVariableM
   not-owned o = sym (cond-false _ _ o)
 
-module _ (sys : System) (i y w : ℕ) (m m₁ m₂ : Mem) where
-  pub value-more : (x v : ℕ) → m₁ ≡ touchValuesM sys i y w x v m → m₂ ≡ touchM sys i y w x v m₁
-      → m₂ ≡ touchValuesM sys i y w x (v + 1) m
-  unfolding touchValuesM
-  value-more x v = one-more (λ n. touchValuesM sys i y w x n m) (touchM sys i y w x v) v m₁ m₂ refl
-
 -- ---- the chain of a row's variables
 
 -- where the chain goes on with `next`: every variable before it is done, and all are at its end
 pub record Reached (b : List ℕ) (i y w : ℕ) (start m : Mem) (next : ℕ) : Type 0 where
-  pub done : next ≡ 0 → m ≡ touchVariablesM (systemOf (planOf b)) i y w (variableCount b) start
-  pub before : (x : ℕ) → next ≡ suc x → m ≡ touchVariablesM (systemOf (planOf b)) i y w x start
+  pub done : next ≡ 0 → m ≡ loop (variableCount b) (touchVariableM (systemOf (planOf b)) i y w) start
+  pub before : (x : ℕ) → next ≡ suc x → m ≡ loop x (touchVariableM (systemOf (planOf b)) i y w) start
   pub inside : (x : ℕ) → next ≡ suc x → x < variableCount b
   pub mine : (x : ℕ) → next ≡ suc x → ownLinked b i y x ≡ true
 
 module _ (b : List ℕ) (i y w : ℕ) (m : Mem) where
   abbrev touched-below : ℕ → Mem
-  touched-below n = touchVariablesM (systemOf (planOf b)) i y w n m
+  touched-below n = loop n (touchVariableM (systemOf (planOf b)) i y w) m
 
   -- a variable that is not in the chain leaves all as it is
   passed : (x : ℕ) → ownLinked b i y x ≡ false → touched-below x ≡ touched-below (suc x)
-  unfolding touchVariablesM systemOf networkOf owns
+  unfolding loop systemOf networkOf owns
   passed x p =
       ⊎-elim (not-owned (systemOf (planOf b)) i y w x (touched-below x))
       (not-linked (systemOf (planOf b)) i y w x (touched-below x))
@@ -174,7 +168,7 @@ module _ (b : List ℕ) (i y w : ℕ) (m : Mem) where
 
   -- at the chain's start nothing is done
   pub reached-start : (next : ℕ) → next ≡ nextOwn b i y (variableCount b) → Reached b i y w m m next
-  unfolding touchVariablesM
+  unfolding loop
   reached-start next q =
       let none-done : 0 ≡ variableCount b - variableCount b = omega arith in
       rw q (reached m (variableCount b) (omega arith) (ap touched-below none-done))
@@ -183,7 +177,7 @@ module _ (b : List ℕ) (i y w : ℕ) (m : Mem) where
   pub reached-next : (m₁ m₂ : Mem) (x next : ℕ) → x < variableCount b → m₁ ≡ touched-below x
       → m₂ ≡ touchVariableM (systemOf (planOf b)) i y w x m₁ → next ≡ nextOwn b i y (variableCount b - suc x)
       → Reached b i y w m m₂ next
-  unfolding touchVariablesM
+  unfolding loop
   reached-next m₁ m₂ x next h e p q =
       let more : suc x ≡ variableCount b - (variableCount b - suc x) = omega arith in
       rw q
@@ -225,7 +219,7 @@ module _ (sys : System) (i : ℕ) (m : Mem) where
   -- and put together: the label is treated
   pub treat-goes : {head c : ℕ} → head ≡ m WORKERS i HEAD → c ≡ m WORK i head → HasWork i m
       → treatM sys i m
-      ≡ some (touchVariablesM sys i (c / 16) (c % 16) (sys .net .variables) (store m WORKERS i HEAD (head + 1)))
+      ≡ some (touchVariablesM sys i (c / 16) (c % 16) (store m WORKERS i HEAD (head + 1)))
   unfolding treatM hasWork
   treat-goes p q h = cond-true {b = hasWork i m} _ none (search (and-intro, lt-ltb)) ∙ rw (q, p)
 

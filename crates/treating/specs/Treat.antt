@@ -1,9 +1,10 @@
 -- Treating a label in memory: the treating worker's variables that share a constraint with it, ascending, and their values.
-use Prim.Native.Nat.{ℕ, zero, suc, _+_, _-_, _/_, _%_, _<_}
+use Prim.Native.Nat.{ℕ, suc, _+_, _-_, _/_, _%_, _<_}
 use mathlib.Core.Bool.{Bool, cond, _&&_}
 use mathlib.Core.Option.{Option, none, some}
 use mathlib.Core.Path.{_≡_}
 use lib.Dec.{ltb, eqb}
+use Rattle.base.specs.Below.{loop}
 use Rattle.base.specs.Row.{bit}
 use Rattle.disac4.specs.System.{System}
 use Rattle.cells.specs.Layout.{WORKERS, WORK, DOMAIN, COUNTERS, HEAD, TAIL, LABELROOM}
@@ -29,20 +30,14 @@ unfoldable pub touchM : System → ℕ → ℕ → ℕ → ℕ → ℕ → Mem �
 touchM sys i y w x v m =
     cond (eqb (m DOMAIN x v) LISTED) (cond (sys .net .allows x v y w) (loseM i x v y m) m) m
 
--- the first `n` values of `x`
-unfoldable pub touchValuesM : System → ℕ → ℕ → ℕ → ℕ → ℕ → Mem → Mem
-touchValuesM sys i y w x zero m = m
-touchValuesM sys i y w x (suc n) m = touchM sys i y w x n (touchValuesM sys i y w x n m)
-
--- variable `x`, if row `i` owns it and it shares a constraint with `y`
+-- the values of `x`, if row `i` owns it and it shares a constraint with `y`
 unfoldable pub touchVariableM : System → ℕ → ℕ → ℕ → ℕ → Mem → Mem
 touchVariableM sys i y w x m =
-    cond (eqb (sys .owner x) (suc i)) (cond (sys .net .linked x y) (touchValuesM sys i y w x (sys .net .size x) m) m) m
+    cond (eqb (sys .owner x) (suc i)) (cond (sys .net .linked x y) (loop (sys .net .size x) (touchM sys i y w x) m) m) m
 
--- the first `n` variables
-unfoldable pub touchVariablesM : System → ℕ → ℕ → ℕ → ℕ → Mem → Mem
-touchVariablesM sys i y w zero m = m
-touchVariablesM sys i y w (suc n) m = touchVariableM sys i y w n (touchVariablesM sys i y w n m)
+-- all variables
+unfoldable pub touchVariablesM : System → ℕ → ℕ → ℕ → Mem → Mem
+touchVariablesM sys i y w = loop (sys .net .variables) (touchVariableM sys i y w)
 
 -- whether row `i` has a label on its work list, in bounds
 unfoldable pub hasWork : ℕ → Mem → Bool
@@ -53,6 +48,6 @@ unfoldable pub treatM : System → ℕ → Mem → Option Mem
 treatM sys i m =
     cond (hasWork i m)
     (some
-    (touchVariablesM sys i (m WORK i (m WORKERS i HEAD) / 16) (m WORK i (m WORKERS i HEAD) % 16) (sys .net .variables)
+    (touchVariablesM sys i (m WORK i (m WORKERS i HEAD) / 16) (m WORK i (m WORKERS i HEAD) % 16)
     (store m WORKERS i HEAD (m WORKERS i HEAD + 1))))
     none

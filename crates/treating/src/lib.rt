@@ -6,6 +6,7 @@ ghost use mathlib.Core.Bool.{true};
 ghost use mathlib.Core.Path.{_≡_};
 ghost use Prim.Native.Nat.{ℕ, _<_, _≤_, _/_, _%_};
 ghost use lib.ListN.{length};
+ghost use Rattle.base.specs.Below.{loop};
 ghost use Rattle.base.specs.Row.{bit};
 ghost use Rattle.disac4.specs.System.{System, systemOf};
 ghost use Rattle.plan.specs.Decode.{planOf};
@@ -14,7 +15,7 @@ ghost use Rattle.index.specs.Index.{ownLinked, Ready};
 ghost use Rattle.cells.specs.Acts.{Acts};
 ghost use Rattle.cells.specs.Layout.{WORKERS, WORK, HEAD, TAIL};
 ghost use Rattle.cells.specs.Memory.{memOf};
-ghost use Rattle.treating.specs.Treat.{SupportRow, loseM, touchM, touchValuesM, touchVariableM, touchVariablesM, treatM};
+ghost use Rattle.treating.specs.Treat.{SupportRow, loseM, touchM, touchVariableM, touchVariablesM, treatM};
 ghost use Rattle.cells.specs.View.{counterRow};
 
 // Label v of x loses one from its count, in a row of counters; at 0 row i deletes it.
@@ -46,7 +47,7 @@ fn touch(cells: &mut [u16], i: usize, x: usize, v: usize, supported: usize, row:
 // The first n values of x: those that had the treated label as a support are in one row, their counters in another.
 fn touch_values(cells: &mut [u16], i: usize, x: usize, n: usize, supported: usize, row: usize)
     requires { ⌜ (24576 ≤ length (now cells)) × (i < 8) × (x < 32) × (n ≤ 16) × (row ≤ 256) ⌝ }
-    ensures { λ _. ⌜ ((sys : System) (y w : ℕ) → SupportRow sys (memOf (now (cells .entry))) y w x n supported row → memOf (now (cells .exit)) ≡ touchValuesM sys i y w x n (memOf (now (cells .entry)))) ⌝ }
+    ensures { λ _. ⌜ ((sys : System) (y w : ℕ) → SupportRow sys (memOf (now (cells .entry))) y w x n supported row → memOf (now (cells .exit)) ≡ loop n (touchM sys i y w x) (memOf (now (cells .entry)))) ⌝ }
 {
     let mut v = 0;
     while v < n {
@@ -69,7 +70,7 @@ fn touch_variable(b: &[u8], cells: &mut [u16], i: usize, y: usize, w: usize, x: 
 // Every variable: only those of the row that share a constraint with y are touched, so following their chain is enough.
 fn touch_variables(b: &[u8], cells: &mut [u16], i: usize, y: usize, w: usize)
     requires { ⌜ Ready (now b) (now cells) × (i < 8) × Listed (now b) y w ⌝ }
-    ensures { λ _. ⌜ memOf (now (cells .exit)) ≡ touchVariablesM (systemOf (planOf (now (b .entry)))) i y w (systemOf (planOf (now (b .entry))) .net .variables) (memOf (now (cells .entry))) ⌝ }
+    ensures { λ _. ⌜ memOf (now (cells .exit)) ≡ touchVariablesM (systemOf (planOf (now (b .entry)))) i y w (memOf (now (cells .entry))) ⌝ }
 {
     let mut next = layout::get(cells, layout::FIRST, i, y);
     while next != 0 {

@@ -5,7 +5,7 @@ use mathlib.Core.Bool.{Bool}
 use mathlib.Core.Path.{_≡_, sym, _∙_}
 use native.Mathlib.Omega.{arith}
 use Rattle.counting.proofs.CountLaws.{both-linked, both-apart}
-use Rattle.counting.proofs.Kept.{pair-kept}
+use Rattle.counting.proofs.Kept.{counters-alone, pair-else}
 use Rattle.counting.proofs.count_both.Statement.{statement}
 use Rattle.counting.proofs.count_both.Tie as tie
 use Rattle.disac4.specs.System.{systemOf}
@@ -58,7 +58,7 @@ put-counts-requires-2 c κs =
     let t = branch r in
     let a = s (t .before) in (
       ready-kept (now (a .args .b)) (now (a .args .cells)) _ (a .pre .0) (p .put-counts .kept .1 .0) (p .put-counts .ensures)
-          (pair-kept (systemOf (planOf (now (a .args .b)))) (a .args .x) (a .args .y) _),
+          (counters-alone (pair-else (systemOf (planOf (now (a .args .b)))) (a .args .x) (a .args .y) _)),
       found (t .before) _ (t .if1 .taken) .1,
       r .support-rows .ensures .1,
     )

@@ -1,17 +1,20 @@
 -- `counting::put_counts` stores the counts of the rows that it is given. Invariant: those of the first v values are
 -- stored. Assumes nothing.
-use Prim.Native.Nat.{_-_, _≤_}
+use Prim.Native.Nat.{ℕ, _-_, _≤_}
 use borrow.Author.Needs.{needs}
 use denote.Ref.{now}
-use lib.ListN.{length, getD}
-use mathlib.Core.Path.{_≡_, refl, _∙_}
+use lib.ListN.{getD}
+use mathlib.Core.Path.{_≡_, refl, _∙_, ap₂}
 use native.Mathlib.Omega.{arith}
+use Rattle.cells.proofs.Done.{Done, done-none, done-more, done-all}
 use Rattle.cells.proofs.Ranges.{may-put}
-use Rattle.cells.specs.Memory.{memOf}
-use Rattle.counting.proofs.CountLaws.{supports-fit, counter-more}
+use Rattle.cells.specs.Layout.{COUNTERS}
+use Rattle.cells.specs.Memory.{memOf, store}
+use Rattle.cells.specs.View.{counterRow}
+use Rattle.counting.proofs.CountLaws.{supports-fit}
 use Rattle.counting.proofs.put_counts.Statement.{statement}
 use Rattle.counting.proofs.put_counts.Tie as tie
-use Rattle.counting.specs.Count.{supportRow, countPairM}
+use Rattle.counting.specs.Count.{supportRow, countValueM, countPairM}
 use Rattle.disac4.specs.System.{systemOf}
 use Rattle.index.proofs.Labels.{linked-row}
 use Rattle.index.proofs.Permitted.{linked-inside, supports-counted}
@@ -21,7 +24,7 @@ use Rattle.plan.specs.Network.{networkOf}
 
 abbrev Inv-loop : tie.InvT-loop
 Inv-loop b cells₀ x y rows n at v₀ cells v =
-    (v ≤ n) × (length cells ≡ length cells₀) × (memOf cells ≡ countPairM (systemOf (planOf b)) x y v (memOf cells₀))
+    Done (countValueM (systemOf (planOf b)) x y (counterRow (memOf cells₀) x y)) n cells₀ v cells
 
 abbrev μ-loop : tie.MeasureT-loop
 μ-loop b cells₀ x y rows n at v₀ cells v = n - v
@@ -37,8 +40,7 @@ counter-row-requires c κs =
     linked-row (now (s .args .b)) (now (s .args .cells)) (s .pre .0) (s .args .x) (s .args .y) (s .pre .1)
 
 loop-holds : tie.Need-loop-holds Inv-loop μ-loop
-unfolding countPairM
-loop-holds c = (omega arith, refl, refl)
+loop-holds c = done-none
 
 -- the value v that the loop has come to
 module _ (t : tie.In-loop Inv-loop μ-loop) where
@@ -92,7 +94,7 @@ put-requires c κs =
     (omega (
       arith,
       s at .pre .0 .long,
-      l at .loop .inv .1,
+      l at .loop .inv .size,
       at .loop-test .taken,
       sized at .size .ensures,
       l at .before .counter-row .ensures,
@@ -109,22 +111,19 @@ loop-again : tie.Need-loop-again Inv-loop μ-loop
 unfolding systemOf
 loop-again c =
     let p = c .before .before in
-    let k = p .before in
-    let a = s (t k) .args in (
-      omega arith,
-      omega arith,
-      counter-more (systemOf (planOf (now (a .b)))) (a .x) (a .y) (l (t k) .loop .v) _ _ _ _ _ (l (t k) .loop .inv .2)
-          (l (t k) .before .counter-row .ensures .0) (counted k .0) (p .put .ensures),
-    )
+    let l = l (t (p .before)) in
+    done-more (l .loop .inv) (omega arith) (p .put .kept .0)
+    (p .put .ensures
+    ∙ ap₂ (λ (at n : ℕ). store (memOf (l .loop .cells)) COUNTERS at (l .loop .v) n) (l .before .counter-row .ensures .0) (counted (p .before) .0))
 
 same-length : tie.Need-same-length Inv-loop μ-loop
 same-length c = omega arith
 
 returns : tie.Need-returns Inv-loop μ-loop
+unfolding countPairM systemOf networkOf
 returns c =
     let z = c .before .before .before .before in
-    let e : c .before .loop .v ≡ z .size .result = omega (arith, c .loop-test .left, c .before .loop .inv .0) in
-    rw (e ∙ z .size .ensures .0) at (c .before .loop .inv .2)
+    done-all _ (c .before .loop .inv) (omega (arith, c .loop-test .left, z .size .ensures .0))
 
 pub put-counts-spec : {M : Type 1} → statement M
 put-counts-spec =

@@ -1,16 +1,15 @@
 -- `indexing::index_chains` writes the chains. Invariant: those of the first c constraints are written. Assumes nothing.
-use Prim.Native.Nat.{ℕ, _-_, _<_, _≤_}
+use Prim.Native.Nat.{ℕ, _-_, _<_}
 use borrow.Author.Needs.{needs}
 use denote.Ref.{now}
-use mathlib.Core.Path.{_≡_, refl, sym, _∙_, ap, ap₂, subst}
+use mathlib.Core.Path.{_≡_, sym, _∙_, ap, ap₂, subst}
 use native.Mathlib.Omega.{arith}
-use lib.ListN.{length}
-use Rattle.index.proofs.ConstraintChains.{chains-keep}
-use Rattle.index.proofs.Places.{few-sections, located-kept}
+use Rattle.index.proofs.ConstraintChains.{link-keeps}
+use Rattle.index.proofs.Places.{few-sections, located-done}
 use Rattle.indexing.proofs.index_chains.Statement.{statement}
 use Rattle.indexing.proofs.index_chains.Tie as tie
-use Rattle.index.specs.Index.{Located, constraintStart, linkM, chainsM}
-use Rattle.cells.proofs.Stores.{one-more}
+use Rattle.index.specs.Index.{Located, constraintStart, linkM, chainM, chainsM}
+use Rattle.cells.proofs.Done.{Done, done-none, done-more, done-all}
 use Rattle.cells.specs.Layout.{PLACES}
 use Rattle.cells.specs.Memory.{memOf}
 use Rattle.plan.proofs.Constraints.{in-order}
@@ -19,8 +18,7 @@ use Rattle.format.specs.Format.{sectionStart, variableCount, constraintCount, f
 
 abbrev Inv-loop : tie.InvT-loop
 Inv-loop b cells₀ variables count c₀ cells c =
-    (c ≤ count) × (variables ≡ variableCount b) × (count ≡ constraintCount b) × (memOf cells ≡ chainsM b c (memOf cells₀))
-    × (length cells ≡ length cells₀)
+    (variables ≡ variableCount b) × (count ≡ constraintCount b) × Done (chainM b) count cells₀ c cells
 
 abbrev μ-loop : tie.MeasureT-loop
 μ-loop b cells₀ variables count c₀ cells c = count - c
@@ -35,8 +33,8 @@ constraint-count-requires c κs = search needs
 places-known : (l : tie.At-loop Inv-loop μ-loop) → Located (now (l .before .before .before .before .before .args .b)) (l .loop .cells)
 places-known l =
     let s = l .before .before .before .before .before in
-    located-kept (now (s .args .b)) (now (s .args .cells)) (l .loop .cells) _ (s .pre) (l .loop .inv .4) (l .loop .inv .3)
-    (λ k. chains-keep (now (s .args .b)) (l .loop .c) _ PLACES 0 k (λ e. omega arith) (λ e. omega arith))
+    located-done (now (s .args .b)) (s .pre) (l .loop .inv .2)
+    (λ c m k. link-keeps _ _ c m PLACES 0 k (λ e. omega arith) (λ e. omega arith))
 
 -- the constraint's place, and that the numbers of its variables are in order
 module _ (c : tie.After-place Inv-loop μ-loop) where
@@ -50,15 +48,14 @@ module _ (c : tie.After-place Inv-loop μ-loop) where
   listed = omega (arith, l .loop .inv, c .before .before .loop-test .taken)
 
   found : c .place .result ≡ constraintStart (now (s .args .b)) (l .loop .c)
-  found = c .place .ensures .start ∙ ap (sectionStart (now (s .args .b))) (omega (arith, l .loop .inv .1))
+  found = c .place .ensures .start ∙ ap (sectionStart (now (s .args .b))) (omega (arith, l .loop .inv .0))
 
   numbers : InOrder (now (s .args .b)) (c .place .result)
   numbers =
       subst (InOrder (now (s .args .b))) (sym found) (in-order (now (s .args .b)) (s .pre .sound) (l .loop .c) listed)
 
 loop-holds : tie.Need-loop-holds Inv-loop μ-loop
-unfolding chainsM
-loop-holds c = (omega arith, c .before .variable-count .ensures .0, c .constraint-count .ensures .0, refl, refl)
+loop-holds c = (c .before .variable-count .ensures .0, c .constraint-count .ensures .0, done-none)
 
 add-place : tie.Need-add-place Inv-loop μ-loop
 add-place c =
@@ -110,35 +107,28 @@ loop-less : tie.Need-loop-less Inv-loop μ-loop
 loop-less c = search needs
 
 loop-again : tie.Need-loop-again Inv-loop μ-loop
-unfolding chainsM
 loop-again c =
     let g = c .before .before .before .before .before .before in
     let inv = l g .loop .inv in
     let b = now (s g .args .b) in
     let link = c .before .before .link in (
-      omega arith,
+      inv .0,
       inv .1,
-      inv .2,
-      one-more (λ n. chainsM b n (memOf (now (s g .args .cells))))
-          (linkM (firstAt b (constraintStart b (l g .loop .c)) - 1) (secondAt b (constraintStart b (l g .loop .c)) - 1) (l g .loop .c))
-          (l g .loop .c) _ _ refl (inv .3)
+      done-more (inv .2) (omega arith) (link .kept .0)
           (link .ensures
           ∙ ap₂ (λ (x y : ℕ). linkM (x - 1) (y - 1) (l g .loop .c) (memOf (l g .loop .cells)))
           (c .before .before .before .before .first .ensures .0 ∙ ap (firstAt b) (found g))
           (c .before .before .before .second .ensures .0 ∙ ap (secondAt b) (found g))),
-      link .kept .0 ∙ inv .4,
     )
 
 same-length : tie.Need-same-length Inv-loop μ-loop
-same-length c = c .before .loop .inv .4
+same-length c = c .before .loop .inv .2 .size
 
 returns : tie.Need-returns Inv-loop μ-loop
+unfolding chainsM
 returns c =
-    let l = c .before in
-    let s = l .before .before .before .before .before in
-    let b = now (s .args .b) in
-    let e : l .loop .c ≡ constraintCount b = omega (arith, l .loop .inv, c .loop-test .left) in
-    l .loop .inv .3 ∙ ap (λ (k : ℕ). chainsM b k (memOf (now (s .args .cells)))) e
+    let inv = c .before .loop .inv in
+    done-all _ (inv .2) (omega (arith, inv, c .loop-test .left))
 
 pub index-chains-spec : {M : Type 1} → statement M
 index-chains-spec =

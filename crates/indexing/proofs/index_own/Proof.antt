@@ -1,25 +1,23 @@
 -- `indexing::index_own` writes the chains of the workers' own variables. Invariant: they go through those from x on.
 -- Assumes nothing.
-use Prim.Native.Nat.{ℕ, suc, _-_, _<_, _≤_}
+use Prim.Native.Nat.{ℕ, _+_, _-_, _<_, _≤_}
 use denote.Ref.{now}
 use mathlib.Core.List.{List}
-use mathlib.Core.Path.{_≡_, refl, _∙_, ap}
+use mathlib.Core.Path.{_≡_, _∙_}
 use native.Mathlib.Omega.{arith}
-use lib.ListN.{length}
+use Rattle.cells.proofs.Done.{Done, done-none, done-more, done-all}
 use Rattle.cells.specs.Layout.{PLACES}
-use Rattle.cells.specs.Memory.{Mem, memOf}
 use Rattle.format.specs.Format.{variableCount}
 use Rattle.index.proofs.Leads.{leads-same}
-use Rattle.index.proofs.OwnChains.{own-start, own-more}
-use Rattle.index.proofs.Places.{few-sections, located-kept}
+use Rattle.index.proofs.OwnChains.{leads-last}
+use Rattle.index.proofs.Places.{few-sections, located-done}
 use Rattle.indexing.proofs.index_own.Statement.{statement}
 use Rattle.indexing.proofs.index_own.Tie as tie
-use Rattle.index.specs.Index.{Located, ownM}
+use Rattle.index.specs.Index.{Located, lastLeadsM, ownM}
 
 abbrev Inv-loop : tie.InvT-loop
 Inv-loop b cells₀ n x₀ cells x =
-    (x ≤ variableCount b) × (n ≡ variableCount b) × Located b cells × (length cells ≡ length cells₀)
-    × (memOf cells ≡ ownM b (variableCount b - x) (memOf cells₀))
+    (x ≤ variableCount b) × (n ≡ variableCount b) × Done (lastLeadsM b) (variableCount b) cells₀ (variableCount b - x) cells
 
 abbrev μ-loop : tie.MeasureT-loop
 μ-loop b cells₀ n x₀ cells x = x
@@ -30,7 +28,14 @@ variable-count-requires c κs = tt
 loop-holds : tie.Need-loop-holds Inv-loop μ-loop
 loop-holds c =
     let count = c .variable-count .ensures .0 in
-    (omega (arith, count), count, c .before .before .before .pre, refl, own-start _ _ _ count)
+    let start : variableCount (now (c .before .before .before .args .b)) - c .variable-count .result ≡ 0 = omega (arith, count) in
+    (omega (arith, count), count, rw start done-none)
+
+-- while the chains grow, the sections' places are known
+places-known : (l : tie.At-loop Inv-loop μ-loop) → Located (now (l .before .before .before .before .args .b)) (l .loop .cells)
+places-known l =
+    located-done _ (l .before .before .before .before .pre) (l .loop .inv .2)
+    (λ j m k. leads-same _ _ _ m PLACES 0 k (λ r e h. omega arith) (λ r e h. omega arith))
 
 sub-x : tie.Need-sub-x Inv-loop μ-loop
 sub-x c = omega (arith, c .loop-test .taken)
@@ -38,7 +43,7 @@ sub-x c = omega (arith, c .loop-test .taken)
 owner-requires : tie.Need-owner-requires Inv-loop μ-loop
 owner-requires c κs =
     let t = c .before .before in
-    (t .before .loop .inv .2, omega (arith, t .before .loop .inv .0, t .loop-test .taken))
+    (places-known (t .before), omega (arith, t .before .loop .inv .0, t .loop-test .taken))
 
 sub-leads : tie.Need-sub-leads Inv-loop μ-loop
 sub-leads c = omega (arith, c .owner .ensures)
@@ -54,17 +59,14 @@ module _ (c : tie.After-owner Inv-loop μ-loop) where
   abbrev b : List ℕ
   b = now (s .args .b)
 
-  abbrev m : Mem
-  m = memOf (now (s .args .cells))
-
   listed : l .loop .x - 1 < variableCount b
   listed = omega (arith, l .loop .inv .0, c .before .before .before .loop-test .taken)
 
 leads-requires : tie.Need-leads-requires Inv-loop μ-loop
 leads-requires c κs =
     let inv = l c .loop .inv in
-    let few = few-sections (b c) (inv .2 .sound) in
-    omega (arith, c .owner .ensures, listed c, inv .1, inv .2 .long)
+    let few = few-sections (b c) (s c .pre .sound) in
+    omega (arith, c .owner .ensures, listed c, inv .1, inv .2 .size, s c .pre .long)
 
 loop-less : tie.Need-loop-less Inv-loop μ-loop
 loop-less c = omega (arith, c .before .before .before .before .before .before .loop-test .taken)
@@ -75,27 +77,22 @@ loop-again c =
     let o = p .before in
     let inv = l o .loop .inv in
     let x = l o .loop .x in
-    let back : variableCount (b o) - x ≡ variableCount (b o) - suc (x - 1) =
-    omega (arith, o .before .before .before .loop-test .taken) in (
+    let more : variableCount (b o) - (x - 1) ≡ variableCount (b o) - x + 1 = omega (arith, listed o) in (
       omega (arith, listed o),
       inv .1,
-      located-kept (b o) (l o .loop .cells) (p .leads .last .0) _ (inv .2) (p .leads .kept .0) (p .leads .ensures)
-          (λ k. leads-same _ _ _ _ PLACES 0 k (λ r e h. omega arith) (λ r e h. omega arith)),
-      p .leads .kept .0 ∙ inv .3,
-      own-more (b o) (x - 1) (o .owner .result) _ _ _ _ (listed o) (inv .1) (o .owner .ensures .0)
-          (inv .4 ∙ ap (λ (k : ℕ). ownM (b o) k (m o)) back) (p .leads .ensures),
+      rw more
+          (done-more (inv .2) (omega (arith, listed o)) (p .leads .kept .0)
+          (p .leads .ensures
+          ∙ leads-last (b o) (x - 1) (o .owner .result) _ (variableCount (b o) - x) _
+          (omega (arith, inv .0, o .before .before .before .loop-test .taken)) (inv .1) (o .owner .ensures .0))),
     )
 
 same-length : tie.Need-same-length Inv-loop μ-loop
-same-length c = c .before .loop .inv .3
+same-length c = c .before .loop .inv .2 .size
 
 returns : tie.Need-returns Inv-loop μ-loop
-returns c =
-    let l = c .before in
-    let a = l .before .before .before .before .args in
-    let b = now (a .b) in
-    let all : variableCount b - l .loop .x ≡ variableCount b = omega (arith, c .loop-test .left) in
-    l .loop .inv .4 ∙ ap (λ (k : ℕ). ownM b k (memOf (now (a .cells)))) all
+unfolding ownM
+returns c = done-all _ (c .before .loop .inv .2) (omega (arith, c .loop-test .left))
 
 pub index-own-spec : {M : Type 1} → statement M
 index-own-spec =

@@ -1,26 +1,24 @@
 -- `indexing::index_places` writes where each section starts. Invariant: the places of the first k sections are written,
 -- and `at` is the next one's. Assumes nothing.
-use Prim.Native.Nat.{ℕ, _-_, _≤_}
+use Prim.Native.Nat.{_-_}
 use borrow.Author.Needs.{needs}
 use denote.Ref.{now}
 use mathlib.Core.Path.{_≡_, refl, _∙_, ap}
 use native.Mathlib.Numerals.{add-one}
 use native.Mathlib.Omega.{arith}
-use lib.ListN.{length}
+use Rattle.cells.proofs.Done.{Done, done-none, done-more, done-all}
 use Rattle.cells.proofs.Ranges.{may-put}
-use Rattle.cells.proofs.Stores.{one-more}
 use Rattle.index.proofs.Places.{few-sections, start-inside, start-fits}
 use Rattle.indexing.proofs.index_places.Statement.{statement}
 use Rattle.indexing.proofs.index_places.Tie as tie
-use Rattle.index.specs.Index.{placesM}
+use Rattle.index.specs.Index.{placeM, placesM}
 use Rattle.cells.specs.Layout.{PLACES}
 use Rattle.cells.specs.Memory.{memOf, store}
 use Rattle.format.specs.Format.{behind, sectionStart, sectionCount}
 
 abbrev Inv-loop : tie.InvT-loop
 Inv-loop b cells₀ count at₀ k₀ cells at k =
-    (k ≤ count) × (count ≡ sectionCount b) × (at ≡ sectionStart b k) × (memOf cells ≡ placesM b k (memOf cells₀))
-    × (length cells ≡ length cells₀)
+    (count ≡ sectionCount b) × (at ≡ sectionStart b k) × Done (placeM b) count cells₀ k cells
 
 abbrev μ-loop : tie.MeasureT-loop
 μ-loop b cells₀ count at₀ k₀ cells at k = count - k
@@ -29,8 +27,8 @@ section-count-requires : tie.Need-section-count-requires Inv-loop μ-loop
 section-count-requires c κs = search needs
 
 loop-holds : tie.Need-loop-holds Inv-loop μ-loop
-unfolding sectionStart placesM
-loop-holds c = (omega arith, c .section-count .ensures .0, refl, refl, refl)
+unfolding sectionStart
+loop-holds c = (c .section-count .ensures .0, refl, done-none)
 
 put-requires : tie.Need-put-requires Inv-loop μ-loop
 put-requires c κs =
@@ -59,31 +57,24 @@ loop-less : tie.Need-loop-less Inv-loop μ-loop
 loop-less c = search needs
 
 loop-again : tie.Need-loop-again Inv-loop μ-loop
-unfolding sectionStart placesM
+unfolding sectionStart
 loop-again c =
     let l = c .before .before .before .before .before .before in
-    let s = l .before .before .before .before in
-    let b = now (s .args .b) in
     let put = c .before .before .before .put in (
-      omega arith,
-      l .loop .inv .1,
-      rw add-one (c .behind .ensures ∙ ap (behind b) (l .loop .inv .2)),
-      one-more (λ n. placesM b n (memOf (now (s .args .cells)))) (λ m. store m PLACES 0 (l .loop .k) (sectionStart b (l .loop .k)))
-          (l .loop .k) _ _ refl (l .loop .inv .3)
-          (put .ensures ∙ ap (store (memOf (l .loop .cells)) PLACES 0 (l .loop .k)) (l .loop .inv .2)),
-      put .kept .0 ∙ l .loop .inv .4,
+      l .loop .inv .0,
+      rw add-one (c .behind .ensures ∙ ap (behind (now (l .before .before .before .before .args .b))) (l .loop .inv .1)),
+      done-more (l .loop .inv .2) (omega arith) (put .kept .0)
+          (put .ensures ∙ ap (store (memOf (l .loop .cells)) PLACES 0 (l .loop .k)) (l .loop .inv .1)),
     )
 
 same-length : tie.Need-same-length Inv-loop μ-loop
-same-length c = c .before .loop .inv .4
+same-length c = c .before .loop .inv .2 .size
 
 returns : tie.Need-returns Inv-loop μ-loop
+unfolding placesM
 returns c =
-    let l = c .before in
-    let s = l .before .before .before .before in
-    let b = now (s .args .b) in
-    let e : l .loop .k ≡ sectionCount b = omega (arith, l .loop .inv, c .loop-test .left) in
-    l .loop .inv .3 ∙ ap (λ (k : ℕ). placesM b k (memOf (now (s .args .cells)))) e
+    let inv = c .before .loop .inv in
+    done-all _ (inv .2) (omega (arith, inv, c .loop-test .left))
 
 pub index-places-spec : {M : Type 1} → statement M
 index-places-spec =

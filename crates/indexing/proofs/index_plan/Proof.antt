@@ -12,7 +12,6 @@ use Rattle.indexing.proofs.index_plan.Tie as tie
 use Rattle.index.specs.Index.{Located, chainsM, ownM, indexM}
 use Rattle.cells.specs.Layout.{PLACES}
 use Rattle.cells.specs.Memory.{Mem, memOf}
-use Rattle.format.specs.Format.{variableCount, constraintCount, sectionCount}
 
 index-places-requires : tie.Need-index-places-requires
 index-places-requires c κs = search needs
@@ -30,7 +29,7 @@ module _ (p : tie.After-index-places) where
     sound = s .pre .0;
     places = λ k h.
         ap (λ (m : Mem). m PLACES 0 k) (p .index-places .ensures)
-        ∙ places-at b (sectionCount b) (memOf (now (s .args .cells))) k h;
+        ∙ places-at b (memOf (now (s .args .cells))) k h;
     long = omega (arith, p .index-places .kept .1 .0, s .pre);
   }
 
@@ -42,7 +41,7 @@ index-own-requires c κs =
     let l = c .before .before .before in
     let p = l .before .before .before .before in
     located-kept (b p) (p .index-places .last .1 .0) (l .index-chains .last .1 .0) _ (written p) (l .index-chains .kept .1 .0)
-    (l .index-chains .ensures) (λ k. chains-keep (b p) (constraintCount (b p)) _ PLACES 0 k (λ e. omega arith) (λ e. omega arith))
+    (l .index-chains .ensures) (λ k. chains-keep (b p) _ PLACES 0 k (λ e. omega arith) (λ e. omega arith))
 
 same-length : tie.Need-same-length
 same-length c = search needs
@@ -53,9 +52,7 @@ returns c =
     let o = c .before .before in
     let l = o .before .before .before .before in
     let p = l .before .before .before .before in
-    o .index-own .ensures
-    ∙ ap (ownM (b p) (variableCount (b p)))
-    (l .index-chains .ensures ∙ ap (chainsM (b p) (constraintCount (b p))) (p .index-places .ensures))
+    o .index-own .ensures ∙ ap (ownM (b p)) (l .index-chains .ensures ∙ ap (chainsM (b p)) (p .index-places .ensures))
 
 pub index-plan-spec : {M : Type 1} → statement M
 index-plan-spec = tie.close (tie.spec index-places-requires index-chains-requires index-own-requires same-length returns)

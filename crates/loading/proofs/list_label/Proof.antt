@@ -6,7 +6,8 @@ use native.Mathlib.Omega.{arith}
 use denote.Ref.{now}
 use Rattle.disac4.specs.System.{systemOf}
 use Rattle.plan.specs.Decode.{planOf}
-use Rattle.index.proofs.Kept.{ready-kept, stored, same}
+use Rattle.cells.proofs.RegionsKept.{same, stored}
+use Rattle.index.proofs.Kept.{ready-kept}
 use Rattle.index.proofs.Labels.{located, label-small}
 use Rattle.loading.proofs.LoadLaws.{label-deleted, label-kept}
 use Rattle.cells.proofs.Ranges.{may-put}

@@ -1,23 +1,19 @@
 -- `loading::list_plan` lists the values of all variables. Invariant: those of the first x are listed. Assumes nothing.
-use Prim.Native.Nat.{_≤_, _-_}
-use mathlib.Core.Path.{_≡_, refl}
+use Prim.Native.Nat.{_-_}
 use native.Mathlib.Omega.{arith}
 use denote.Ref.{now}
-use lib.ListN.{length}
 use Rattle.disac4.specs.System.{systemOf}
 use Rattle.plan.specs.Decode.{planOf}
-use Rattle.index.proofs.Kept.{ready-kept}
-use Rattle.loading.proofs.Kept.{list-kept}
+use Rattle.cells.proofs.Done.{Done, done-none, done-more, done-all}
+use Rattle.index.proofs.Kept.{ready-done}
+use Rattle.loading.proofs.Kept.{list-variable-kept}
 use Rattle.index.proofs.Labels.{variables-are}
-use Rattle.loading.proofs.LoadLaws.{variable-listed}
-use Rattle.loading.specs.Load.{listM}
-use Rattle.cells.specs.Memory.{memOf}
+use Rattle.loading.specs.Load.{listVariableM, listM}
 use Rattle.loading.proofs.list_plan.Statement.{statement}
 use Rattle.loading.proofs.list_plan.Tie as tie
 
 abbrev Inv-loop : tie.InvT-loop
-Inv-loop b cells₀ n x₀ cells x =
-    (x ≤ n) × (length cells ≡ length cells₀) × (memOf cells ≡ listM (systemOf (planOf b)) x (memOf cells₀))
+Inv-loop b cells₀ n x₀ cells x = Done (listVariableM (systemOf (planOf b))) n cells₀ x cells
 
 abbrev μ-loop : tie.MeasureT-loop
 μ-loop b cells₀ n x₀ cells x = n - x
@@ -26,15 +22,13 @@ variable-count-requires : tie.Need-variable-count-requires Inv-loop μ-loop
 variable-count-requires c κs = tt
 
 loop-holds : tie.Need-loop-holds Inv-loop μ-loop
-unfolding listM
-loop-holds c = (omega arith, refl, refl)
+loop-holds c = done-none
 
 list-variable-requires : tie.Need-list-variable-requires Inv-loop μ-loop
 list-variable-requires c κs =
     let l = c .before .before in
     let s = l .before .before .before .before in (
-      ready-kept (now (s .args .b)) (now (s .args .cells)) (l .loop .cells) (s .pre) (l .loop .inv .1) (l .loop .inv .2)
-          (list-kept _ (l .loop .x) _),
+      ready-done (now (s .args .b)) (s .pre) (l .loop .inv) (list-variable-kept _),
       omega (arith, l .before .variable-count .ensures .0),
     )
 
@@ -46,21 +40,17 @@ loop-less c = omega arith
 
 loop-again : tie.Need-loop-again Inv-loop μ-loop
 loop-again c =
-    let l = c .before .before .before .before .before in (
-      omega arith,
-      omega arith,
-      variable-listed _ (l .loop .x) _ _ _ (l .loop .inv .2) (c .before .before .list-variable .ensures),
-    )
+    let v = c .before .before in
+    done-more (v .before .before .before .loop .inv) (omega arith) (v .list-variable .kept .1 .0) (v .list-variable .ensures)
 
 same-length : tie.Need-same-length Inv-loop μ-loop
 same-length c = omega arith
 
 returns : tie.Need-returns Inv-loop μ-loop
+unfolding listM
 returns c =
     let v = c .before .before in
-    let b = now (v .before .before .before .args .b) in
-    let e : c .before .loop .x ≡ systemOf (planOf b) .net .variables = omega (arith, v .variable-count .ensures .0, variables-are b) in
-    rw e at (c .before .loop .inv .2)
+    done-all _ (c .before .loop .inv) (omega (arith, v .variable-count .ensures .0, variables-are (now (v .before .before .before .args .b))))
 
 pub list-plan-spec : {M : Type 1} → statement M
 list-plan-spec =

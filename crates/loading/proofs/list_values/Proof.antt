@@ -1,22 +1,22 @@
 -- `loading::list_values` lists the values of a variable. Assumes nothing.
-use Prim.Native.Nat.{_≤_, _-_}
-use mathlib.Core.Path.{_≡_, refl, _∙_}
+use Prim.Native.Nat.{_-_}
+use mathlib.Core.Bool.{Bool}
+use mathlib.Core.Path.{_∙_, ap}
 use native.Mathlib.Omega.{arith}
 use denote.Ref.{now}
-use lib.ListN.{length}
 use Rattle.disac4.specs.System.{systemOf}
 use Rattle.plan.specs.Decode.{planOf}
-use Rattle.index.proofs.Kept.{ready-kept}
-use Rattle.loading.proofs.Kept.{list-values-kept}
-use Rattle.loading.proofs.LoadLaws.{value-listed}
-use Rattle.loading.specs.Load.{listValuesM}
+use Rattle.cells.proofs.Done.{Done, done-none, done-more, done-all}
 use Rattle.cells.specs.Memory.{memOf}
+use Rattle.index.proofs.Kept.{ready-done}
+use Rattle.index.proofs.Labels.{size-is}
+use Rattle.loading.proofs.Kept.{list-label-kept}
+use Rattle.loading.specs.Load.{listLabelM, listValueM, listValuesM}
 use Rattle.loading.proofs.list_values.Statement.{statement}
 use Rattle.loading.proofs.list_values.Tie as tie
 
 abbrev Inv-loop : tie.InvT-loop
-Inv-loop b cells₀ x row n v₀ cells v =
-    (v ≤ n) × (length cells ≡ length cells₀) × (memOf cells ≡ listValuesM (systemOf (planOf b)) x row v (memOf cells₀))
+Inv-loop b cells₀ x row n v₀ cells v = Done (listValueM (systemOf (planOf b)) x row) n cells₀ v cells
 
 abbrev μ-loop : tie.MeasureT-loop
 μ-loop b cells₀ x row n v₀ cells v = n - v
@@ -25,8 +25,7 @@ size-requires : tie.Need-size-requires Inv-loop μ-loop
 size-requires c κs = let s = c .before .before .before in (s .pre .0, s .pre .1)
 
 loop-holds : tie.Need-loop-holds Inv-loop μ-loop
-unfolding listValuesM
-loop-holds c = (omega arith, refl, refl)
+loop-holds c = done-none
 
 row-holds-requires : tie.Need-row-holds-requires Inv-loop μ-loop
 row-holds-requires c κs = omega (arith, c .before .loop-test .taken, c .before .before .before .size .ensures)
@@ -37,8 +36,7 @@ list-label-requires c κs =
     let l = t .before in
     let z = l .before in
     let s = z .before .before .before .before in (
-      ready-kept (now (s .args .b)) (now (s .args .cells)) (l .loop .cells) (s .pre .0) (l .loop .inv .1) (l .loop .inv .2)
-          (list-values-kept _ (s .args .x) (s .args .row) (l .loop .v) _),
+      ready-done (now (s .args .b)) (s .pre .0) (l .loop .inv) (λ v. list-label-kept _ (s .args .x) v _),
       record { variable = s .pre .1; value = omega (arith, t .loop-test .taken, z .size .ensures .0) },
     )
 
@@ -50,23 +48,23 @@ loop-less c = omega arith
 
 loop-again : tie.Need-loop-again Inv-loop μ-loop
 loop-again c =
-    let h = c .before .before .before in
+    let p = c .before .before in
+    let h = p .before in
     let l = h .before .before .before in
-    let a = l .before .before .before .before .before .args in (
-      omega arith,
-      omega arith,
-      value-listed _ (a .x) (a .row) (l .loop .v) _ _ _ _ (h .row-holds .ensures) (l .loop .inv .2)
-          (c .before .before .list-label .ensures),
-    )
+    let a = l .before .before .before .before .before .args in
+    done-more (l .loop .inv) (omega arith) (p .list-label .kept .1 .0)
+    (p .list-label .ensures
+    ∙ ap (λ (t : Bool). listLabelM (systemOf (planOf (now (a .b)))) (a .x) (l .loop .v) t (memOf (l .loop .cells))) (h .row-holds .ensures))
 
 same-length : tie.Need-same-length Inv-loop μ-loop
 same-length c = omega arith
 
 returns : tie.Need-returns Inv-loop μ-loop
+unfolding listValuesM
 returns c =
     let z = c .before .before in
-    let e : c .before .loop .v ≡ z .size .result = omega (arith, c .loop-test .left, c .before .loop .inv .0) in
-    rw (e ∙ z .size .ensures .0) at (c .before .loop .inv .2)
+    let a = z .before .before .before .before .args in
+    done-all _ (c .before .loop .inv) (omega (arith, c .loop-test .left, z .size .ensures .0, size-is (now (a .b)) (a .x)))
 
 pub list-values-spec : {M : Type 1} → statement M
 list-values-spec =

@@ -1,8 +1,12 @@
 -- `loading::list_variable` lists a variable's values by its counters. Assumes nothing.
 use borrow.Author.Needs.{needs}
 use denote.Ref.{now}
-use Rattle.index.proofs.Labels.{size-is}
-use Rattle.loading.proofs.LoadLaws.{values-listed}
+use mathlib.Core.Path.{_∙_, ap}
+use Prim.Native.Nat.{ℕ}
+use Rattle.disac4.specs.System.{systemOf}
+use Rattle.cells.specs.Memory.{memOf}
+use Rattle.plan.specs.Decode.{planOf}
+use Rattle.loading.specs.Load.{listValuesM, listVariableM}
 use Rattle.loading.proofs.list_variable.Statement.{statement}
 use Rattle.loading.proofs.list_variable.Tie as tie
 
@@ -16,12 +20,13 @@ same-length : tie.Need-same-length
 same-length c = search needs
 
 returns : tie.Need-returns
+unfolding listVariableM
 returns c =
     let l = c .before .before in
     let r = l .before .before in
     let a = r .before .before .before .before .args in
-    values-listed _ (a .x) (r .supported-row .result) _ _ _ (r .supported-row .ensures) (size-is (now (a .b)) (a .x))
-    (l .list-values .ensures)
+    l .list-values .ensures
+    ∙ ap (λ (row : ℕ). listValuesM (systemOf (planOf (now (a .b)))) (a .x) row (memOf (now (a .cells)))) (r .supported-row .ensures)
 
 pub list-variable-spec : {M : Type 1} → statement M
 list-variable-spec = tie.close (tie.spec supported-row-requires list-values-requires same-length returns)

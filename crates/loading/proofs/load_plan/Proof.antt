@@ -2,7 +2,7 @@
 use borrow.Author.Needs.{needs}
 use denote.Ref.{now}
 use mathlib.Core.Path.{_∙_, ap}
-use Rattle.counting.proofs.Kept.{count-kept}
+use Rattle.counting.proofs.Kept.{counters-alone, count-else}
 use Rattle.disac4.specs.System.{systemOf}
 use Rattle.index.proofs.Kept.{ready-kept}
 use Rattle.loading.proofs.load_plan.Statement.{statement}
@@ -18,7 +18,7 @@ list-plan-requires c κs =
     let k = c .before .before .before in
     let s = k .before .before .before .before in
     ready-kept (now (s .args .b)) (now (s .args .cells)) _ (s .pre) (k .count-supports .kept .1 .0) (k .count-supports .ensures)
-    (count-kept _ _ _)
+    (counters-alone (count-else _ _))
 
 same-length : tie.Need-same-length
 same-length c = search needs
@@ -29,7 +29,7 @@ returns c =
     let l = c .before .before in
     let k = l .before .before .before .before in
     let a = k .before .before .before .before .args in
-    l .list-plan .ensures ∙ ap (listM (systemOf (planOf (now (a .b)))) _) (k .count-supports .ensures)
+    l .list-plan .ensures ∙ ap (listM (systemOf (planOf (now (a .b))))) (k .count-supports .ensures)
 
 pub load-plan-spec : {M : Type 1} → statement M
 load-plan-spec = tie.close (tie.spec count-supports-requires list-plan-requires same-length returns)

@@ -3,14 +3,16 @@ use Prim.Native.Nat.{ℕ, _≤_, _-_}
 use mathlib.Core.Path.{_≡_, refl, sym, _∙_, ap}
 use native.Mathlib.Omega.{arith}
 use lib.ListN.{length}
+use Rattle.base.proofs.Loops.{loop-more}
+use Rattle.base.specs.Below.{loop}
 use Rattle.disac4.specs.System.{System}
+use Rattle.cells.proofs.RegionsKept.{repeated}
 use Rattle.index.proofs.Kept.{row-heads}
-use Rattle.treating.proofs.Kept.{touch-values-kept}
-use Rattle.treating.proofs.TreatLaws.{value-more}
+use Rattle.treating.proofs.Kept.{touch-kept}
 use Rattle.cells.specs.Layout.{HEADS}
 use Rattle.cells.specs.Memory.{Mem, memOf}
 use Rattle.cells.specs.View.{counterRow}
-use Rattle.treating.specs.Treat.{SupportRow, touchValuesM}
+use Rattle.treating.specs.Treat.{SupportRow, touchM}
 use Rattle.treating.proofs.touch_values.Statement.{statement}
 use Rattle.treating.proofs.touch_values.Tie as tie
 
@@ -18,13 +20,13 @@ abbrev Inv-loop : tie.InvT-loop
 Inv-loop cells₀ i x n supported row v₀ cells v =
     (v ≤ n) × (length cells ≡ length cells₀)
     × ((sys : System) (y w : ℕ) → SupportRow sys (memOf cells₀) y w x n supported row
-    → memOf cells ≡ touchValuesM sys i y w x v (memOf cells₀))
+    → memOf cells ≡ loop v (touchM sys i y w x) (memOf cells₀))
 
 abbrev μ-loop : tie.MeasureT-loop
 μ-loop cells₀ i x n supported row v₀ cells v = n - v
 
 loop-holds : tie.Need-loop-holds Inv-loop μ-loop
-unfolding touchValuesM
+unfolding loop
 loop-holds c = (omega arith, refl, λ sys y w s. refl)
 
 touch-requires : tie.Need-touch-requires Inv-loop μ-loop
@@ -37,10 +39,10 @@ loop-less : tie.Need-loop-less Inv-loop μ-loop
 loop-less c = omega arith
 
 -- the counters stay in their row
-row-stays : (sys : System) (i y w x v : ℕ) (m n : Mem) → n ≡ touchValuesM sys i y w x v m → counterRow n x y ≡ counterRow m x y
+row-stays : (sys : System) (i y w x v : ℕ) (m n : Mem) → n ≡ loop v (touchM sys i y w x) m → counterRow n x y ≡ counterRow m x y
 row-stays sys i y w x v m n e =
     ap (λ (n : Mem). counterRow n x y) e
-    ∙ row-heads m _ x y (touch-values-kept sys i y w x v m .static HEADS x y (omega arith))
+    ∙ row-heads m _ x y (repeated (touchM sys i y w x) (touch-kept sys i y w x) v m .static HEADS x y (omega arith))
 
 loop-again : tie.Need-loop-again Inv-loop μ-loop
 loop-again c =
@@ -50,7 +52,7 @@ loop-again c =
       omega arith,
       λ sys y w s.
           let e = l .loop .inv .2 sys y w s in
-          value-more sys (a .i) y w _ _ _ (a .x) (l .loop .v) e
+          loop-more (l .loop .v) (touchM sys (a .i) y w (a .x)) _ e
           (c .before .before .touch .ensures sys y w (s .holds (l .loop .v) (omega arith))
           (s .counted ∙ sym (row-stays sys (a .i) y w (a .x) (l .loop .v) _ _ e))),
     )

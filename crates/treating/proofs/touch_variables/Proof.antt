@@ -7,6 +7,7 @@ use mathlib.Core.Path.{_≡_, refl, sym, _∙_, ap}
 use native.Mathlib.Omega.{arith}
 use denote.Ref.{now}
 use lib.ListN.{length}
+use Rattle.base.specs.Below.{loop}
 use Rattle.disac4.specs.System.{systemOf}
 use Rattle.format.specs.Format.{variableCount}
 use Rattle.plan.specs.Decode.{planOf}
@@ -18,7 +19,7 @@ use Rattle.cells.specs.Memory.{memOf}
 use Rattle.index.proofs.Kept.{ready-kept}
 use Rattle.treating.proofs.Kept.{touch-variable-kept}
 use Rattle.treating.proofs.TreatLaws.{Reached, reached-start, reached-next, left, left-falls}
-use Rattle.treating.specs.Treat.{touchVariablesM}
+use Rattle.treating.specs.Treat.{touchVariableM, touchVariablesM}
 use Rattle.treating.proofs.touch_variables.Statement.{statement}
 use Rattle.treating.proofs.touch_variables.Tie as tie
 
@@ -138,12 +139,13 @@ same-length : tie.Need-same-length Inv-loop μ-loop
 same-length c = c .before .loop .inv .1
 
 returns : tie.Need-returns Inv-loop μ-loop
+unfolding touchVariablesM
 returns c =
     let l = c .before in
     let a = l .before .before .before .before .before .args in
     let b = now (a .b) in
     l .loop .inv .2 .done (omega (arith, c .loop-test .left))
-    ∙ ap (λ (n : ℕ). touchVariablesM (systemOf (planOf b)) (a .i) (a .y) (a .w) n (memOf (now (a .cells)))) (sym (variables-are b))
+    ∙ ap (λ (n : ℕ). loop n (touchVariableM (systemOf (planOf b)) (a .i) (a .y) (a .w)) (memOf (now (a .cells)))) (sym (variables-are b))
 
 pub touch-variables-spec : {M : Type 1} → statement M
 touch-variables-spec =

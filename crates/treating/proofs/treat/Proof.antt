@@ -5,7 +5,8 @@ use native.Mathlib.Omega.{arith}
 use denote.Ref.{now}
 use Rattle.disac4.specs.System.{systemOf}
 use Rattle.plan.specs.Decode.{planOf}
-use Rattle.index.proofs.Kept.{ready-kept, stored, same}
+use Rattle.cells.proofs.RegionsKept.{same, stored}
+use Rattle.index.proofs.Kept.{ready-kept}
 use Rattle.cells.proofs.Acting.{idle, acts}
 use Rattle.treating.proofs.TreatLaws.{treat-goes, treat-idle, head-listed}
 use Rattle.cells.specs.Layout.{WORKERS, HEAD}
@@ -74,7 +75,7 @@ returns-3 c =
       untreated = omega (arith, g .get .ensures .0, g2 .get2 .ensures .0, t .if1 .left);
       head-room = omega (arith, g .get .ensures .0, g3 .before .before .if2 .left);
     }))
-    (t2 .touch-variables .ensures ∙ ap (touchVariablesM sys (a .i) _ _ (sys .net .variables)) (p .put .ensures))
+    (t2 .touch-variables .ensures ∙ ap (touchVariablesM sys (a .i) _ _) (p .put .ensures))
 
 pub treat-spec : {M : Type 1} → statement M
 treat-spec =

@@ -1,26 +1,24 @@
 -- `cells::lists::copy` copies labels of a log to a work list. The loop's invariant: as many as were passed are copied. The
 -- measure is what is left. Assumes nothing.
-use Prim.Native.Nat.{_-_, _≤_}
-use mathlib.Core.Path.{_≡_, refl}
+use Prim.Native.Nat.{ℕ, _-_}
+use mathlib.Core.Path.{refl, _∙_, ap}
 use native.Mathlib.Omega.{arith}
-use lib.ListN.{length}
-use Rattle.cells.proofs.ListLaws.{copied}
+use Rattle.cells.proofs.Done.{Done, done-none, done-more, done-all}
 use Rattle.cells.proofs.Ranges.{may-get, may-push}
 use Rattle.cells.proofs.lists.copy.Statement.{statement}
 use Rattle.cells.proofs.lists.copy.Tie as tie
-use Rattle.cells.specs.Lists.{copyM}
+use Rattle.cells.specs.Layout.{WORK, TAIL}
+use Rattle.cells.specs.Lists.{pushM, copyLabelM, copyM}
 use Rattle.cells.specs.Memory.{memOf}
 
 abbrev Inv-loop : tie.InvT-loop
-Inv-loop cells₀ j i from n k₀ cells k =
-    (k ≤ n) × (length cells ≡ length cells₀) × (memOf cells ≡ copyM j i from k (memOf cells₀))
+Inv-loop cells₀ j i from n k₀ cells k = Done (copyLabelM j i from) n cells₀ k cells
 
 abbrev μ-loop : tie.MeasureT-loop
 μ-loop cells₀ j i from n k₀ cells k = n - k
 
 loop-holds : tie.Need-loop-holds Inv-loop μ-loop
-unfolding copyM
-loop-holds c = (omega arith, refl, refl)
+loop-holds c = done-none
 
 add-get : tie.Need-add-get Inv-loop μ-loop
 add-get c = omega arith
@@ -42,20 +40,16 @@ loop-again c =
     let at-push = c .before .before in
     let at-get = at-push .before .before in
     let at-loop = at-get .before .before .before in
-    let start = at-loop .before .before in (
-      omega arith,
-      omega arith,
-      copied (start .args .j) (start .args .i) (start .args .from)
-          (at-loop .loop .k) _ _ _ _ (at-loop .loop .inv .2) (at-get .get .ensures .0) (at-push .push .ensures),
-    )
+    done-more (at-loop .loop .inv) (omega arith) (at-push .push .kept .0)
+    (at-push .push .ensures
+    ∙ ap (λ (l : ℕ). pushM WORK TAIL (at-loop .before .before .args .i) l (memOf (at-loop .loop .cells))) (at-get .get .ensures .0))
 
 same-length : tie.Need-same-length Inv-loop μ-loop
 same-length c = omega arith
 
 returns : tie.Need-returns Inv-loop μ-loop
-returns c =
-    let e : c .before .loop .k ≡ c .before .before .before .args .n = omega arith in
-    rw e at (c .before .loop .inv .2)
+unfolding copyM
+returns c = done-all _ (c .before .loop .inv) (omega arith)
 
 pub copy-spec : {M : Type 1} → statement M
 copy-spec =
