@@ -4,6 +4,7 @@ use mathlib.Core.Bool.{true, false}
 use mathlib.Core.List.{List, [], _∷_, _++_}
 use mathlib.Core.Logic.{_⊎_, inl, inr}
 use mathlib.Core.Path.{_≡_, refl, sym, _∙_, ap, subst}
+use native.Mathlib.Decide.{ℕ-discrete}
 use native.Mathlib.Nat.{not-suc-le-zero}
 use native.Mathlib.Omega.{arith}
 use Rattle.base.proofs.Bools.{decided, clash, refuted}
@@ -19,7 +20,7 @@ use Rattle.disac4.specs.Loading.{load}
 use Rattle.disac4.specs.Round.{round, roundTurns, roundRunTurns}
 use Rattle.disac4.specs.State.{State}
 use Rattle.disac4.specs.System.{System, boundOf, Sound}
-use Rattle.disac4.specs.Turn.{Turn, allowed, step, after, play, changes, changesWhere}
+use Rattle.disac4.specs.Turn.{Turn, step, after, play, changes, changesWhere}
 
 -- a state that some turns reach
 abbrev pub Reached : System → State → Type 0
@@ -68,17 +69,13 @@ module _ (sys : System) (sound : Sound sys) where
       → 0 < changesWhere sys (λ t. true) st (round (sys .workers))
   round-changes st (ts, e) running =
       let (t, ok, c) = progress sound ts (subst (λ (s : State). s .controller .closed ≡ false) (sym e) running) in
-      let changing : changes sys st t ≡ true = subst (λ (s : State). changes sys s t ≡ true) e c in
-      go t ok changing (changesWhere sys (λ t. true) st (round (sys .workers))) refl
-    where
-      go : (t : Turn) → allowed (sys .workers) t ≡ true → changes sys st t ≡ true
-          → (n : ℕ) → changesWhere sys (λ t. true) st (round (sys .workers)) ≡ n
-          → 0 < changesWhere sys (λ t. true) st (round (sys .workers))
-      go t ok c zero e =
-          clash c
-          (each-member (Idle sys st) (round (sys .workers)) (all-idle sys (round (sys .workers)) st e)
-          (allowed-round (sys .workers) t ok))
-      go t ok c (suc n) e = omega arith
+      elim (ℕ-discrete (changesWhere sys (λ t. true) st (round (sys .workers))) 0) [
+        | yes nothing ↦
+            clash (subst (λ (s : State). changes sys s t ≡ true) e c)
+            (each-member (Idle sys st) (round (sys .workers)) (all-idle sys (round (sys .workers)) st nothing)
+            (allowed-round (sys .workers) t ok))
+        | no something ↦ omega arith
+      ]
 
   -- and lowers the potential
   pub round-lowers : (st : State) → Reached sys st → st .controller .closed ≡ false
