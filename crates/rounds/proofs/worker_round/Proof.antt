@@ -14,42 +14,48 @@ use Rattle.engine.specs.Play.{Running}
 use Rattle.rounds.proofs.worker_round.Statement.{statement}
 use Rattle.rounds.proofs.worker_round.Tie as tie
 
+-- back from sending to treating, from there to the reads, and from these to the start
+abbrev treated : tie.After-work-turn2 → tie.After-work-turn
+treated d = d .before .before .before .before
+
+abbrev read : tie.After-work-turn → tie.After-reads
+read t = t .before .before .before .before
+
+abbrev start : tie.After-reads → tie.Start
+start r = r .before .before .before .before .before
+
 reads-requires : tie.Need-reads-requires
 reads-requires c κs =
     let s = c .before .before .before .before in
     (running-by (now (s .args .b)) (now (s .args .cells)) (s .args .g) (s .pre .0), s .pre .1, s .pre .2, s .pre .3)
 
--- the run goes on after the reads, after treating and after sending
-has-read : (r : tie.After-reads)
-    → Running (now (r .before .before .before .before .before .args .b)) (r .reads .last .1 .0) (r .before .before .before .before .before .args .g .tally)
+-- the run goes on after the reads and after treating
+has-read : (r : tie.After-reads) → Running (now (start r .args .b)) (r .reads .last .1 .0) (start r .args .g .tally)
 has-read r =
-    let s = r .before .before .before .before .before in
-    running-after _ _ _ _ _ _ _ (running-by (now (s .args .b)) (now (s .args .cells)) (s .args .g) (s .pre .0)) (r .reads .kept .1 .0) (r .reads .ensures .0)
+    let a = start r .args in
+    running-after _ _ _ _ _ _ _ (running-by (now (a .b)) (now (a .cells)) (a .g) (start r .pre .0)) (r .reads .kept .1 .0) (r .reads .ensures .0)
 
 has-treated : (t : tie.After-work-turn)
-    → Running (now (t .before .before .before .before .before .before .before .before .before .args .b)) (t .work-turn .last .1 .0)
-    (t .before .before .before .before .before .before .before .before .before .args .g .tally)
-has-treated t =
-    running-after _ _ _ _ _ _ _ (has-read (t .before .before .before .before)) (t .work-turn .kept .1 .0) (t .work-turn .ensures .0)
+    → Running (now (start (read t) .args .b)) (t .work-turn .last .1 .0) (start (read t) .args .g .tally)
+has-treated t = running-after _ _ _ _ _ _ _ (has-read (read t)) (t .work-turn .kept .1 .0) (t .work-turn .ensures .0)
 
 work-turn-requires : tie.Need-work-turn-requires
 work-turn-requires c κs =
     let r = c .before .before .before in
-    let s = r .before .before .before .before .before in
+    let s = start r in
     (has-read r, s .pre .1, s .pre .2, may-work (s .args .p) (s .args .k) _ (s .pre .2) (s .pre .3) refl)
 
 work-turn-requires-2 : tie.Need-work-turn-requires-2
 work-turn-requires-2 c κs =
     let t = c .before .before .before in
-    let s = t .before .before .before .before .before .before .before .before .before in
+    let s = start (read t) in
     (has-treated t, s .pre .1, s .pre .2, may-work (s .args .p) (s .args .k) _ (s .pre .2) (s .pre .3) refl)
 
 work-turn-requires-3 : tie.Need-work-turn-requires-3
 work-turn-requires-3 c κs =
     let d = c .before .before .before in
-    let t = d .before .before .before .before in
-    let s = t .before .before .before .before .before .before .before .before .before in (
-      running-after _ _ _ _ _ _ _ (has-treated t) (d .work-turn2 .kept .1 .0) (d .work-turn2 .ensures .0),
+    let s = start (read (treated d)) in (
+      running-after _ _ _ _ _ _ _ (has-treated (treated d)) (d .work-turn2 .kept .1 .0) (d .work-turn2 .ensures .0),
       s .pre .1,
       s .pre .2,
       may-work (s .args .p) (s .args .k) _ (s .pre .2) (s .pre .3) refl,
@@ -58,18 +64,16 @@ work-turn-requires-3 c κs =
 -- the counts have room for the turns of a worker
 room : (e : tie.After-work-turn3) →
     let d = e .before .before .before .before in
-    let t = d .before .before .before .before in
-    let r = t .before .before .before .before in
-    let g = r .before .before .before .before .before .args .g in
-    (g .changes + r .reads .result + t .work-turn .result + d .work-turn2 .result + e .work-turn3 .result < 65548)
+    let t = treated d in
+    let g = start (read t) .args .g in
+    (g .changes + read t .reads .result + t .work-turn .result + d .work-turn2 .result + e .work-turn3 .result < 65548)
     × (g .sends + d .work-turn2 .result < 65537)
 room e =
     let d = e .before .before .before .before in
-    let t = d .before .before .before .before in
-    let r = t .before .before .before .before in
-    let s = r .before .before .before .before .before in
+    let t = treated d in
+    let s = start (read t) in
     let c = counts-room (now (s .args .b)) (now (s .args .cells)) (s .args .g) (s .pre .0) in
-    omega (arith, c .0, c .1, r .reads .ensures .1, t .work-turn .ensures .1, d .work-turn2 .ensures .1, e .work-turn3 .ensures .1)
+    omega (arith, c .0, c .1, read t .reads .ensures .1, t .work-turn .ensures .1, d .work-turn2 .ensures .1, e .work-turn3 .ensures .1)
 
 add-t19 : tie.Need-add-t19
 add-t19 c = omega (arith, room (c .before .before .before) .0)
@@ -94,9 +98,9 @@ unfolding workerRound
 returns c =
     let e = c .before .before .before .before in
     let d = e .before .before .before .before in
-    let t = d .before .before .before .before in
-    let r = t .before .before .before .before in
-    let a = r .before .before .before .before .before .args in
+    let t = treated d in
+    let r = read t in
+    let a = start r .args in
     let b = now (a .b) in
     let k = a .k in
     worked-plays b (workerRound (a .p) k) _ _ _ _ (a .g) _
