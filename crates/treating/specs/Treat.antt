@@ -44,7 +44,7 @@ unfoldable pub touchVariablesM : System → ℕ → ℕ → ℕ → ℕ → Mem 
 touchVariablesM sys i y w zero m = m
 touchVariablesM sys i y w (suc n) m = touchVariableM sys i y w n (touchVariablesM sys i y w n m)
 
--- whether row `i` has a label on its work list, in bounds
+-- whether row `i` has a label to treat, within the row
 unfoldable pub hasWork : ℕ → Mem → Bool
 hasWork i m = ltb (m WORKERS i HEAD) (m WORKERS i TAIL) && ltb (m WORKERS i HEAD) LABELROOM
 
