@@ -10,7 +10,7 @@ use lib.Dec.{eqb}
 use lib.ListN.{length}
 use Rattle.base.specs.Below.{anyBelow, loop}
 use Rattle.disac4.specs.System.{System, systemOf}
-use Rattle.cells.specs.Layout.{HEADS, PLACES, NEXT, FIRST, FOLLOW}
+use Rattle.cells.specs.Layout.{HEADS, PLACES, NEXT, FIRST, FOLLOW, WORKCELLS}
 use Rattle.cells.specs.Memory.{Mem, memOf, store}
 use Rattle.plan.specs.Decode.{planFault, planOf}
 use Rattle.format.specs.Format.{sectionStart, variableCount, constraintCount, sectionCount, firstAt, secondAt}
@@ -60,7 +60,7 @@ pub record Indexed (b : List ℕ) (m : Mem) : Type 0 where
 pub record Located (b cells : List ℕ) : Type 0 where
   pub sound : planFault b ≡ none
   pub places : (k : ℕ) → k < sectionCount b → memOf cells PLACES 0 k ≡ sectionStart b k
-  pub long : 24576 ≤ length cells
+  pub long : WORKCELLS ≤ length cells
 
 -- `at` is where section `k` starts, within the plan
 pub record Placed (b : List ℕ) (at k : ℕ) : Type 0 where
@@ -71,7 +71,7 @@ pub record Placed (b : List ℕ) (at k : ℕ) : Type 0 where
 pub record Ready (b cells : List ℕ) : Type 0 where
   pub sound : planFault b ≡ none
   pub index : Indexed b (memOf cells)
-  pub long : 24576 ≤ length cells
+  pub long : WORKCELLS ≤ length cells
 
 -- the index gives each two linked variables a number of their own, from 1 to 128
 pub record Paired (sys : System) (m : Mem) : Type 0 where

@@ -11,6 +11,7 @@ ghost use Rattle.format.specs.Format.{variableCount, sectionCount};
 ghost use Rattle.plan.specs.Network.{shareConstraint};
 ghost use Rattle.plan.specs.WellFormed.{sizeOf};
 ghost use Rattle.index.specs.Index.{Indexed, Located, Placed, Ready};
+ghost use Rattle.cells.specs.Layout.{WORKCELLS};
 ghost use Rattle.cells.specs.Memory.{memOf};
 ghost use Rattle.cells.specs.View.{Numbered, counterRow};
 
@@ -32,7 +33,7 @@ pub fn owner(b: &[u8], cells: &[u16], x: usize) -> usize
 
 // The row of the counters of x against y.
 pub fn counter_row(cells: &[u16], x: usize, y: usize) -> usize
-    requires { ⌜ (24576 ≤ length (now cells)) × (x < 32) × (y < 32) × Numbered (memOf (now cells)) x y ⌝ }
+    requires { ⌜ (WORKCELLS ≤ length (now cells)) × (x < 32) × (y < 32) × Numbered (memOf (now cells)) x y ⌝ }
     ensures { λ r. ⌜ (r ≡ counterRow (memOf (now (cells .entry))) x y) × (r ≤ 256) ⌝ }
 {
     let head = layout::get(cells, layout::HEADS, x, y);
@@ -45,7 +46,7 @@ pub fn counter_row(cells: &[u16], x: usize, y: usize) -> usize
 
 // Whether two variables share a constraint of the plan that the cells index.
 pub fn linked(cells: &[u16], x: usize, y: usize) -> bool
-    requires { ⌜ (x < 32) × (y < 32) × (24576 ≤ length (now cells)) ⌝ }
+    requires { ⌜ (x < 32) × (y < 32) × (WORKCELLS ≤ length (now cells)) ⌝ }
     ensures { λ r. ⌜ ((b : List ℕ) → Indexed b (memOf (now (cells .entry))) → r ≡ shareConstraint (planOf b) x y) ⌝ }
 {
     layout::get(cells, layout::HEADS, x, y) != 0

@@ -26,7 +26,7 @@ unfoldable pub takenM : ℕ → ℕ → Mem → Mem
 unfolding takenWith
 takenM j i m = takenWith j i (m CURSORS j i) (listStart j i m) (listEnd j i m) (m WORKERS i LISTS) m
 
--- whether row `j` has a list message that row `i` has not read, in bounds
+-- whether row `j` has a list message that row `i` has not read, and there is room for it
 unfoldable pub hasList : ℕ → ℕ → Mem → Bool
 hasList j i m =
     ltb (m CURSORS j i) (m WORKERS j SENDS)

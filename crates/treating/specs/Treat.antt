@@ -39,7 +39,7 @@ touchVariableM sys i y w x m =
 unfoldable pub touchVariablesM : System → ℕ → ℕ → ℕ → Mem → Mem
 touchVariablesM sys i y w = loop (sys .net .variables) (touchVariableM sys i y w)
 
--- whether row `i` has a label on its work list, in bounds
+-- whether row `i` has a label to treat, within the row
 unfoldable pub hasWork : ℕ → Mem → Bool
 hasWork i m = ltb (m WORKERS i HEAD) (m WORKERS i TAIL) && ltb (m WORKERS i HEAD) LABELROOM
 

@@ -13,14 +13,14 @@ ghost use Rattle.plan.specs.Decode.{planOf};
 ghost use Rattle.index.specs.Allowed.{Listed};
 ghost use Rattle.index.specs.Index.{ownLinked, Ready};
 ghost use Rattle.cells.specs.Acts.{Acts};
-ghost use Rattle.cells.specs.Layout.{WORKERS, WORK, HEAD, TAIL};
+ghost use Rattle.cells.specs.Layout.{WORKERS, WORK, HEAD, TAIL, WORKCELLS};
 ghost use Rattle.cells.specs.Memory.{memOf};
 ghost use Rattle.treating.specs.Treat.{SupportRow, loseM, touchM, touchVariableM, touchVariablesM, treatM};
 ghost use Rattle.cells.specs.View.{counterRow};
 
 // Label v of x loses one from its count, in a row of counters; at 0 row i deletes it.
 fn lose(cells: &mut [u16], i: usize, x: usize, v: usize, row: usize)
-    requires { ⌜ (24576 ≤ length (now cells)) × (i < 8) × (x < 32) × (v < 16) × (row ≤ 256) ⌝ }
+    requires { ⌜ (WORKCELLS ≤ length (now cells)) × (i < 8) × (x < 32) × (v < 16) × (row ≤ 256) ⌝ }
     ensures { λ _. ⌜ ((y : ℕ) → row ≡ counterRow (memOf (now (cells .entry))) x y → memOf (now (cells .exit)) ≡ loseM i x v y (memOf (now (cells .entry)))) ⌝ }
 {
     let count = layout::get(cells, layout::COUNTERS, row, v);
@@ -35,7 +35,7 @@ fn lose(cells: &mut [u16], i: usize, x: usize, v: usize, row: usize)
 // Label v of x, if it had the treated one as a support and is in its domain. Its bit and its domain cell sum to 65,536
 // only then: one test, since two that go either way would cost more.
 fn touch(cells: &mut [u16], i: usize, x: usize, v: usize, supported: usize, row: usize)
-    requires { ⌜ (24576 ≤ length (now cells)) × (i < 8) × (x < 32) × (v < 16) × (row ≤ 256) ⌝ }
+    requires { ⌜ (WORKCELLS ≤ length (now cells)) × (i < 8) × (x < 32) × (v < 16) × (row ≤ 256) ⌝ }
     ensures { λ _. ⌜ ((sys : System) (y w : ℕ) → bit supported v ≡ sys .net .allows x v y w → row ≡ counterRow (memOf (now (cells .entry))) x y → memOf (now (cells .exit)) ≡ touchM sys i y w x v (memOf (now (cells .entry)))) ⌝ }
 {
     let listed = layout::get(cells, layout::DOMAIN, x, v);
@@ -46,7 +46,7 @@ fn touch(cells: &mut [u16], i: usize, x: usize, v: usize, supported: usize, row:
 
 // The first n values of x: those that had the treated label as a support are in one row, their counters in another.
 fn touch_values(cells: &mut [u16], i: usize, x: usize, n: usize, supported: usize, row: usize)
-    requires { ⌜ (24576 ≤ length (now cells)) × (i < 8) × (x < 32) × (n ≤ 16) × (row ≤ 256) ⌝ }
+    requires { ⌜ (WORKCELLS ≤ length (now cells)) × (i < 8) × (x < 32) × (n ≤ 16) × (row ≤ 256) ⌝ }
     ensures { λ _. ⌜ ((sys : System) (y w : ℕ) → SupportRow sys (memOf (now (cells .entry))) y w x n supported row → memOf (now (cells .exit)) ≡ loop n (touchM sys i y w x) (memOf (now (cells .entry)))) ⌝ }
 {
     let mut v = 0;
