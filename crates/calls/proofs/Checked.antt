@@ -1,48 +1,52 @@
--- What the plan check's answer says of the plan's fault.
+-- From the answer of a check to the fault that it found, and back.
 use Prim.Native.Nat.{ℕ}
 use mathlib.Core.List.{List}
 use mathlib.Core.Option.{Option, none, some}
-use mathlib.Core.Path.{_≡_, refl, _∙_, ap}
+use mathlib.Core.Path.{_≡_, refl, ap}
 use native.Mathlib.Omega.{arith}
-use Rattle.plan.specs.Answer.{planCheck, checkedAs, figuresOf}
-use Rattle.plan.specs.Decode.{planFault, planOf, decode, decodedAs}
+use Rattle.calls.specs.Check.{checkOf}
 use Rattle.format.specs.Format.{workerCount}
+use Rattle.plan.specs.Answer.{planCheck, figuresOf}
+use Rattle.plan.specs.Decode.{planFault, planOf, decode}
+use Rattle.plan.specs.declared.Checked.{Checked}
 use Rattle.plan.specs.declared.Checked.the-variants.{Accepted, Declined}
 use Rattle.plan.specs.declared.Decline.{Decline}
 use Rattle.plan.specs.declared.Figures.{Figures}
 
-pub no-fault : (b : List ℕ) (f : Figures) → Accepted f ≡ planCheck b → planFault b ≡ none
-unfolding planCheck decode
-no-fault b f e = go (planFault b) refl
-  where
-    go : (o : Option Decline) → planFault b ≡ o → planFault b ≡ none
-    go none p = p
-    go (some d) p =
-        let q : Accepted f ≡ Declined d = e ∙ ap (λ (o : Option Decline). checkedAs (decodedAs (planOf b) o)) p in
-        let z : _≡_ {A = ℕ} 0 1 = cc in
-        absurd (omega arith)
+module _ (b : List ℕ) where
+  -- the plan check finds the plan's own fault
+  pub plan-check : planCheck b ≡ checkOf b (planFault b)
+  unfolding planCheck decode checkOf
+  plan-check = refl
 
-pub its-fault : (b : List ℕ) (d : Decline) → Declined d ≡ planCheck b → planFault b ≡ some d
-unfolding planCheck decode
-its-fault b d e = go (planFault b) refl
-  where
-    go : (o : Option Decline) → planFault b ≡ o → planFault b ≡ some d
-    go none p =
-        let q : Declined d ≡ Accepted (figuresOf (planOf b)) = e ∙ ap (λ (o : Option Decline). checkedAs (decodedAs (planOf b) o)) p in
-        let z : _≡_ {A = ℕ} 0 1 = cc in
-        absurd (omega arith)
-    go (some c) p =
-        let q : Declined d ≡ Declined c = e ∙ ap (λ (o : Option Decline). checkedAs (decodedAs (planOf b) o)) p in
-        let r : c ≡ d = cc in
-        p ∙ ap {B = Option Decline} some r
+  -- a plan is accepted where there is no fault
+  pub no-fault : (o : Option Decline) (f : Figures) → Accepted f ≡ checkOf b o → o ≡ none
+  unfolding checkOf
+  no-fault none f e = refl
+  no-fault (some d) f e = let z : _≡_ {A = ℕ} 0 1 = cc in absurd (omega arith)
 
-pub its-figures : (b : List ℕ) (f : Figures) → Accepted f ≡ planCheck b → f ≡ figuresOf (planOf b)
-unfolding planCheck decode
-its-figures b f e =
-    let q : Accepted f ≡ Accepted (figuresOf (planOf b)) =
-    e ∙ ap (λ (o : Option Decline). checkedAs (decodedAs (planOf b) o)) (no-fault b f e) in
-    cc
+  -- and the figures are its own
+  pub its-figures : (o : Option Decline) (f : Figures) → Accepted f ≡ checkOf b o → f ≡ figuresOf (planOf b)
+  unfolding checkOf
+  its-figures none f e = cc
+  its-figures (some d) f e = let z : _≡_ {A = ℕ} 0 1 = cc in absurd (omega arith)
 
-pub its-workers : (b : List ℕ) (f : Figures) → Accepted f ≡ planCheck b → f .workers ≡ workerCount b
-unfolding figuresOf planOf
-its-workers b f e = ap (λ (f : Figures). f .workers) (its-figures b f e)
+  pub its-workers : (o : Option Decline) (f : Figures) → Accepted f ≡ checkOf b o → f .workers ≡ workerCount b
+  unfolding figuresOf planOf
+  its-workers o f e = ap (λ (f : Figures). f .workers) (its-figures o f e)
+
+  -- what is declined is the fault
+  pub its-fault : (o : Option Decline) (d : Decline) → Declined d ≡ checkOf b o → o ≡ some d
+  unfolding checkOf
+  its-fault none d e = let z : _≡_ {A = ℕ} 0 1 = cc in absurd (omega arith)
+  its-fault (some c) d e = let same : c ≡ d = cc in ap {B = Option Decline} some same
+
+  -- back: the answer to no fault
+  pub answer-accepted : (o : Option Decline) (f : Figures) → f ≡ figuresOf (planOf b) → o ≡ none → Accepted f ≡ checkOf b o
+  unfolding checkOf
+  answer-accepted o f is e = rw (e, is)
+
+  -- and to a fault
+  pub answer-declined : (o : Option Decline) (d : Decline) (r : Checked) → r ≡ Declined d → o ≡ some d → r ≡ checkOf b o
+  unfolding checkOf
+  answer-declined o d r is e = rw e is

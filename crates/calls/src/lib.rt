@@ -5,9 +5,11 @@ use plan::Decline;
 use plan::Fault;
 use plan::Verdict;
 ghost use mathlib.Core.Path.{_≡_};
-ghost use Rattle.disac4.specs.Outcome.{Gives, turnRun, roundRun};
+ghost use Rattle.base.specs.Choice.{firstOf};
+ghost use Rattle.disac4.specs.Outcome.{Gives, bufferFault, inputFault, turnRun, roundRun};
 ghost use Rattle.plan.specs.Answer.{planCheck};
 ghost use Rattle.plan.specs.Fault.{decline};
+ghost use Rattle.calls.specs.Check.{checkOf};
 
 // Checks a plan: p, n, the number of rules and L, or the fault and its place.
 pub fn check_plan(plan: &[u8]) -> Checked
@@ -16,19 +18,19 @@ pub fn check_plan(plan: &[u8]) -> Checked
     parser::check_plan(plan)
 }
 
-// The answer of a run that is declined.
-fn declined(fault: Fault, place: usize) -> Answer
-    ensures { λ r. ⌜ r ≡ Answer.Declined (decline fault place) ⌝ }
+// The answer of a check that finds this fault.
+fn declined(fault: Fault, place: usize) -> Checked
+    ensures { λ r. ⌜ r ≡ Checked.Declined (decline fault place) ⌝ }
 {
-    Answer::Declined(Decline {
+    Checked::Declined(Decline {
         fault: fault,
         place: place,
     })
 }
 
-// Plays the turns of the list on a plan, and gives the report; declines as document 01 lists.
-pub fn run_turns(plan: &[u8], turns: &[u8], work: &mut [u16], lists: &mut [u16]) -> Answer
-    ensures { λ r. ⌜ Gives (turnRun (now (plan .entry)) (now (turns .entry)) (now (work .entry)) (now (lists .entry))) r (now (work .exit)) (now (lists .exit)) ⌝ }
+// The tests of a run in their order: 9, 10, 11, the plan's own, 12. Gives the first fault, or the plan's figures.
+fn check_run(plan: &[u8], turns: &[u8], work: &[u16], lists: &[u16]) -> Checked
+    ensures { λ r. ⌜ r ≡ checkOf (now (plan .entry)) (firstOf (bufferFault (now (work .entry)) (now (lists .entry))) (inputFault (now (plan .entry)) (now (turns .entry)))) ⌝ }
 {
     let verdict = turns::check_buffers(work, lists);
     if let Verdict::Fails(fault) = verdict {
@@ -38,27 +40,35 @@ pub fn run_turns(plan: &[u8], turns: &[u8], work: &mut [u16], lists: &mut [u16])
         return declined(Fault::BadTurnList, 0);
     }
     match parser::check_plan(plan) {
-        Checked::Declined(d) => Answer::Declined(d),
+        Checked::Declined(d) => Checked::Declined(d),
         Checked::Accepted(f) => {
-            let p = f.workers;
-            let bad = turns::first_bad(turns, p);
+            let bad = turns::first_bad(turns, f.workers);
             if bad < turns.len() / 2 {
                 return declined(Fault::BadTurn, bad);
             }
+            Checked::Accepted(f)
+        }
+    }
+}
+
+// Plays the turns of the list on a plan, and gives the report; declines as document 01 lists.
+pub fn run_turns(plan: &[u8], turns: &[u8], work: &mut [u16], lists: &mut [u16]) -> Answer
+    ensures { λ r. ⌜ Gives (turnRun (now (plan .entry)) (now (turns .entry)) (now (work .entry)) (now (lists .entry))) r (now (work .exit)) (now (lists .exit)) ⌝ }
+{
+    match check_run(plan, turns, work, lists) {
+        Checked::Declined(d) => Answer::Declined(d),
+        Checked::Accepted(f) => {
+            let p = f.workers;
             Answer::Reported(runs::play_list(plan, turns, work, lists, p))
         }
     }
 }
 
-// Plays rounds on a plan until it is closed, and gives the report; declines as document 01 lists.
+// Plays rounds on a plan until it is closed, and gives the report; declines as with an empty turn list.
 pub fn run_round(plan: &[u8], work: &mut [u16], lists: &mut [u16]) -> Answer
     ensures { λ r. ⌜ Gives (roundRun (now (plan .entry)) (now (work .entry)) (now (lists .entry))) r (now (work .exit)) (now (lists .exit)) ⌝ }
 {
-    let verdict = turns::check_buffers(work, lists);
-    if let Verdict::Fails(fault) = verdict {
-        return declined(fault, 0);
-    }
-    match parser::check_plan(plan) {
+    match check_run(plan, b"", work, lists) {
         Checked::Declined(d) => Answer::Declined(d),
         Checked::Accepted(f) => {
             let p = f.workers;

@@ -24,7 +24,6 @@ pub mod Moves
 pub mod Occurrences
 pub mod Order
 pub mod Outcome
-pub mod Passed
 pub mod PollBound
 pub mod Potential
 pub mod Progress

@@ -1,21 +1,26 @@
--- What a call leaves in the lent buffers, and which declines it can give.
+-- What a run leaves in the lent buffers, and when it reports or declines.
 use Prim.Native.Nat.{ℕ, _<_, _≤_}
 use mathlib.Core.List.{List, _++_}
+use mathlib.Core.Logic.{_↔_}
 use mathlib.Core.Option.{Option, none, some}
-use mathlib.Core.Path.{_≡_, refl, _∙_, subst}
+use mathlib.Core.Path.{_≡_, refl, sym, _∙_, ap, subst}
 use native.Mathlib.Nat.{le-dest}
 use native.Mathlib.Omega.{arith}
 use lib.ListN.{length, getD, drop, replicate, length-append, length-drop, length-replicate, getD-replicate, List·getD-append}
 use lib.Seq.{getD-append-add, getD-drop}
+use Rattle.base.proofs.Below.{length-list-below}
+use Rattle.base.proofs.Choice.{none≢some}
 use Rattle.base.specs.Choice.{firstOf}
-use Rattle.plan.specs.Decode.{planFault}
 use Rattle.plan.specs.declared.Decline.{Decline}
-use Rattle.disac4.proofs.Passed.{Room, turns-pass, round-passes, has-room}
-use Rattle.disac4.specs.Outcome.{Outcome, overwrite, refused, played, unlessFault, turnRun, roundRun, bufferFault, inputFault, systemAt, workNeed, Untouched, Written}
+use Rattle.plan.proofs.WellFormed.{read-well-formed}
+use Rattle.plan.specs.Decode.{planFault}
+use Rattle.plan.specs.Network.{networkOf}
+use Rattle.disac4.specs.Outcome.{Gives, overwrite, refused, played, outcomeBy, runOf, bufferFault, systemAt, workNeed, listNeed, LongEnough, Written}
 use Rattle.disac4.specs.Report.{listCells, final, reportOf}
-use Rattle.disac4.specs.Round.{roundRunTurns}
-use Rattle.disac4.specs.System.{System}
-use Rattle.disac4.specs.Turn.{Turn, turnsOf}
+use Rattle.disac4.specs.State.{State}
+use Rattle.disac4.specs.System.{System, systemOf}
+use Rattle.disac4.specs.Turn.{Turn}
+use Rattle.disac4.specs.declared.Answer.{Answer}
 use Rattle.disac4.specs.declared.Answer.the-variants.{Reported, Declined}
 use Rattle.disac4.specs.declared.Report.{Report}
 
@@ -40,68 +45,66 @@ unfolding overwrite
 overwrite-length new cells h =
     omega (arith, length-append new (drop (length new) cells), length-drop (length new) cells)
 
--- ---- the two ways in which a call ends
+-- ---- the cells of a run
 
-module _ (work lists : List ℕ) (sys : System) (turns : List Turn) where
-  abbrev Ends : Option Decline → Outcome
-  Ends o = unlessFault (played work lists sys turns) (refused work lists) o
+-- a run writes a list cell for each variable
+pub list-cell-each : (sys : System) (st : State) → length (listCells sys st) ≡ sys .net .variables
+unfolding listCells
+list-cell-each sys st = length-list-below (sys .net .variables) _
 
-  declined-untouched : (o : Option Decline) (d : Decline) → Ends o .answer ≡ Declined d → Untouched work lists (Ends o)
-  unfolding refused played
-  declined-untouched none d e = absurd (let z : _≡_ {A = ℕ} 0 1 = cc in omega arith)
-  declined-untouched (some f) d e = record { same-work = refl; same-lists = refl }
+-- an accepted plan has at most 32
+few-cells : (b : List ℕ) → planFault b ≡ none → (st : State) → length (listCells (systemAt b) st) ≤ listNeed
+unfolding systemAt systemOf networkOf listNeed
+few-cells b sound st = omega (arith, list-cell-each (systemAt b) st, read-well-formed b sound .variables-high)
 
-  run-written : Room work lists sys turns → Written work lists sys turns (played work lists sys turns)
-  unfolding played
-  run-written room = record {
-    work-length = overwrite-length (replicate workNeed 0) work (omega (arith, length-replicate {A = ℕ} workNeed 0, room .0));
-    list-length = overwrite-length (listCells sys (final sys turns)) lists (room .1);
-    cleared = λ i h.
-        overwrite-front (replicate workNeed 0) work i (omega (arith, length-replicate {A = ℕ} workNeed 0))
-        ∙ getD-replicate workNeed i 0 0 h;
-    work-kept = λ i h. overwrite-back (replicate workNeed 0) work i (omega (arith, length-replicate {A = ℕ} workNeed 0));
-    cells = overwrite-front (listCells sys (final sys turns)) lists;
-    lists-kept = overwrite-back (listCells sys (final sys turns)) lists;
-  }
+-- so buffers that are long enough have room for what is written
+pub played-written : (b work lists : List ℕ) → planFault b ≡ none → LongEnough work lists → (turns : List Turn)
+    → Written work lists (systemAt b) turns (played work lists (systemAt b) turns)
+unfolding played
+played-written b work lists sound long turns =
+    let cells = listCells (systemAt b) (final (systemAt b) turns) in record {
+      work-length = overwrite-length (replicate workNeed 0) work (omega (arith, length-replicate {A = ℕ} workNeed 0, long .0));
+      list-length = overwrite-length cells lists (omega (arith, few-cells b sound (final (systemAt b) turns), long .1));
+      cleared = λ i h.
+          overwrite-front (replicate workNeed 0) work i (omega (arith, length-replicate {A = ℕ} workNeed 0))
+          ∙ getD-replicate workNeed i 0 0 h;
+      work-kept = λ i h. overwrite-back (replicate workNeed 0) work i (omega (arith, length-replicate {A = ℕ} workNeed 0));
+      cells = overwrite-front cells lists;
+      lists-kept = overwrite-back cells lists;
+    }
 
-  reported-written : Room work lists sys turns → (o : Option Decline) (r : Report) → Ends o .answer ≡ Reported r
-      → (r ≡ reportOf sys turns) × Written work lists sys turns (Ends o)
-  unfolding played refused
-  reported-written room none r e = (let z : r ≡ reportOf sys turns = cc in z, run-written room)
-  reported-written room (some d) r e = absurd (let z : _≡_ {A = ℕ} 0 1 = cc in omega arith)
+-- ---- any run
 
--- ---- the delivered runs
+module _ (b : List ℕ) (fault : Option Decline) (turns : List Turn) (work lists : List ℕ) where
+  -- the first fault, of the buffers or of the inputs
+  abbrev found : Option Decline
+  found = firstOf (bufferFault work lists) fault
 
--- a declined turn run changes no lent cell
-pub turnRun-declined : (b ts work lists : List ℕ) (d : Decline) → turnRun b ts work lists .answer ≡ Declined d
-    → Untouched work lists (turnRun b ts work lists)
-unfolding turnRun
-turnRun-declined b ts work lists d e =
-    declined-untouched work lists (systemAt b) (turnsOf ts) (firstOf (bufferFault work lists) (inputFault b ts)) d e
+  -- without one the turns are played
+  pub run-played : found ≡ none → runOf b fault turns work lists ≡ played work lists (systemAt b) turns
+  unfolding runOf
+  run-played e = ap (outcomeBy b turns work lists) e
 
--- a declined round run changes no lent cell
-pub roundRun-declined : (b work lists : List ℕ) (d : Decline) → roundRun b work lists .answer ≡ Declined d
-    → Untouched work lists (roundRun b work lists)
-unfolding roundRun
-roundRun-declined b work lists d e =
-    declined-untouched work lists (systemAt b) (roundRunTurns (systemAt b)) (firstOf (bufferFault work lists) (planFault b)) d e
+  -- with one it is declined, and no lent cell is changed
+  pub run-refused : (d : Decline) → found ≡ some d → Gives (runOf b fault turns work lists) (Declined d) work lists
+  unfolding runOf refused
+  run-refused d e = rw e (record { answer = refl; work-cells = refl; list-cells = refl })
 
--- a turn run that reports gives the report of its turns, and its cells
-pub turnRun-reported : (b ts work lists : List ℕ) (r : Report) → turnRun b ts work lists .answer ≡ Reported r
-    → (r ≡ reportOf (systemAt b) (turnsOf ts)) × Written work lists (systemAt b) (turnsOf ts) (turnRun b ts work lists)
-unfolding turnRun
-turnRun-reported b ts work lists r e =
-    let passed = turns-pass b work lists r ts e in
-    reported-written work lists (systemAt b) (turnsOf ts) (has-room b work lists (passed .0) (passed .1) (turnsOf ts))
-    (firstOf (bufferFault work lists) (inputFault b ts)) r e
+  -- a run reports exactly if there is none
+  pub run-reports : ((r : Report) × (runOf b fault turns work lists .answer ≡ Reported r)) ↔ (found ≡ none)
+  unfolding runOf played refused
+  run-reports = go found
+    where
+      go : (o : Option Decline) → ((r : Report) × (outcomeBy b turns work lists o .answer ≡ Reported r)) ↔ (o ≡ none)
+      go none = (λ s. refl, λ e. (reportOf (systemAt b) turns, refl))
+      go (some d) = (λ s. let e = s .1 in let z : _≡_ {A = ℕ} 0 1 = cc in absurd (omega arith), λ e. none≢some (sym e))
 
--- a round run that reports gives the report of its turns, and its cells
-pub roundRun-reported : (b work lists : List ℕ) (r : Report) → roundRun b work lists .answer ≡ Reported r
-    → (r ≡ reportOf (systemAt b) (roundRunTurns (systemAt b)))
-    × Written work lists (systemAt b) (roundRunTurns (systemAt b)) (roundRun b work lists)
-unfolding roundRun
-roundRun-reported b work lists r e =
-    let passed = round-passes b work lists r e in
-    let turns = roundRunTurns (systemAt b) in
-    reported-written work lists (systemAt b) turns (has-room b work lists (passed .0) (passed .1) turns)
-    (firstOf (bufferFault work lists) (planFault b)) r e
+  -- and declines exactly the one that there is
+  pub run-declines : (d : Decline) → (runOf b fault turns work lists .answer ≡ Declined d) ↔ (found ≡ some d)
+  unfolding runOf played refused
+  run-declines d = go found
+    where
+      go : (o : Option Decline) → (outcomeBy b turns work lists o .answer ≡ Declined d) ↔ (o ≡ some d)
+      go none = (λ e. let z : _≡_ {A = ℕ} 0 1 = cc in absurd (omega arith), none≢some)
+      go (some c) =
+          (λ e. let same : c ≡ d = cc in ap {B = Option Decline} some same, λ e. let same : c ≡ d = cc in ap {B = Answer} Declined same)

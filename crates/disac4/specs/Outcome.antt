@@ -60,38 +60,36 @@ bufferChecks work lists =
 unfoldable pub bufferFault : List ℕ → List ℕ → Option Decline
 bufferFault work lists = faultAt 0 (firstFault (bufferChecks work lists))
 
+-- long enough: neither 9 nor 10
+abbrev pub LongEnough : List ℕ → List ℕ → Type 0
+LongEnough work lists = (workNeed ≤ length work) × (listNeed ≤ length lists)
+
 -- 11; the plan's faults; 12
 unfoldable pub inputFault : List ℕ → List ℕ → Option Decline
-inputFault bytes turns =
-    firstOf (faultAt 0 (firstFault ((turnListFits turns orElse BadTurnList) ∷ [])))
-    (firstOf (planFault bytes) (turnFault (workerCount bytes) turns))
+inputFault bytes turnList =
+    firstOf (faultAt 0 (firstFault ((turnListFits turnList orElse BadTurnList) ∷ [])))
+    (firstOf (planFault bytes) (turnFault (workerCount bytes) turnList))
 
 -- the system of an accepted plan's bytes
 unfoldable pub systemAt : List ℕ → System
 systemAt bytes = systemOf (planOf bytes)
 
-abbrev pub unlessFault : Outcome → (Decline → Outcome) → Option Decline → Outcome
-unlessFault run stop none = run
-unlessFault run stop (some d) = stop d
+-- these turns are played on a plan, unless a fault was found
+abbrev pub outcomeBy : List ℕ → List Turn → List ℕ → List ℕ → Option Decline → Outcome
+outcomeBy bytes turns work lists none = played work lists (systemAt bytes) turns
+outcomeBy bytes turns work lists (some d) = refused work lists d
+
+-- a run, from the plan, the fault that there may be in its inputs, the turns that it plays and the two buffers: 9 and 10 come first
+unfoldable pub runOf : List ℕ → Option Decline → List Turn → List ℕ → List ℕ → Outcome
+runOf bytes fault turns work lists = outcomeBy bytes turns work lists (firstOf (bufferFault work lists) fault)
 
 -- the turn run, from the plan, the turn list and the two buffers
 unfoldable pub turnRun : List ℕ → List ℕ → List ℕ → List ℕ → Outcome
-turnRun bytes turns work lists =
-    unlessFault (played work lists (systemAt bytes) (turnsOf turns)) (refused work lists)
-    (firstOf (bufferFault work lists) (inputFault bytes turns))
+turnRun bytes turnList work lists = runOf bytes (inputFault bytes turnList) (turnsOf turnList) work lists
 
 -- the round run: never 11 or 12
 unfoldable pub roundRun : List ℕ → List ℕ → List ℕ → Outcome
-roundRun bytes work lists =
-    unlessFault (played work lists (systemAt bytes) (roundRunTurns (systemAt bytes))) (refused work lists)
-    (firstOf (bufferFault work lists) (planFault bytes))
-
--- ---- the two ways in which a call ends
-
--- a declined call changes no lent cell
-pub record Untouched (work lists : List ℕ) (o : Outcome) : Type 0 where
-  pub same-work : o .work ≡ work
-  pub same-lists : o .lists ≡ lists
+roundRun bytes work lists = runOf bytes (planFault bytes) (roundRunTurns (systemAt bytes)) work lists
 
 -- a run clears the first work cells, writes a cell for each variable, and keeps all later cells and both lengths
 pub record Written (work lists : List ℕ) (sys : System) (turns : List Turn) (o : Outcome) : Type 0 where

@@ -1,4 +1,3 @@
 pub mod Fits
-pub mod Places
 pub mod Texts
 pub mod Worked

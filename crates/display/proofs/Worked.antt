@@ -8,12 +8,12 @@ use native.Mathlib.Omega.{arith}
 use lib.ListN.{length-replicate}
 use Rattle.disac4.proofs.Order.{buffers-fit}
 use Rattle.disac4.specs.Computes.{disac4-computes}
-use Rattle.disac4.specs.Outcome.{overwrite, refused, played, bufferFault, inputFault, systemAt, unlessFault, turnRun, workNeed, listNeed}
+use Rattle.disac4.specs.Outcome.{overwrite, played, bufferFault, inputFault, outcomeBy, runOf, turnRun, workNeed, listNeed}
 use Rattle.disac4.specs.Turn.{turnsOf}
 use Rattle.disac4.specs.Worked.{planP, turnsT}
 use Rattle.domains.specs.Lines.{newline}
 use Rattle.text.specs.Computes.{text-computes}
-use Rattle.display.specs.Shown.{freshWork, freshLists, shownOf, shownTurns, shown}
+use Rattle.display.specs.Shown.{freshWork, freshLists, shownOf, runBy, shown}
 
 -- `closed 17 2 1 0`, `1 1: 11`, `2 2: 21 22`, `3 2: 31`
 abbrev linesT : List ℕ
@@ -27,15 +27,13 @@ linesT =
 fresh-fits : bufferFault freshWork freshLists ≡ none
 unfolding freshWork freshLists
 fresh-fits =
-    buffers-fit freshWork freshLists (omega (arith, length-replicate {A = ℕ} workNeed 0))
-    (omega (arith, length-replicate {A = ℕ} listNeed 0))
+    buffers-fit freshWork freshLists
+    (omega (arith, length-replicate {A = ℕ} workNeed 0), omega (arith, length-replicate {A = ℕ} listNeed 0))
 
 -- so that only the inputs decide
 fresh-run : (b turns : List ℕ)
-    → shown b turns false
-    ≡ shownOf b
-    (unlessFault (played freshWork freshLists (systemAt b) (turnsOf turns)) (refused freshWork freshLists) (inputFault b turns))
-unfolding shown shownTurns turnRun
+    → shown b turns false ≡ shownOf b (outcomeBy b (turnsOf turns) freshWork freshLists (inputFault b turns))
+unfolding shown runBy turnRun runOf
 fresh-run b turns = rw fresh-fits
 
 -- what the program prints for P with T

@@ -18,17 +18,13 @@ freshLists = replicate listNeed 0
 unfoldable pub shownOf : List ℕ → Outcome → List ℕ
 shownOf b o = printed (o .answer) b (o .lists)
 
--- the text of a round run ("a run without a turn list")
-unfoldable pub shownRounds : List ℕ → List ℕ
-shownRounds b = shownOf b (roundRun b freshWork freshLists)
+-- a run by rounds ("a run without a turn list") or by the turn list
+unfoldable pub runBy : List ℕ → List ℕ → Bool → List ℕ → List ℕ → Outcome
+runBy b turns rounds work lists = cond rounds (roundRun b work lists) (turnRun b turns work lists)
 
--- the text of a turn run
-unfoldable pub shownTurns : List ℕ → List ℕ → List ℕ
-shownTurns b turns = shownOf b (turnRun b turns freshWork freshLists)
-
--- what the program prints, by rounds or by the turn list
+-- what the program prints
 unfoldable pub shown : List ℕ → List ℕ → Bool → List ℕ
-shown b turns rounds = cond rounds (shownRounds b) (shownTurns b turns)
+shown b turns rounds = shownOf b (runBy b turns rounds freshWork freshLists)
 
 -- the buffer starts with the whole text, `count` bytes, and keeps its other cells
 pub record Shows (text before after : List ℕ) (count : ℕ) : Type 0 where

@@ -1,27 +1,19 @@
 // The text of a whole run, from a plan and its turns to the bytes that the program prints.
+use disac4::Answer;
 use disac4::LIST_CELLS;
 use disac4::WORK_CELLS;
-ghost use Rattle.buffer.specs.Buffer.{Holds};
-ghost use Rattle.display.specs.Shown.{shownRounds, shownTurns, shown, Shows};
+ghost use Rattle.disac4.specs.Outcome.{Gives};
+ghost use Rattle.display.specs.Shown.{runBy, shown, Shows};
 
-// The text of a run by rounds, as much of it as fits.
-fn show_rounds(plan: &[u8], out: &mut [u8]) -> usize
-    ensures { λ r. ⌜ Holds (shownRounds (now (plan .entry))) (now (out .entry)) (now (out .exit)) r ⌝ }
+// A run by rounds or by the turn list.
+fn run(plan: &[u8], turns: &[u8], rounds: bool, work: &mut [u16], lists: &mut [u16]) -> Answer
+    ensures { λ r. ⌜ Gives (runBy (now (plan .entry)) (now (turns .entry)) rounds (now (work .entry)) (now (lists .entry))) r (now (work .exit)) (now (lists .exit)) ⌝ }
 {
-    let mut work = [0u16; WORK_CELLS];
-    let mut lists = [0u16; LIST_CELLS];
-    let answer = calls::run_round(plan, &mut work, &mut lists);
-    text::print_answer(answer, plan, &lists, out)
-}
-
-// The text of a run by the turn list, as much of it as fits.
-fn show_turns(plan: &[u8], turns: &[u8], out: &mut [u8]) -> usize
-    ensures { λ r. ⌜ Holds (shownTurns (now (plan .entry)) (now (turns .entry))) (now (out .entry)) (now (out .exit)) r ⌝ }
-{
-    let mut work = [0u16; WORK_CELLS];
-    let mut lists = [0u16; LIST_CELLS];
-    let answer = calls::run_turns(plan, turns, &mut work, &mut lists);
-    text::print_answer(answer, plan, &lists, out)
+    if rounds {
+        calls::run_round(plan, work, lists)
+    } else {
+        calls::run_turns(plan, turns, work, lists)
+    }
 }
 
 // Puts the whole text of a run, by rounds or by the turn list, at the buffer's start, and returns how many bytes that is:
@@ -29,9 +21,8 @@ fn show_turns(plan: &[u8], turns: &[u8], out: &mut [u8]) -> usize
 pub fn show(plan: &[u8], turns: &[u8], rounds: bool, out: &mut [u8; 4096]) -> usize
     ensures { λ r. ⌜ Shows (shown (now (plan .entry)) (now (turns .entry)) rounds) (now (out .entry)) (now (out .exit)) r ⌝ }
 {
-    if rounds {
-        show_rounds(plan, out)
-    } else {
-        show_turns(plan, turns, out)
-    }
+    let mut work = [0u16; WORK_CELLS];
+    let mut lists = [0u16; LIST_CELLS];
+    let answer = run(plan, turns, rounds, &mut work, &mut lists);
+    text::print_answer(answer, plan, &lists, out)
 }

@@ -15,7 +15,7 @@ use Rattle.disac4.specs.declared.Report.{Report}
 use Rattle.disac4.specs.declared.Tally.{Tally}
 use Rattle.index.specs.Allowed.{Listed}
 use Rattle.index.specs.Index.{Ready, indexM}
-use Rattle.cells.specs.Layout.{WORKERS, WORK, HEAD, TAIL}
+use Rattle.cells.specs.Layout.{WORKERS, WORK, HEAD, TAIL, WORKCELLS}
 use Rattle.cells.specs.Memory.{clearedM, Mem, memOf}
 use Rattle.loading.specs.Load.{loadM}
 use Rattle.controller.specs.Controller.{Machine, machine}
@@ -82,7 +82,7 @@ turnOn sys actor action s = stepM sys s (turn actor action)
 -- some turns of an accepted plan have been played
 pub record Going (b cells : List ℕ) (g : Progress) : Type 0 where
   pub sound : planFault b ≡ none
-  pub long : 24576 ≤ length cells
+  pub long : WORKCELLS ≤ length cells
   pub before : Mem
   pub turns : List Turn
   pub at : At b before turns cells g

@@ -2,16 +2,18 @@
 use Prim.Native.Nat.{ℕ, _/_, _<_, _≤_}
 use mathlib.Core.Bool.{true, false, _&&_}
 use mathlib.Core.List.{List}
+use mathlib.Core.Logic.{_↔_}
 use mathlib.Core.Path.{_≡_}
 use lib.ListN.{length, getD}
 use Rattle.base.specs.Choice.{allOf}
 use Rattle.base.specs.Row.{bit}
 use Rattle.disac4.specs.Demands.{Demand2, Demand3}
-use Rattle.disac4.specs.Outcome.{systemAt, workNeed, listNeed, Written}
+use Rattle.disac4.specs.Outcome.{systemAt, workNeed, listNeed, LongEnough, Written}
 use Rattle.disac4.specs.Report.{final, reportOf}
 use Rattle.disac4.specs.System.{boundOf}
 use Rattle.disac4.specs.Turn.{Turn, allowed, turnAt, turnListFits}
-use Rattle.disac4.specs.declared.Answer.the-variants.{Reported}
+use Rattle.disac4.specs.declared.Answer.{Answer}
+use Rattle.disac4.specs.declared.Answer.the-variants.{Reported, Declined}
 use Rattle.disac4.specs.declared.Report.{Report}
 use Rattle.disac4.specs.declared.Status.the-variants.{Open}
 use Rattle.network.specs.Consistency.{Within, Largest}
@@ -69,10 +71,6 @@ pub record TurnsFit (b ts : List ℕ) : Type 0 where
 
 -- ---- when a run is declined
 
--- the buffers are long enough: neither 9 nor 10
-abbrev pub LongEnough : List ℕ → List ℕ → Type 0
-LongEnough work lists = (workNeed ≤ length work) × (listNeed ≤ length lists)
-
 -- the fault that comes first in document 01's order, and its place. A round run has no turn list: its faults are those with an
 -- empty one
 pub data FirstFault (b ts work lists : List ℕ) (d : Decline) : Type 0 where
@@ -116,23 +114,37 @@ unfoldable pub listedIn : Network → List ℕ → Domains
 listedIn net cells x v = loaded net x v && bit (getD cells x 0) v
 
 -- a run of these turns that reported, from the buffers before and after it
-pub record Concluded (b : List ℕ) (ts : List Turn) (work lists work′ lists′ : List ℕ) (r : Report) : Type 0 where
+pub record ReportedRun (b : List ℕ) (turns : List Turn) (work lists work′ lists′ : List ℕ) (r : Report) : Type 0 where
   -- the plan is accepted
   pub accepts : decode b ≡ accepted (planOf b)
   -- every turn is allowed
-  pub all-allowed : allOf (allowed (systemAt b .workers)) ts ≡ true
+  pub all-allowed : allOf (allowed (systemAt b .workers)) turns ≡ true
   -- the report is that of these turns
-  pub report : r ≡ reportOf (systemAt b) ts
+  pub report : r ≡ reportOf (systemAt b) turns
   -- every cell of both buffers: cleared, written or kept
-  pub cells : Written work lists (systemAt b) ts (record { answer = Reported r; work = work′; lists = lists′ })
-  pub demand2 : Demand2 (systemAt b) ts
-  pub demand3 : Demand3 (systemAt b) ts
+  pub cells : Written work lists (systemAt b) turns (record { answer = Reported r; work = work′; lists = lists′ })
+  pub demand2 : Demand2 (systemAt b) turns
+  pub demand3 : Demand3 (systemAt b) turns
   -- the list cells hold a label exactly if it is still in its domain
   pub listed : (x v : ℕ) → loaded (systemAt b .net) x v ≡ true
-      → listedIn (systemAt b .net) lists′ x v ≡ final (systemAt b) ts .domain x v
+      → listedIn (systemAt b .net) lists′ x v ≡ final (systemAt b) turns .domain x v
   -- they hold every label of the largest arc-consistent domains
   pub keeps-largest : (d : Domains) → Largest (systemAt b .net) d → Within d (listedIn (systemAt b .net) lists′)
   -- unless the status is open, they are the largest arc-consistent domains
   pub largest : (r .status ≡ Open → ⊥) → Largest (systemAt b .net) (listedIn (systemAt b .net) lists′)
   -- the reported number of changing turns is at most 5pL + 2L + 3p + 1
   pub bounded : r .changes ≤ boundOf (systemAt b)
+
+-- ---- all that a run tells
+
+-- from its answer and the buffers before and after it. `Fitting` is that nothing is at fault, `most` the highest number of a
+-- decline, `ts` the turn list (for a round run an empty one), and `turns` are those that are played
+pub record RunTells (Fitting : Type 0) (most : ℕ) (b ts : List ℕ) (turns : List Turn) (work lists work′ lists′ : List ℕ) (a : Answer) : Type 0 where
+  -- it reports exactly if nothing is at fault
+  pub reports : ((r : Report) × (a ≡ Reported r)) ↔ Fitting
+  -- it declines exactly the first fault
+  pub declines : (d : Decline) → (a ≡ Declined d) ↔ FirstFault b ts work lists d
+  -- what follows from a report
+  pub reported : (r : Report) → a ≡ Reported r → ReportedRun b turns work lists work′ lists′ r
+  -- and from a decline
+  pub declined : (d : Decline) → a ≡ Declined d → DeclinedRun most b ts work lists work′ lists′ d

@@ -4,9 +4,10 @@ use native.Mathlib.Omega.{arith}
 use denote.Ref.{now}
 use lib.ListN.{length}
 use Rattle.base.specs.Bytes.{byteAt}
+use Rattle.disac4.specs.Outcome.{workNeed, listNeed}
 use Rattle.display.proofs.Fits.{shown-fits}
-use Rattle.display.proofs.Texts.{shows-whole}
-use Rattle.display.specs.Shown.{shown}
+use Rattle.display.proofs.Texts.{outcome-held, shows-whole}
+use Rattle.display.specs.Shown.{shown, freshWork, freshLists}
 use borrow.Author.Needs.{needs}
 use Rattle.display.proofs.show.Statement.{statement}
 use Rattle.display.proofs.show.Tie as tie
@@ -16,28 +17,40 @@ fits : (k : tie.After-shared-slice-known2) → let a = k .before .before .args i
     length (shown (now (a .plan)) (now (a .turns)) (a .rounds)) ≤ 4096
 unfolding byteAt
 fits k =
-    let s = k .before .before in
-    shown-fits (now (s .args .plan)) (omega arith) (λ i. k .before .shared-slice-known .given i .fits) (now (s .args .turns))
-    (omega arith) (s .args .rounds)
+    let a = k .before .before .args in
+    shown-fits (now (a .plan)) (omega arith) (λ i. k .before .shared-slice-known .given i .fits) (now (a .turns)) (omega arith)
+    (a .rounds)
 
-show-rounds-requires : tie.Need-show-rounds-requires
-show-rounds-requires c κs = search needs
+slice-aggregate-run : tie.Need-slice-aggregate-run
+slice-aggregate-run c = search needs
 
-show-turns-requires : tie.Need-show-turns-requires
-show-turns-requires c κs = search needs
+slice-aggregate-run-2 : tie.Need-slice-aggregate-run-2
+slice-aggregate-run-2 c = search needs
+
+run-requires : tie.Need-run-requires
+run-requires c κs = search needs
+
+slice-aggregate-print-answer : tie.Need-slice-aggregate-print-answer
+slice-aggregate-print-answer c = search needs
+
+print-answer-requires : tie.Need-print-answer-requires
+print-answer-requires c κs = search needs
 
 returns : tie.Need-returns
-unfolding shown
+unfolding shown freshWork freshLists workNeed listNeed
 returns c =
-    let t = c .before .before in
-    shows-whole (rw (t .if1 .taken) (c .show-rounds .ensures))
-    (omega (arith, fits (t .before), c .before .show-rounds-arg .given .0 .1))
-
-returns-2 : tie.Need-returns-2
-unfolding shown
-returns-2 c =
-    let t = c .before .before in
-    shows-whole (rw (t .if1 .left) (c .show-turns .ensures)) (omega (arith, fits (t .before), c .before .show-turns-arg .given .0 .1))
+    let r = c .before .before .before .before .before in
+    let k = r .before .before .before in
+    shows-whole (outcome-held (now (k .before .before .args .plan)) (r .run .ensures) (c .print-answer .ensures))
+    (omega (arith, fits k, c .before .print-answer-arg .given .0 .1))
 
 pub show-spec : {M : Type 1} → statement M
-show-spec = tie.close (tie.spec show-rounds-requires show-turns-requires returns returns-2)
+show-spec =
+    tie.close
+    (tie.spec
+    slice-aggregate-run
+    slice-aggregate-run-2
+    run-requires
+    slice-aggregate-print-answer
+    print-answer-requires
+    returns)
