@@ -4,9 +4,8 @@ use mathlib.Core.List.{List}
 use mathlib.Core.Option.{Option, none, some}
 use mathlib.Core.Path.{_≡_, refl, ap}
 use native.Mathlib.Omega.{arith}
-use Rattle.calls.specs.Check.{checkOf}
 use Rattle.format.specs.Format.{workerCount}
-use Rattle.plan.specs.Answer.{planCheck, figuresOf}
+use Rattle.plan.specs.Answer.{figuresOf, checkOf, planCheck}
 use Rattle.plan.specs.Decode.{planFault, planOf, decode}
 use Rattle.plan.specs.declared.Checked.{Checked}
 use Rattle.plan.specs.declared.Checked.the-variants.{Accepted, Declined}

@@ -1,32 +1,14 @@
-// The calls that the library delivers: the plan check, the turn run and the round run. None of them asks anything of its caller.
+// The runs that the library delivers: the turn run and the round run. Neither asks anything of its caller. The plan check, which is
+// delivered beside them, is the parser's.
 use disac4::Answer;
 use plan::Checked;
-use plan::Decline;
 use plan::Fault;
 use plan::Verdict;
+use plan::declined;
 ghost use mathlib.Core.Path.{_≡_};
 ghost use Rattle.base.specs.Choice.{firstOf};
 ghost use Rattle.disac4.specs.Outcome.{Gives, bufferFault, inputFault, turnRun, roundRun};
-ghost use Rattle.plan.specs.Answer.{planCheck};
-ghost use Rattle.plan.specs.Fault.{decline};
-ghost use Rattle.calls.specs.Check.{checkOf};
-
-// Checks a plan: p, n, the number of rules and L, or the fault and its place.
-pub fn check_plan(plan: &[u8]) -> Checked
-    ensures { λ r. ⌜ r ≡ planCheck (now (plan .entry)) ⌝ }
-{
-    parser::check_plan(plan)
-}
-
-// The answer of a check that finds this fault.
-fn declined(fault: Fault, place: usize) -> Checked
-    ensures { λ r. ⌜ r ≡ Checked.Declined (decline fault place) ⌝ }
-{
-    Checked::Declined(Decline {
-        fault: fault,
-        place: place,
-    })
-}
+ghost use Rattle.plan.specs.Answer.{checkOf};
 
 // The tests of a run in their order: 9, 10, 11, the plan's own, 12. Gives the first fault, or the plan's figures.
 fn check_run(plan: &[u8], turns: &[u8], work: &[u16], lists: &[u16]) -> Checked

@@ -21,7 +21,7 @@ use Rattle.plan.specs.Decode.{trailingFault, sectionsFault}
 use Rattle.plan.specs.Fault.{decline}
 use Rattle.sections.specs.Known.{VariablesKnown}
 use Rattle.parser.specs.Known.{PassedBefore}
-use Rattle.parser.specs.Scan.{answerOf}
+use Rattle.plan.specs.Answer.{checkOf}
 use Rattle.plan.specs.declared.Checked.the-variants.{Declined}
 use Rattle.plan.specs.declared.Fault.{Fault}
 use Rattle.plan.specs.declared.Verdict.{Verdict}
@@ -84,12 +84,12 @@ module _ (b starts : List ℕ) (k : ℕ) (known : PassedBefore b starts k) where
 
   -- the answer of a plan whose first fault is in section k
   pub fault-answer : (n at : ℕ) (f : Fault) → n ≡ sectionCount b → k < n → at ≡ sectionStart b k
-      → firstFault (sectionChecks b k) ≡ some f → Declined (decline f at) ≡ answerOf b (sectionsFault b)
-  unfolding answerOf sectionsFault
+      → firstFault (sectionChecks b k) ≡ some f → Declined (decline f at) ≡ checkOf b (sectionsFault b)
+  unfolding checkOf sectionsFault
   fault-answer n at f c h e p = rw (first-fault (sectionCount b) f (omega arith) p, e)
 
   -- the answer of a plan whose sections all pass
-  pub end-answer : k ≡ sectionCount b → answerOf b (trailingFault b) ≡ answerOf b (sectionsFault b)
+  pub end-answer : k ≡ sectionCount b → checkOf b (trailingFault b) ≡ checkOf b (sectionsFault b)
   unfolding sectionsFault
   end-answer e = rw (← e, known .passed)
 

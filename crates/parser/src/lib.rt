@@ -1,6 +1,7 @@
 // The plan check: from a plan's bytes to its figures, or to its first fault and the fault's place.
 use plan::Checked;
 use plan::Fault;
+use plan::declined;
 use reader::byte_at;
 ghost use mathlib.Core.Path.{_≡_};
 ghost use Rattle.plan.specs.Answer.{planCheck};
@@ -12,10 +13,10 @@ pub fn check_plan(plan: &[u8]) -> Checked
     ensures { λ r. ⌜ r ≡ planCheck (now (plan .entry)) ⌝ }
 {
     if plan.len() == 0 {
-        return scan::declined(Fault::Truncated, 0);
+        return declined(Fault::Truncated, 0);
     }
     if byte_at(plan, 0) != 1 {
-        return scan::declined(Fault::BadVersion, 0);
+        return declined(Fault::BadVersion, 0);
     }
     scan::check_sections(plan)
 }

@@ -1,10 +1,10 @@
 // The sections of a plan in turn.
 use format::read;
 use plan::Checked;
-use plan::Decline;
 use plan::Fault;
 use plan::Figures;
 use plan::Verdict;
+use plan::declined;
 use sections::section;
 use sections::variable;
 ghost use mathlib.Core.Path.{_≡_};
@@ -14,18 +14,10 @@ ghost use Rattle.format.specs.Format.{sectionStart};
 ghost use Rattle.network.specs.Network.{labelCount};
 ghost use Rattle.plan.specs.Check.{sectionChecks, firstFault, verdictOf};
 ghost use Rattle.plan.specs.Decode.{planOf, planEnd, trailingFault, sectionsFault};
-ghost use Rattle.plan.specs.Fault.{decline};
 ghost use Rattle.sections.specs.Known.{VariablesKnown};
 ghost use Rattle.parser.specs.Known.{PassedBefore};
 ghost use Rattle.plan.specs.Network.{networkOf};
-ghost use Rattle.parser.specs.Scan.{answerOf};
-
-// The answer of a plan with a fault.
-pub fn declined(fault: Fault, place: usize) -> Checked
-    ensures { λ r. ⌜ r ≡ Checked.Declined (decline fault place) ⌝ }
-{
-    Checked::Declined(Decline { fault, place })
-}
+ghost use Rattle.plan.specs.Answer.{checkOf};
 
 // Room for the places of the head and the variables.
 fn no_starts() -> [usize; 33]
@@ -76,7 +68,7 @@ fn count_labels(b: &[u8], starts: &[usize; 33]) -> usize
 // What is left to check behind the last section, which ends at `at`.
 fn check_end(b: &[u8], at: usize, starts: &[usize; 33]) -> Checked
     requires { ⌜ VariablesKnown (now b) (now starts) × (at ≡ planEnd (now b)) ⌝ }
-    ensures { λ r. ⌜ r ≡ answerOf (now (b .entry)) (trailingFault (now (b .entry))) ⌝ }
+    ensures { λ r. ⌜ r ≡ checkOf (now (b .entry)) (trailingFault (now (b .entry))) ⌝ }
 {
     if at < b.len() {
         return declined(Fault::TrailingBytes, at);
@@ -92,7 +84,7 @@ fn check_end(b: &[u8], at: usize, starts: &[usize; 33]) -> Checked
 // The sections in turn, and what follows them. A head out of range ends the scan at once, so that its counts can be trusted.
 pub fn check_sections(b: &[u8]) -> Checked
     requires { ⌜ 1 ≤ length (now b) ⌝ }
-    ensures { λ r. ⌜ r ≡ answerOf (now (b .entry)) (sectionsFault (now (b .entry))) ⌝ }
+    ensures { λ r. ⌜ r ≡ checkOf (now (b .entry)) (sectionsFault (now (b .entry))) ⌝ }
 {
     let count = read::section_count(b);
     let mut starts = no_starts();

@@ -1,13 +1,15 @@
 -- The plan check's whole outcome.
 use Prim.Native.Nat.{ℕ}
 use mathlib.Core.List.{List}
+use mathlib.Core.Option.{Option}
 use lib.ListN.{length}
 use Rattle.network.specs.Network.{labelCount}
-use Rattle.plan.specs.Decode.{Decoded, accepted, declined, decode}
+use Rattle.plan.specs.Decode.{Decoded, accepted, declined, planOf, decodedAs, decode}
 use Rattle.plan.specs.Network.{networkOf}
 use Rattle.plan.specs.Plan.{Plan}
 use Rattle.plan.specs.declared.Checked.{Checked}
 use Rattle.plan.specs.declared.Checked.the-variants.{Accepted, Declined}
+use Rattle.plan.specs.declared.Decline.{Decline}
 use Rattle.plan.specs.declared.Figures.{Figures}
 
 -- p, n, the number of rules and L
@@ -23,5 +25,10 @@ abbrev pub checkedAs : Decoded → Checked
 checkedAs (accepted plan) = Accepted (figuresOf plan)
 checkedAs (declined d) = Declined d
 
+-- the answer of a check that finds this fault, or none
+unfoldable pub checkOf : List ℕ → Option Decline → Checked
+checkOf b fault = checkedAs (decodedAs (planOf b) fault)
+
+-- the plan check: the plan's own fault, or its figures
 unfoldable pub planCheck : List ℕ → Checked
 planCheck b = checkedAs (decode b)

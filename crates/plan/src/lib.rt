@@ -1,6 +1,6 @@
 // Plans: definitions, theorems, and the types of the plan check's answer.
 ghost use mathlib.Core.Path.{_≡_};
-ghost use Rattle.plan.specs.Fault.{numberOf};
+ghost use Rattle.plan.specs.Fault.{decline, numberOf};
 
 // Why a call declines: a case for each number of document 01.
 pub enum Fault {
@@ -54,6 +54,16 @@ pub struct Figures {
 pub enum Checked {
     Accepted(Figures),
     Declined(Decline),
+}
+
+// The answer of a check that finds this fault.
+pub fn declined(fault: Fault, place: usize) -> Checked
+    ensures { λ r. ⌜ r ≡ Checked.Declined (decline fault place) ⌝ }
+{
+    Checked::Declined(Decline {
+        fault: fault,
+        place: place,
+    })
 }
 
 // The number that document 01 gives to a fault.

@@ -13,7 +13,7 @@ ghost use Rattle.tinshrew.specs.Numbers.{GivesNumbers};
 pub extern "C" fn tinshrew_check_plan(plan: &[u8], out: &mut [usize; 5])
     ensures { λ _. ⌜ now (out .exit) ≡ checkedNumbers (planCheck (now (plan .entry))) ⌝ }
 {
-    *out = checked_numbers(calls::check_plan(plan));
+    *out = checked_numbers(parser::check_plan(plan));
 }
 
 // `run_turns`, as numbers.

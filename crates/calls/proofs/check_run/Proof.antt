@@ -17,7 +17,7 @@ use Rattle.plan.specs.declared.Checked.the-variants.{Accepted}
 use Rattle.plan.specs.declared.Decline.{Decline}
 use Rattle.calls.proofs.Checked.{no-fault, its-fault, its-workers, its-figures, plan-check, answer-declined, answer-accepted}
 use Rattle.calls.proofs.Tests.{buffers-pass, buffers-fail, bad-turn, no-bad-turn}
-use Rattle.calls.specs.Check.{checkOf}
+use Rattle.plan.specs.Answer.{checkOf}
 use borrow.Author.Needs.{needs}
 use Rattle.calls.proofs.check_run.Statement.{statement}
 use Rattle.calls.proofs.check_run.Tie as tie

@@ -1,8 +1,7 @@
 -- `parser::check_plan` gives the plan check's whole outcome for any bytes. Assumes nothing.
 use borrow.Author.Tests.{eq-eqb, ne-eqb}
-use Rattle.plan.specs.Answer.{planCheck}
+use Rattle.plan.specs.Answer.{checkOf, planCheck}
 use Rattle.plan.specs.Decode.{planFault, decode}
-use Rattle.parser.specs.Scan.{answerOf}
 use borrow.Author.Needs.{needs}
 use Rattle.parser.proofs.check_plan.Statement.{statement}
 use Rattle.parser.proofs.check_plan.Tie as tie
@@ -35,7 +34,7 @@ check-sections-requires : tie.Need-check-sections-requires
 check-sections-requires c κs = search needs
 
 returns-3 : tie.Need-returns-3
-unfolding planCheck decode planFault answerOf
+unfolding planCheck decode planFault checkOf
 returns-3 c =
     let t = c .before in
     rw (

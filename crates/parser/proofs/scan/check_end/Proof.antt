@@ -4,7 +4,7 @@ use mathlib.Core.Path.{ap}
 use lib.ListN.{length}
 use Rattle.plan.proofs.Answer.{figures-built}
 use Rattle.plan.specs.Decode.{trailingFault}
-use Rattle.parser.specs.Scan.{answerOf}
+use Rattle.plan.specs.Answer.{checkOf}
 use Rattle.plan.specs.declared.Checked.the-variants.{Accepted}
 use borrow.Author.Needs.{needs}
 use Rattle.parser.proofs.scan.check_end.Statement.{statement}
@@ -14,7 +14,7 @@ declined-requires : tie.Need-declined-requires
 declined-requires c κs = search needs
 
 returns : tie.Need-returns
-unfolding answerOf trailingFault
+unfolding checkOf trailingFault
 returns c =
     let s = c .before .before .before in
     rw (← s .pre .1, lt-ltb (s .args .at) (length (s .args .b .now)) (c .before .if1 .taken)) (c .declined .ensures)
@@ -32,7 +32,7 @@ count-labels-requires : tie.Need-count-labels-requires
 count-labels-requires c κs = search needs
 
 returns-2 : tie.Need-returns-2
-unfolding answerOf trailingFault
+unfolding checkOf trailingFault
 returns-2 c =
     let e = c .before .before .before .before in
     let s = e .before .before in
