@@ -1,11 +1,16 @@
 -- Which regions a change of the memory keeps.
-use Prim.Native.Nat.{ℕ}
+use Prim.Native.Nat.{ℕ, _+_, _<_, _≤_}
 use mathlib.Core.Bool.{Bool, true, false, cond}
 use mathlib.Core.Path.{_≡_, refl, _∙_, subst}
+use native.Mathlib.Omega.{arith}
+use lib.Dec.{ltb}
 use Rattle.base.proofs.Loops.{loop-keeps}
 use Rattle.base.specs.Below.{loop}
 use Rattle.cells.proofs.Stores.{store-apart}
+use Rattle.cells.specs.Layout.{WORKERS, LOG, WORK, DOMAIN, TAIL, LOGEND}
+use Rattle.cells.specs.Lists.{pushM, deleteM}
 use Rattle.cells.specs.Memory.{Mem, store}
+use Rattle.cells.specs.View.{labelNumber}
 
 -- the regions of `R` are in `n` what they are in `m`
 pub record RegionsKept (R : ℕ → Type 0) (m n : Mem) : Type 0 where
@@ -37,3 +42,21 @@ module _ {R : ℕ → Type 0} where
 -- fewer regions are kept too
 pub fewer : {R S : ℕ → Type 0} {m n : Mem} → ((r : ℕ) → S r → R r) → RegionsKept R m n → RegionsKept S m n
 fewer h p = record { static = λ r i j g. p .static r i j (h r g) }
+
+-- a push onto a list writes no region behind the domains
+push-kept : {R : ℕ → Type 0} (r col i c : ℕ) {m n : Mem} → ((s : ℕ) → R s → DOMAIN < s) → r ≤ DOMAIN → RegionsKept R m n
+    → RegionsKept R m (pushM r col i c n)
+unfolding pushM
+push-kept r col i c {n = n} behind h p =
+    either (ltb (n WORKERS i col) 512)
+    (stored WORKERS i col (n WORKERS i col + 1) (λ g. omega (arith, behind WORKERS g))
+    (stored r i (n WORKERS i col) c (λ g. omega (arith, behind r g)) p))
+    p
+
+-- nor does a deletion
+pub delete-kept : {R : ℕ → Type 0} (i x v : ℕ) {m n : Mem} → ((s : ℕ) → R s → DOMAIN < s) → RegionsKept R m n
+    → RegionsKept R m (deleteM i x v n)
+unfolding deleteM
+delete-kept i x v behind p =
+    push-kept WORK TAIL i (labelNumber x v) behind (omega arith)
+    (push-kept LOG LOGEND i (labelNumber x v) behind (omega arith) (stored DOMAIN x v 0 (λ g. omega (arith, behind DOMAIN g)) p))

@@ -9,11 +9,10 @@ use Rattle.base.specs.Below.{one}
 use Rattle.index.proofs.Chains.{indexed-kept}
 use Rattle.index.specs.Index.{Ready}
 use Rattle.cells.proofs.Done.{Done}
-use Rattle.cells.proofs.RegionsKept.{RegionsKept, either, repeated, stored}
-use Rattle.cells.specs.Layout.{WORKERS, LOG, WORK, DOMAIN, HEADS, TAIL, LOGEND}
-use Rattle.cells.specs.Lists.{pushM, deleteM}
+use Rattle.cells.proofs.RegionsKept.{RegionsKept, repeated}
+use Rattle.cells.specs.Layout.{HEADS}
 use Rattle.cells.specs.Memory.{Mem, memOf}
-use Rattle.cells.specs.View.{labelNumber, counterRow}
+use Rattle.cells.specs.View.{counterRow}
 
 -- those regions are in `n` what they are in `m`
 abbrev pub IndexKept : Mem → Mem → Type 0
@@ -40,16 +39,3 @@ pub ready-done : (b : List ℕ) {f : ℕ → Mem → Mem} {n k : ℕ} {old new :
     → ((j : ℕ) (m : Mem) → IndexKept m (f j m)) → Ready b new
 ready-done b {f = f} {k = k} {old = old} {new = new} r d step =
     ready-kept b old new r (d .size) (d .mem) (repeated f step k (memOf old))
-
--- a push onto a list before the index keeps it
-push-kept : (r col i c : ℕ) {m n : Mem} → (HEADS ≤ r → ⊥) → IndexKept m n → IndexKept m (pushM r col i c n)
-unfolding pushM
-push-kept r col i c {n = n} h p =
-    either (ltb (n WORKERS i col) 512) (stored WORKERS i col (n WORKERS i col + 1) (omega arith) (stored r i (n WORKERS i col) c h p)) p
-
--- so does a deletion
-pub delete-kept : (i x v : ℕ) {m n : Mem} → IndexKept m n → IndexKept m (deleteM i x v n)
-unfolding deleteM
-delete-kept i x v p =
-    push-kept WORK TAIL i (labelNumber x v) (omega arith)
-    (push-kept LOG LOGEND i (labelNumber x v) (omega arith) (stored DOMAIN x v 0 (omega arith) p))

@@ -3,13 +3,13 @@ use Prim.Native.Nat.{ℕ, _-_}
 use mathlib.Core.Bool.{Bool}
 use native.Mathlib.Omega.{arith}
 use Rattle.disac4.specs.System.{System}
-use Rattle.cells.proofs.RegionsKept.{same, then, either, repeated, stored}
+use Rattle.cells.proofs.RegionsKept.{same, then, either, repeated, stored, delete-kept}
 use Rattle.cells.specs.Layout.{DOMAIN}
 use Rattle.cells.specs.Memory.{Mem, store}
 use Rattle.cells.specs.View.{LISTED}
 use Rattle.counting.proofs.Kept.{counters-alone, count-else}
 use Rattle.counting.specs.Count.{countSupportsM}
-use Rattle.index.proofs.Kept.{IndexKept, delete-kept}
+use Rattle.index.proofs.Kept.{IndexKept}
 use Rattle.loading.specs.Load.{listLabelM, listValueM, listValuesM, listVariableM, listM, loadM}
 
 module _ (sys : System) where
@@ -17,7 +17,7 @@ module _ (sys : System) where
   unfolding listLabelM
   list-label-kept x v supported m =
       let p : IndexKept m (store m DOMAIN x v LISTED) = stored DOMAIN x v LISTED (omega arith) same in
-      either supported p (delete-kept (sys .owner x - 1) x v p)
+      either supported p (delete-kept (sys .owner x - 1) x v (λ r h. omega arith) p)
 
   pub list-variable-kept : (x : ℕ) (m : Mem) → IndexKept m (listVariableM sys x m)
   unfolding listVariableM listValuesM

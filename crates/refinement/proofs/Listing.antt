@@ -1,11 +1,11 @@
 -- Listing the labels by their counters leaves the counters alone: each label is deleted exactly if it is unsupported.
-use Prim.Native.Nat.{ℕ, zero, suc, _-_, _<_}
+use Prim.Native.Nat.{ℕ, zero, suc, _-_, _<_, _≤_}
 use mathlib.Core.Bool.{Bool, true, false, _&&_, _||_, not}
 use mathlib.Core.Path.{_≡_, refl, _∙_, ap}
 use native.Mathlib.Omega.{arith}
 use lib.Dec.{eqb}
 use Rattle.base.proofs.Below.{all-ext}
-use Rattle.base.proofs.Loops.{loop-keeps, loop-ext}
+use Rattle.base.proofs.Loops.{loop-ext}
 use Rattle.base.proofs.Row.{row-bit}
 use Rattle.base.specs.Below.{anyBelow, allBelow, loop}
 use Rattle.base.specs.Row.{bit}
@@ -13,7 +13,7 @@ use Rattle.disac4.specs.Loading.{loadedCounter, unsupported}
 use Rattle.disac4.specs.System.{System}
 use Rattle.network.proofs.Loaded.{loaded-intro}
 use Rattle.network.specs.Network.{Network, loaded, supportCount}
-use Rattle.cells.proofs.Stores.{store-apart}
+use Rattle.cells.proofs.RegionsKept.{RegionsKept, same, either, repeated, stored, delete-kept}
 use Rattle.cells.specs.Layout.{DOMAIN, COUNTERS, HEADS}
 use Rattle.cells.specs.Memory.{Mem, store}
 use Rattle.cells.specs.View.{LISTED, counterRow}
@@ -23,8 +23,8 @@ use Rattle.index.proofs.Kept.{row-heads}
 use Rattle.index.specs.Index.{Paired}
 use Rattle.loading.specs.Load.{suits, suitedRow, listLabelM, listValueM, listValuesM, listVariableM, listM, loadM}
 use Rattle.refinement.proofs.Counting.{counted-at}
-use Rattle.refinement.proofs.DeleteApart.{deleteIf, delete-counter}
-use Rattle.refinement.proofs.LabelLoad.{listStep, list-apart}
+use Rattle.refinement.proofs.DeleteApart.{deleteIf}
+use Rattle.refinement.proofs.LabelLoad.{listStep}
 use Rattle.refinement.proofs.Walking.{values, walk}
 use Rattle.refinement.specs.Inv.{Small}
 
@@ -88,28 +88,14 @@ module _ (sys : System) where
 
   -- ---- all of them
 
-  -- the counters and their index are those of `z`
-  abbrev Same : Mem → Mem → Type 0
-  Same z m = ((a b : ℕ) → m HEADS a b ≡ z HEADS a b) × ((a b : ℕ) → m COUNTERS a b ≡ z COUNTERS a b)
-
-  step-same : (z : Mem) (x v : ℕ) (m : Mem) → Same z m → Same z (listStep sys x v m)
-  step-same z x v m s = (
-    λ a b. list-apart sys x v m HEADS a b (omega arith) ∙ s .0 a b,
-    λ a b. go a b (unsupported (sys .net) x v) ∙ store-apart m DOMAIN x v LISTED COUNTERS a b (omega arith) ∙ s .1 a b,
-  )
+  -- listing leaves the counters and the index alone
+  walk-kept : (n : ℕ) (z : Mem) → RegionsKept (λ r. COUNTERS ≤ r) z (loop n (values (sys .net) (listStep sys)) z)
+  walk-kept = repeated (values (sys .net) (listStep sys)) (λ x. repeated (listStep sys x) (step x) (sys .net .size x))
     where
-      listed : Mem
-      listed = store m DOMAIN x v LISTED
-
-      go : (a b : ℕ) (u : Bool) → deleteIf u (sys .owner x - 1) x v listed COUNTERS a b ≡ listed COUNTERS a b
-      go a b true = delete-counter sys (sys .owner x - 1) x v listed a b
-      go a b false = refl
-
-  walk-same : (z : Mem) (n : ℕ) → Same z (loop n (values (sys .net) (listStep sys)) z)
-  walk-same z n =
-      loop-keeps (Same z) n (values (sys .net) (listStep sys))
-      (λ x h. loop-keeps (Same z) (sys .net .size x) (listStep sys x) (λ v k. step-same z x v))
-      z ((λ a b. refl), (λ a b. refl))
+      step : (x v : ℕ) (m : Mem) → RegionsKept (λ r. COUNTERS ≤ r) m (listStep sys x v m)
+      step x v m =
+          let p : RegionsKept (λ r. COUNTERS ≤ r) m (store m DOMAIN x v LISTED) = stored DOMAIN x v LISTED (omega arith) same in
+          either (unsupported (sys .net) x v) (delete-kept (sys .owner x - 1) x v (λ r h. omega arith) p) p
 
   list-walk : (z : Mem) → ((x : ℕ) → Counted x z) → listM sys z ≡ walk (sys .net) (listStep sys) z
   unfolding listM
@@ -119,8 +105,8 @@ module _ (sys : System) where
       let m = loop x (values (sys .net) (listStep sys)) z in
       variable-walk x h m
       (λ v y k l.
-      ap (λ (a : ℕ). m COUNTERS a v) (row-heads z m x y (walk-same z x .0 x y))
-      ∙ walk-same z x .1 (counterRow z x y) v
+      ap (λ (a : ℕ). m COUNTERS a v) (row-heads z m x y (walk-kept x z .static HEADS x y (omega arith)))
+      ∙ walk-kept x z .static COUNTERS (counterRow z x y) v (omega arith)
       ∙ counted x v y k l))
 
   -- loading lists the labels one by one in a memory where all is counted

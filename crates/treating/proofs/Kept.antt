@@ -6,8 +6,8 @@ use Rattle.disac4.specs.System.{System}
 use Rattle.cells.specs.Layout.{DOMAIN, COUNTERS}
 use Rattle.cells.specs.Memory.{Mem, store}
 use Rattle.cells.specs.View.{LISTED, counterRow}
-use Rattle.cells.proofs.RegionsKept.{same, either, repeated, stored}
-use Rattle.index.proofs.Kept.{IndexKept, delete-kept}
+use Rattle.cells.proofs.RegionsKept.{same, either, repeated, stored, delete-kept}
+use Rattle.index.proofs.Kept.{IndexKept}
 use Rattle.treating.specs.Treat.{loseM, touchM, touchVariableM, touchVariablesM}
 
 pub lose-kept : (i x v y : ℕ) (m : Mem) → IndexKept m (loseM i x v y m)
@@ -15,7 +15,7 @@ unfolding loseM
 lose-kept i x v y m =
     let p : IndexKept m (store m COUNTERS (counterRow m x y) v (m COUNTERS (counterRow m x y) v - 1)) =
     stored COUNTERS (counterRow m x y) v (m COUNTERS (counterRow m x y) v - 1) (omega arith) same in
-    either (eqb (m COUNTERS (counterRow m x y) v - 1) 0) (delete-kept i x v p) p
+    either (eqb (m COUNTERS (counterRow m x y) v - 1) 0) (delete-kept i x v (λ r h. omega arith) p) p
 
 module _ (sys : System) (i y w : ℕ) where
   pub touch-kept : (x v : ℕ) (m : Mem) → IndexKept m (touchM sys i y w x v m)
