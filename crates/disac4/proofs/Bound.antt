@@ -1,12 +1,11 @@
 -- How many turns of a run change something: by the potential, at most 5pL + 2L + 3p + 1.
 use Prim.Native.Nat.{ℕ, suc, _+_, _*_, _≤_}
-use mathlib.Core.Bool.{true}
+use mathlib.Core.Bool.{true, and-comm}
 use mathlib.Core.List.{List, [], _∷_}
 use mathlib.Core.Logic.{_↔_}
 use mathlib.Core.Path.{_≡_, refl, _∙_, ap}
 use native.Mathlib.Nat.{mul-add, add-mul}
 use native.Mathlib.Omega.{arith}
-use Rattle.base.proofs.Bools.{and-comm}
 use Rattle.base.proofs.Sums.{sum-zero}
 use Rattle.base.specs.Below.{one}
 use Rattle.disac4.proofs.Channels.{into}

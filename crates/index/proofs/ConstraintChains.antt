@@ -13,10 +13,10 @@ use Rattle.base.proofs.Bools.{decided, clash}
 use Rattle.cells.proofs.Stores.{store-same, store-other, store-apart}
 use Rattle.cells.specs.Layout.{HEADS, NEXT}
 use Rattle.cells.specs.Memory.{Mem, store}
-use Rattle.format.specs.Format.{constraintCount, firstAt, secondAt}
+use Rattle.format.specs.Format.{constraintStart, constraintCount, firstAt, secondAt}
 use Rattle.index.proofs.Ends.{Ends, ends, ends-over, over-ends, over-turned}
 use Rattle.index.proofs.Nearest.{near-none, near-here, near-past, near-ext}
-use Rattle.index.specs.Index.{over, chainBelow, linkM, constraintStart, chainsM}
+use Rattle.index.specs.Index.{over, chainBelow, linkM, chainsM}
 use Rattle.plan.specs.Decode.{planFault}
 
 -- ---- one constraint in front of its chain

@@ -19,9 +19,11 @@ figuresOf plan = record {
   labels = labelCount (networkOf plan);
 }
 
+-- what was decoded, as the plan check's answer: the figures of an accepted plan, or the fault and its place
 abbrev pub checkedAs : Decoded → Checked
 checkedAs (accepted plan) = Accepted (figuresOf plan)
 checkedAs (declined d) = Declined d
 
+-- the plan check alone: "on success returns p, n, the number of rules and L"
 unfoldable pub planCheck : List ℕ → Checked
 planCheck b = checkedAs (decode b)

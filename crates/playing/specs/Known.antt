@@ -8,10 +8,10 @@ use Rattle.controller.specs.Controller.{machine}
 use Rattle.disac4.specs.Outcome.{systemAt}
 use Rattle.disac4.specs.Turn.{turn}
 use Rattle.disac4.specs.declared.Tally.{Tally}
-use Rattle.idle.specs.Table.{idleAt}
+use Rattle.flags.specs.Flags.{actors, actions, cellCount, cellAt}
 use Rattle.refinement.specs.Step.{stepM}
 
--- the turns that a table notes are idle
+-- the turns whose flags a table has set are idle
 pub record KnownIdle (b cells : List ℕ) (t : Tally) (table : List ℕ) : Type 0 where
-  pub long : length table ≡ 117
-  pub idle : (k d : ℕ) → k < 9 → d < 13 → idleAt table k d ≡ 1 → stepM (systemAt b) (machine cells t) (turn k d) ≡ none
+  pub long : length table ≡ cellCount
+  pub idle : (k d : ℕ) → k < actors → d < actions → cellAt table k d ≡ 1 → stepM (systemAt b) (machine cells t) (turn k d) ≡ none

@@ -14,7 +14,7 @@ use Rattle.report.proofs.domain_row.Tie as tie
 use Rattle.cells.specs.Memory.{memOf}
 use Rattle.cells.specs.View.{LISTED}
 use Rattle.plan.specs.Decode.{planOf}
-use Rattle.plan.specs.WellFormed.{sizeOf}
+use Rattle.plan.specs.Plan.{sizeOf}
 
 abbrev Inv-loop : tie.InvT-loop
 Inv-loop b cells x values row₀ v₀ row v = (v ≤ values) × (row ≡ rowOf v (isListed (memOf cells) x))
