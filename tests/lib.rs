@@ -1,8 +1,10 @@
 // What the test program and the benchmark share: the plain reference, the
-// efficient implementation, the C interface and a small random generator.
+// fast implementation, the C interface and a small random generator.
 
 pub mod fast;
 pub mod generate;
+#[path = "../wrapper/src/library.rs"]
+pub mod library;
 pub mod reference;
 pub mod rng;
 pub mod subject;

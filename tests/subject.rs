@@ -1,15 +1,16 @@
-// The C interface of the library under test, and stand-ins for it with the
-// same signatures: the reference, the efficient implementation, and the
-// deliberately wrong variants of the latter.
+// The library under test, and stand-ins for it with the same signatures: the
+// reference, the fast implementation, and the deliberately wrong variants of
+// the latter.
 
 use std::slice::{from_raw_parts, from_raw_parts_mut};
 use std::sync::atomic::{AtomicUsize, Ordering};
 
 use crate::fast::{self, fault, Fault, Faulty, Sound};
+use crate::library::{CheckOut, RunOut};
 use crate::reference::run::{self, Run};
 use crate::reference::Decline;
 
-type CheckPlan = unsafe extern "C" fn(*const u8, usize, *mut usize);
+type CheckPlan = unsafe extern "C" fn(*const u8, usize, *mut CheckOut);
 type RunTurns = unsafe extern "C" fn(
     *const u8,
     usize,
@@ -19,10 +20,10 @@ type RunTurns = unsafe extern "C" fn(
     usize,
     *mut u16,
     usize,
-    *mut usize,
+    *mut RunOut,
 );
 type RunRound =
-    unsafe extern "C" fn(*const u8, usize, *mut u16, usize, *mut u16, usize, *mut usize);
+    unsafe extern "C" fn(*const u8, usize, *mut u16, usize, *mut u16, usize, *mut RunOut);
 
 /// The three functions under test.
 #[derive(Clone, Copy)]
@@ -34,9 +35,9 @@ pub struct Subject {
 }
 
 impl Subject {
-    pub fn check_plan(&self, plan: &[u8], out: &mut [usize; 5]) {
-        // SAFETY: the plan is as long as stated, and `out` has 5 cells.
-        unsafe { (self.check_plan)(plan.as_ptr(), plan.len(), out.as_mut_ptr()) }
+    pub fn check_plan(&self, plan: &[u8], out: &mut CheckOut) {
+        // SAFETY: the plan is as long as stated, and `out` has the cells that are written.
+        unsafe { (self.check_plan)(plan.as_ptr(), plan.len(), out) }
     }
 
     /// The turn run, or without a turn list the round run.
@@ -46,13 +47,12 @@ impl Subject {
         turns: Option<&[u8]>,
         work: &mut [u16],
         lists: &mut [u16],
-        out: &mut [usize; 6],
+        out: &mut RunOut,
     ) {
         let (plan, plan_len) = (plan.as_ptr(), plan.len());
         let (work, work_len) = (work.as_mut_ptr(), work.len());
         let (lists, lists_len) = (lists.as_mut_ptr(), lists.len());
-        let out = out.as_mut_ptr();
-        // SAFETY: the slices are as long as stated, and `out` has 6 cells.
+        // SAFETY: the slices are as long as stated, and `out` has the cells that are written.
         unsafe {
             match turns {
                 Some(turns) => (self.run_turns)(
@@ -72,41 +72,14 @@ impl Subject {
     }
 }
 
-#[cfg(linked)]
-mod linked {
-    extern "C" {
-        pub fn tinshrew_check_plan(plan: *const u8, plan_len: usize, out: *mut usize);
-        pub fn tinshrew_run_turns(
-            plan: *const u8,
-            plan_len: usize,
-            turns: *const u8,
-            turns_len: usize,
-            work: *mut u16,
-            work_len: usize,
-            lists: *mut u16,
-            lists_len: usize,
-            out: *mut usize,
-        );
-        pub fn tinshrew_run_round(
-            plan: *const u8,
-            plan_len: usize,
-            work: *mut u16,
-            work_len: usize,
-            lists: *mut u16,
-            lists_len: usize,
-            out: *mut usize,
-        );
-    }
-}
-
 /// The library, when the build found it.
 pub fn library() -> Option<Subject> {
     #[cfg(linked)]
     return Some(Subject {
         name: "library",
-        check_plan: linked::tinshrew_check_plan,
-        run_turns: linked::tinshrew_run_turns,
-        run_round: linked::tinshrew_run_round,
+        check_plan: crate::library::tinshrew_check_plan,
+        run_turns: crate::library::tinshrew_run_turns,
+        run_round: crate::library::tinshrew_run_round,
     });
     #[cfg(not(linked))]
     None
@@ -139,13 +112,8 @@ trait StandIn {
     }
 }
 
-/// SAFETY: the caller lends N + 1 cells.
-unsafe fn write<const N: usize>(out: *mut usize, answer: Answer<N>) {
-    write_answer(answer, from_raw_parts_mut(out, N + 1));
-}
-
-unsafe extern "C" fn check_plan<S: StandIn>(plan: *const u8, plan_len: usize, out: *mut usize) {
-    write(out, S::check_plan(from_raw_parts(plan, plan_len)));
+unsafe extern "C" fn check_plan<S: StandIn>(plan: *const u8, plan_len: usize, out: *mut CheckOut) {
+    write_answer(S::check_plan(from_raw_parts(plan, plan_len)), &mut *out);
 }
 
 unsafe extern "C" fn run_turns<S: StandIn>(
@@ -157,12 +125,12 @@ unsafe extern "C" fn run_turns<S: StandIn>(
     work_len: usize,
     lists: *mut u16,
     lists_len: usize,
-    out: *mut usize,
+    out: *mut RunOut,
 ) {
     let (plan, turns) = (from_raw_parts(plan, plan_len), from_raw_parts(turns, turns_len));
     let work = from_raw_parts_mut(work, work_len + S::spare());
     let lists = from_raw_parts_mut(lists, lists_len);
-    write(out, S::run_turns(plan, turns, work, lists));
+    write_answer(S::run_turns(plan, turns, work, lists), &mut *out);
 }
 
 unsafe extern "C" fn run_round<S: StandIn>(
@@ -172,12 +140,12 @@ unsafe extern "C" fn run_round<S: StandIn>(
     work_len: usize,
     lists: *mut u16,
     lists_len: usize,
-    out: *mut usize,
+    out: *mut RunOut,
 ) {
     let plan = from_raw_parts(plan, plan_len);
     let work = from_raw_parts_mut(work, work_len + S::spare());
     let lists = from_raw_parts_mut(lists, lists_len);
-    write(out, S::run_round(plan, work, lists));
+    write_answer(S::run_round(plan, work, lists), &mut *out);
 }
 
 fn subject<S: StandIn>(name: &'static str) -> Subject {
@@ -226,9 +194,9 @@ pub fn reference() -> Subject {
     subject::<Reference>("reference")
 }
 
-struct Efficient;
+struct Fast;
 
-impl StandIn for Efficient {
+impl StandIn for Fast {
     fn check_plan(plan: &[u8]) -> Answer<4> {
         fast::check_plan(Sound, plan)
     }
@@ -242,9 +210,9 @@ impl StandIn for Efficient {
     }
 }
 
-/// The efficient implementation.
-pub fn efficient() -> Subject {
-    subject::<Efficient>("efficient")
+/// The fast implementation.
+pub fn fast() -> Subject {
+    subject::<Fast>("fast")
 }
 
 static FAULT: AtomicUsize = AtomicUsize::new(0);

@@ -1,8 +1,8 @@
-// Times the library against the efficient plain Rust implementation.
+// Times the library against the fast plain Rust implementation.
 //
 //   bench          the library
 //   bench --self   the reference in the library's place
-//   bench --fast   the efficient implementation itself, through the interface
+//   bench --fast   the fast implementation itself, through the interface
 //
 // Both get the same bytes and the same lent buffers, filled with garbage
 // outside the timed part. The library sets the first 24,576 work cells to 0,
@@ -202,7 +202,7 @@ fn main() {
     let stand_in = match std::env::args().nth(1).as_deref() {
         None => subject::library(),
         Some("--self") => Some(subject::reference()),
-        Some("--fast") => Some(subject::efficient()),
+        Some("--fast") => Some(subject::fast()),
         Some(_) => {
             eprintln!("usage: bench [--self | --fast]");
             exit(2)

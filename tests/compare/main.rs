@@ -2,7 +2,7 @@
 //
 //   compare [cases] [seed]     the library, 100,000 cases and seed 1 by default
 //   compare --self             the reference in the library's place
-//   compare --fast             the efficient implementation in its place
+//   compare --fast             the fast implementation in its place
 //   compare --mutants [cases]  each deliberately wrong variant; all must differ
 //   compare --repeat FILE      a case from a file
 //   compare --only NUMBER      the case of that number, written to a file first
@@ -265,7 +265,7 @@ fn options() -> Options {
         let mut value = || arguments.next().unwrap_or_else(|| usage());
         match argument.as_str() {
             "--self" => options.stand_in = Some(subject::reference()),
-            "--fast" => options.stand_in = Some(subject::efficient()),
+            "--fast" => options.stand_in = Some(subject::fast()),
             "--mutants" => options.mutants = true,
             "--repeat" => options.file = Some(value()),
             "--only" => options.only = Some(value().parse().unwrap_or_else(|_| usage())),

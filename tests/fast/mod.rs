@@ -1,4 +1,4 @@
-// An efficient plain implementation with queues and bit masks: the measure
+// A fast plain implementation with queues and bit masks: the measure
 // for the benchmark and a second opinion on the reference. Deliberately wrong
 // variants of it (see `fault`) show that the test program catches mistakes;
 // the sound one compiles to code without any of those branches.

@@ -7,36 +7,7 @@ pub const WORK_CELLS: usize = 24_576;
 /// How many list cells a run needs.
 pub const LIST_CELLS: usize = 32;
 
-mod library {
-    /// What a plan check writes.
-    pub type CheckOut = [usize; 5];
-    /// What a run writes.
-    pub type RunOut = [usize; 6];
-
-    extern "C" {
-        pub fn tinshrew_check_plan(plan: *const u8, plan_len: usize, out: *mut CheckOut);
-        pub fn tinshrew_run_turns(
-            plan: *const u8,
-            plan_len: usize,
-            turns: *const u8,
-            turns_len: usize,
-            work: *mut u16,
-            work_len: usize,
-            lists: *mut u16,
-            lists_len: usize,
-            out: *mut RunOut,
-        );
-        pub fn tinshrew_run_round(
-            plan: *const u8,
-            plan_len: usize,
-            work: *mut u16,
-            work_len: usize,
-            lists: *mut u16,
-            lists_len: usize,
-            out: *mut RunOut,
-        );
-    }
-}
+mod library;
 
 /// A declined call: its number, 1 to 12 as the header lists them, and the place that goes with it. It changed no lent
 /// cell.

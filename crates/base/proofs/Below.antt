@@ -1,17 +1,17 @@
 -- Laws of the tests and lists below a bound.
-use Prim.Native.Nat.{ℕ, zero, suc, _+_, _<_}
+use Prim.Native.Nat.{ℕ, zero, suc, _+_, _*_, _<_, _≤_}
 use mathlib.Core.Bool.{Bool, true, false, _&&_, false≢true}
 use mathlib.Core.List.{List, [], _∷_, _++_}
-use mathlib.Core.Logic.{_⊎_, inl, inr, ⊎-elim}
+use mathlib.Core.Logic.{_⊎_, ⊎-elim}
 use mathlib.Core.Option.{Option, none, some}
 use mathlib.Core.Path.{_≡_, refl, sym, _∙_, ap, ap₂, subst}
 use native.Mathlib.Decide.{ℕ-discrete}
-use native.Mathlib.Nat.{not-suc-le-zero, eq-or-lt-of-le, le-of-suc-le-suc, le-step, le-refl}
+use native.Mathlib.Nat.{not-suc-le-zero, eq-or-lt-of-le, le-of-suc-le-suc, le-step, le-refl, suc-mul}
 use native.Mathlib.Numerals.{add-one}
 use native.Mathlib.Omega.{arith}
 use lib.ListN.{length, getD, length-append, List·getD-append}
 use lib.Seq.{getD-at}
-use Rattle.base.proofs.Bools.{clash, refuted, and-left, and-right, and-intro, or-cases, or-left, or-right, or-false}
+use Rattle.base.proofs.Bools.{clash, refuted, and-left, and-right, and-intro, and-false, or-cases, or-left, or-right, or-false}
 use Rattle.base.proofs.Choice.{none≢some}
 use Rattle.base.specs.Below.{anyBelow, allBelow, gatherBelow, listBelow, firstBelow}
 use Rattle.base.specs.Choice.{firstOf}
@@ -34,12 +34,9 @@ any-below (suc n) t i h e =
 -- where some pass, here is one
 pub some-below : (n : ℕ) (t : ℕ → Bool) → anyBelow n t ≡ true → (i : ℕ) × (i < n) × (t i ≡ true)
 some-below zero t e = absurd (false≢true e)
-some-below (suc n) t e = go (or-cases (anyBelow n t) (t n) e) (some-below n t)
-  where
-    go : (anyBelow n t ≡ true) ⊎ (t n ≡ true) → (anyBelow n t ≡ true → (i : ℕ) × (i < n) × (t i ≡ true))
-        → (i : ℕ) × (i < suc n) × (t i ≡ true)
-    go (inl p) ih = (ih p .0, le-step (ih p .1), ih p .2)
-    go (inr p) ih = (n, le-refl (suc n), p)
+some-below (suc n) t e =
+    ⊎-elim (λ p. let r = some-below n t p in (r .0, le-step (r .1), r .2)) (λ p. (n, le-refl (suc n), p))
+    (or-cases (anyBelow n t) (t n) e)
 
 -- one more index fails, or passes
 pub any-more : (n : ℕ) (t : ℕ → Bool) → anyBelow n t ≡ false → t n ≡ false → anyBelow (n + 1) t ≡ false
@@ -72,13 +69,9 @@ all-ext (suc n) t u h = ap₂ _&&_ (all-ext n t u (λ i l. h i (le-step l))) (h 
 -- some index fails
 pub fails-below : (n : ℕ) (t : ℕ → Bool) → allBelow n t ≡ false → (i : ℕ) × (i < n) × (t i ≡ false)
 fails-below zero t e = absurd (false≢true (sym e))
-fails-below (suc n) t e = go (allBelow n t) refl (t n) refl (fails-below n t)
-  where
-    go : (a : Bool) → allBelow n t ≡ a → (b : Bool) → t n ≡ b
-        → (allBelow n t ≡ false → (i : ℕ) × (i < n) × (t i ≡ false)) → (i : ℕ) × (i < suc n) × (t i ≡ false)
-    go false p b q ih = (ih p .0, le-step (ih p .1), ih p .2)
-    go true p false q ih = (n, le-refl (suc n), q)
-    go true p true q ih = absurd (false≢true (sym e ∙ and-intro p q))
+fails-below (suc n) t e =
+    ⊎-elim (λ p. let r = fails-below n t p in (r .0, le-step (r .1), r .2)) (λ p. (n, le-refl (suc n), p))
+    (and-false (allBelow n t) (t n) e)
 
 module _ {ℓ} {A : Type ℓ} where
   -- parts that agree below the bound are gathered alike
@@ -90,6 +83,18 @@ module _ {ℓ} {A : Type ℓ} where
   pub gather-none : (n : ℕ) (f : ℕ → List A) → ((i : ℕ) → i < n → f i ≡ []) → gatherBelow n f ≡ []
   gather-none zero f h = refl
   gather-none (suc n) f h = ap₂ _++_ (gather-none n f (λ i p. h i (le-step p))) (h n (le-refl (suc n)))
+
+  -- parts of at most `c` members each gather at most `n * c`
+  pub gather-length : (n c : ℕ) (f : ℕ → List A) → ((i : ℕ) → i < n → length (f i) ≤ c) → length (gatherBelow n f) ≤ n * c
+  gather-length zero c f h = omega arith
+  gather-length (suc n) c f h =
+      omega (
+        arith,
+        suc-mul n c,
+        length-append (gatherBelow n f) (f n),
+        gather-length n c f (λ i p. h i (le-step p)),
+        h n (le-refl (suc n)),
+      )
 
   -- results that agree below the bound are listed alike
   pub list-ext : (n : ℕ) (f g : ℕ → A) → ((i : ℕ) → i < n → f i ≡ g i) → listBelow n f ≡ listBelow n g

@@ -42,21 +42,10 @@ pub and-false-right : (a : Bool) {b : Bool} → b ≡ false → a && b ≡ false
 and-false-right true q = q
 and-false-right false q = refl
 
--- and so for a test that always fails
-pub and-never : (b : Bool) → b && false ≡ false
-and-never b = and-false-right b refl
-
 -- where two tests fail, one of them does
 pub and-false : (a b : Bool) → a && b ≡ false → (a ≡ false) ⊎ (b ≡ false)
 and-false true b e = inr e
 and-false false b e = inl refl
-
--- their order is of no account
-pub and-comm : (a b : Bool) → a && b ≡ b && a
-and-comm true true = refl
-and-comm true false = refl
-and-comm false true = refl
-and-comm false false = refl
 
 -- ---- ||
 
@@ -74,11 +63,6 @@ pub or-right : (a : Bool) {b : Bool} → b ≡ true → a || b ≡ true
 or-right true q = refl
 or-right false q = q
 
--- a test beside one that always fails decides alone
-pub or-never : (b : Bool) → b || false ≡ b
-or-never true = refl
-or-never false = refl
-
 -- where neither holds, the first fails
 pub or-false-left : (a b : Bool) → a || b ≡ false → a ≡ false
 or-false-left true b e = e
@@ -92,13 +76,6 @@ or-false-right false b e = e
 -- the second of two tests holds where the first fails
 pub or-second : {a : Bool} (b : Bool) → a ≡ false → a || b ≡ true → b ≡ true
 or-second b p e = ap (λ (x : Bool). x || b) (sym p) ∙ e
-
--- their order is of no account
-pub or-comm : (a b : Bool) → a || b ≡ b || a
-or-comm true true = refl
-or-comm true false = refl
-or-comm false true = refl
-or-comm false false = refl
 
 -- tests that fail each fail together
 pub or-false : {a b : Bool} → a ≡ false → b ≡ false → a || b ≡ false

@@ -1,6 +1,6 @@
 -- Laws of a choice by a test, of results, of pointwise change, and of numbers between bounds.
 use Prim.Native.Nat.{ℕ, _≤_}
-use mathlib.Core.Bool.{Bool, true, false, cond}
+use mathlib.Core.Bool.{Bool, true, false, cond, _&&_}
 use mathlib.Core.Option.{Option, none, some}
 use mathlib.Core.Path.{_≡_, refl, sym, ap, subst}
 use native.Mathlib.Decide.{ℕ-discrete}
@@ -13,6 +13,14 @@ use Rattle.base.specs.Choice.{update, update₂, between}
 -- what holds at one number and at every other, holds at each
 pub everywhere : (P : ℕ → Type 0) (i : ℕ) → P i → ((k : ℕ) → (k ≡ i → ⊥) → P k) → (k : ℕ) → P k
 everywhere P i here there k = elim (ℕ-discrete k i) [ yes e ↦ subst P (sym e) here | no n ↦ there k n ]
+
+-- two numbers that are not both the same as two others
+pub pair-other : (i k j l : ℕ) → (j ≡ i → l ≡ k → ⊥) → eqb j i && eqb l k ≡ false
+pair-other i k j l h =
+    elim (ℕ-discrete j i) [
+      | yes p ↦ and-false-right (eqb j i) (ne-eqb l k (h p))
+      | no n ↦ and-false-left (eqb l k) (ne-eqb j i n)
+    ]
 
 module _ {ℓ} {A : Type ℓ} where
   -- what is chosen where the test holds
@@ -51,13 +59,17 @@ module _ {ℓ} {A : Type ℓ} where
   pub update₂-same : (f : ℕ → ℕ → A) (i k : ℕ) (v : A) → update₂ f i k v i k ≡ v
   update₂-same f i k v = cond-true v (f i k) (and-intro (eq-eqb i i refl) (eq-eqb k k refl))
 
-  -- at another first number
-  pub update₂-first : (f : ℕ → ℕ → A) (i k : ℕ) (v : A) (j l : ℕ) → (j ≡ i → ⊥) → update₂ f i k v j l ≡ f j l
-  update₂-first f i k v j l h = cond-false v (f j l) (and-false-left (eqb l k) (ne-eqb j i h))
+  -- and at any other place
+  pub update₂-other : (f : ℕ → ℕ → A) (i k : ℕ) (v : A) (j l : ℕ) → (j ≡ i → l ≡ k → ⊥) → update₂ f i k v j l ≡ f j l
+  update₂-other f i k v j l h = cond-false v (f j l) (pair-other i k j l h)
 
-  -- at another second number
+  -- so at another first number
+  pub update₂-first : (f : ℕ → ℕ → A) (i k : ℕ) (v : A) (j l : ℕ) → (j ≡ i → ⊥) → update₂ f i k v j l ≡ f j l
+  update₂-first f i k v j l h = update₂-other f i k v j l (λ p q. h p)
+
+  -- and at another second number
   pub update₂-second : (f : ℕ → ℕ → A) (i k : ℕ) (v : A) (j l : ℕ) → (l ≡ k → ⊥) → update₂ f i k v j l ≡ f j l
-  update₂-second f i k v j l h = cond-false v (f j l) (and-false-right (eqb j i) (ne-eqb l k h))
+  update₂-second f i k v j l h = update₂-other f i k v j l (λ p q. h q)
 
   -- what holds at the place that was changed and at every other, holds everywhere
   pub update-each : (P : ℕ → A → Type 0) (f : ℕ → A) (i : ℕ) (v : A) → P i v

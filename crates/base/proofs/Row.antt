@@ -1,7 +1,7 @@
 -- Laws of rows of bits, at any width: which values a row holds, and how many.
 use Prim.Native.Nat.{ℕ, zero, suc, _+_, _-_, _*_, _/_, _%_, _^_, _<_, _≤_, min}
 use mathlib.Core.Bool.{Bool, true, false, cond, _&&_, not}
-use mathlib.Core.Logic.{_⊎_, inl, inr, ⊎-elim}
+use mathlib.Core.Logic.{⊎-elim}
 use mathlib.Core.Path.{_≡_, refl, sym, _∙_, ap, ap₂}
 use native.Mathlib.Nat.{not-suc-le-zero, le-of-suc-le-suc, two-pow-succ, pow-succ', div-one, div-div-eq-div-mul, div-eq-of-lt}
 use native.Mathlib.Omega.{arith}
@@ -32,12 +32,12 @@ half-of r q true e = omega arith
 half-of r q false e = omega arith
 
 -- value 0 is in the odd rows
-pub bit-zero : (r : ℕ) → bit r 0 ≡ isOdd r
+bit-zero : (r : ℕ) → bit r 0 ≡ isOdd r
 unfolding bit
 bit-zero r = ap isOdd (div-one r)
 
 -- the other values, moved down by one, are in the row's half
-pub bit-suc : (r w : ℕ) → bit r (suc w) ≡ bit (r / 2) w
+bit-suc : (r w : ℕ) → bit r (suc w) ≡ bit (r / 2) w
 unfolding bit
 bit-suc r w = ap (λ (k : ℕ). isOdd (r / k)) (pow-succ' 2 w) ∙ ap isOdd (sym (div-div-eq-div-mul r 2 (2 ^ w)))
 
@@ -209,43 +209,39 @@ count-halves n r =
     )
 
 -- the empty row holds no value
-pub count-empty : (n : ℕ) → countBelow n (bit 0) ≡ 0
+count-empty : (n : ℕ) → countBelow n (bit 0) ≡ 0
 count-empty zero = refl
 count-empty (suc n) = omega (arith, count-halves n 0, count-empty n)
 
 -- a row that is not empty holds one value more than it does without its lowest
-pub lowest-count : (n r : ℕ) → 0 < r → r < 2 ^ n
+lowest-count : (n r : ℕ) → 0 < r → r < 2 ^ n
     → countBelow n (bit r) ≡ suc (countBelow n (bit (withoutLowest n r)))
 unfolding withoutLowest
 lowest-count zero r l h = omega arith
-lowest-count (suc n) r l h = go (lowest-count n (r / 2))
+lowest-count (suc n) r l h =
+    ⊎-elim
+    (λ p.
+    let e : withoutLowest (suc n) r ≡ r - 1 = cond-true (r - 1) (2 * withoutLowest n (r / 2)) p in
+    let odd : r % 2 ≡ 1 = eqb-true (r % 2) 1 p in
+    omega
+    (arith, counts r (r / 2) refl, counts (withoutLowest (suc n) r) (r / 2) (omega arith)))
+    (λ p.
+    let e : withoutLowest (suc n) r ≡ 2 * withoutLowest n (r / 2) =
+    cond-false (r - 1) (2 * withoutLowest n (r / 2)) p in
+    let even : r % 2 ≡ 0 = omega (arith, eqb-false (r % 2) 1 p) in
+    omega (
+      arith,
+      counts r (r / 2) refl,
+      counts (withoutLowest (suc n) r) (withoutLowest n (r / 2)) (omega arith),
+      lowest-count n (r / 2) (omega arith) (half-small n r h),
+    ))
+    (decided (isOdd r))
   where
     counts : (q a : ℕ) → q / 2 ≡ a → countBelow (suc n) (bit q) ≡ q % 2 + countBelow n (bit a)
     counts q a e = count-halves n q ∙ ap (λ (k : ℕ). q % 2 + countBelow n (bit k)) e
 
-    go : (0 < r / 2 → r / 2 < 2 ^ n → countBelow n (bit (r / 2)) ≡ suc (countBelow n (bit (withoutLowest n (r / 2)))))
-        → countBelow (suc n) (bit r) ≡ suc (countBelow (suc n) (bit (withoutLowest (suc n) r)))
-    go ih =
-        ⊎-elim
-        (λ p.
-        let e : withoutLowest (suc n) r ≡ r - 1 = cond-true (r - 1) (2 * withoutLowest n (r / 2)) p in
-        let odd : r % 2 ≡ 1 = eqb-true (r % 2) 1 p in
-        omega
-        (arith, counts r (r / 2) refl, counts (withoutLowest (suc n) r) (r / 2) (omega arith)))
-        (λ p.
-        let e : withoutLowest (suc n) r ≡ 2 * withoutLowest n (r / 2) =
-        cond-false (r - 1) (2 * withoutLowest n (r / 2)) p in
-        let even : r % 2 ≡ 0 = omega (arith, eqb-false (r % 2) 1 p) in
-        omega (
-          arith,
-          counts r (r / 2) refl,
-          counts (withoutLowest (suc n) r) (withoutLowest n (r / 2)) (omega arith),
-          ih (omega arith) (half-small n r h),
-        ))
-        (decided (isOdd r))
-
 -- a row without its lowest value stays within its width
-pub lowest-small : (n r : ℕ) → r < 2 ^ n → withoutLowest n r < 2 ^ n
+lowest-small : (n r : ℕ) → r < 2 ^ n → withoutLowest n r < 2 ^ n
 unfolding withoutLowest
 lowest-small zero r h = omega arith
 lowest-small (suc n) r h =
@@ -264,24 +260,21 @@ lowest-small (suc n) r h =
 counts-in : (n calls r : ℕ) → r < 2 ^ n → countBelow n (bit r) ≤ calls → rowCountIn n calls r ≡ countBelow n (bit r)
 unfolding rowCountIn
 counts-in n zero r h l = omega arith
-counts-in n (suc calls) r h l = go (decided (eqb r 0)) (counts-in n calls (withoutLowest n r) (lowest-small n r h))
-  where
-    low : ℕ
-    low = withoutLowest n r
-
-    go : (eqb r 0 ≡ true) ⊎ (eqb r 0 ≡ false)
-        → (countBelow n (bit low) ≤ calls → rowCountIn n calls low ≡ countBelow n (bit low))
-        → rowCountIn n (suc calls) r ≡ countBelow n (bit r)
-    go (inl p) ih =
-        let e : r ≡ 0 = eqb-true r 0 p in
-        ap (rowCountIn n (suc calls)) e ∙ sym (count-empty n) ∙ ap (λ (k : ℕ). countBelow n (bit k)) (sym e)
-    go (inr p) ih =
-        let pos : 0 < r = omega (arith, eqb-false r 0 p) in
-        let more : countBelow n (bit r) ≡ suc (countBelow n (bit low)) = lowest-count n r pos h in
-        omega (arith, cond-false 0 (suc (rowCountIn n calls low)) p, ih (omega arith))
+counts-in n (suc calls) r h l =
+    let low = withoutLowest n r in
+    ⊎-elim
+    (λ p.
+    let e : r ≡ 0 = eqb-true r 0 p in
+    ap (rowCountIn n (suc calls)) e ∙ sym (count-empty n) ∙ ap (λ (k : ℕ). countBelow n (bit k)) (sym e))
+    (λ p.
+    let pos : 0 < r = omega (arith, eqb-false r 0 p) in
+    let more : countBelow n (bit r) ≡ suc (countBelow n (bit low)) = lowest-count n r pos h in
+    omega
+    (arith, cond-false 0 (suc (rowCountIn n calls low)) p, counts-in n calls low (lowest-small n r h) (omega arith)))
+    (decided (eqb r 0))
 
 -- the count of a row is the number of the values that it holds
-pub rowCount-bits : (n r : ℕ) → r < 2 ^ n → rowCount n r ≡ countBelow n (bit r)
+rowCount-bits : (n r : ℕ) → r < 2 ^ n → rowCount n r ≡ countBelow n (bit r)
 unfolding rowCount
 rowCount-bits n r h = counts-in n n r h (count-le n (bit r))
 
@@ -310,25 +303,21 @@ rowCount-small n r h = omega (arith, rowCount-bits n r h, count-le n (bit r))
 pub lowest-and : (n r : ℕ) → 0 < r → r < 2 ^ n → bitAnd r (r - 1) ≡ withoutLowest n r
 unfolding withoutLowest
 lowest-and zero r l h = omega arith
-lowest-and (suc n) r l h = go (lowest-and n (r / 2))
+lowest-and (suc n) r l h =
+    ⊎-elim
+    (λ p.
+    let odd : r % 2 ≡ 1 = eqb-true (r % 2) 1 p in
+    omega
+    (arith, halves (r / 2) (omega arith), and-self (r / 2), cond-true (r - 1) (2 * withoutLowest n (r / 2)) p))
+    (λ p.
+    let even : r % 2 ≡ 0 = omega (arith, eqb-false (r % 2) 1 p) in
+    omega (
+      arith,
+      halves (r / 2 - 1) (omega arith),
+      lowest-and n (r / 2) (omega arith) (half-small n r h),
+      cond-false (r - 1) (2 * withoutLowest n (r / 2)) p,
+    ))
+    (decided (isOdd r))
   where
     halves : (a : ℕ) → (r - 1) / 2 ≡ a → bitAnd r (r - 1) ≡ bitAnd (r / 2) a * 2 + min (r % 2) ((r - 1) % 2)
     halves a e = and-step r (r - 1) ∙ ap (λ (k : ℕ). bitAnd (r / 2) k * 2 + min (r % 2) ((r - 1) % 2)) e
-
-    go : (0 < r / 2 → r / 2 < 2 ^ n → bitAnd (r / 2) (r / 2 - 1) ≡ withoutLowest n (r / 2))
-        → bitAnd r (r - 1) ≡ withoutLowest (suc n) r
-    go ih =
-        ⊎-elim
-        (λ p.
-        let odd : r % 2 ≡ 1 = eqb-true (r % 2) 1 p in
-        omega
-        (arith, halves (r / 2) (omega arith), and-self (r / 2), cond-true (r - 1) (2 * withoutLowest n (r / 2)) p))
-        (λ p.
-        let even : r % 2 ≡ 0 = omega (arith, eqb-false (r % 2) 1 p) in
-        omega (
-          arith,
-          halves (r / 2 - 1) (omega arith),
-          ih (omega arith) (half-small n r h),
-          cond-false (r - 1) (2 * withoutLowest n (r / 2)) p,
-        ))
-        (decided (isOdd r))

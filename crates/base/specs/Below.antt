@@ -5,6 +5,7 @@ use mathlib.Core.List.{List, [], _∷_, _++_}
 use mathlib.Core.Option.{Option, none}
 use Rattle.base.specs.Choice.{firstOf}
 
+-- `f 0 + f 1 + ..`, the results below the bound added up
 abbrev pub sumBelow : ℕ → (ℕ → ℕ) → ℕ
 sumBelow zero f = 0
 sumBelow (suc n) f = sumBelow n f + f n
@@ -13,13 +14,16 @@ sumBelow (suc n) f = sumBelow n f + f n
 abbrev pub one : Bool → ℕ
 one b = cond b 1 0
 
+-- how many indexes pass the test
 abbrev pub countBelow : ℕ → (ℕ → Bool) → ℕ
 countBelow n t = sumBelow n (λ i. one (t i))
 
+-- some index passes the test
 abbrev pub anyBelow : ℕ → (ℕ → Bool) → Bool
 anyBelow zero t = false
 anyBelow (suc n) t = anyBelow n t || t n
 
+-- every index passes the test
 abbrev pub allBelow : ℕ → (ℕ → Bool) → Bool
 allBelow zero t = true
 allBelow (suc n) t = allBelow n t && t n
@@ -29,6 +33,7 @@ abbrev pub gatherBelow {ℓ} : {A : Type ℓ} → ℕ → (ℕ → List A) → L
 gatherBelow zero f = []
 gatherBelow (suc n) f = gatherBelow n f ++ f n
 
+-- the list of `f 0`, `f 1`, ..
 abbrev pub listBelow {ℓ} : {A : Type ℓ} → ℕ → (ℕ → A) → List A
 listBelow n f = gatherBelow n (λ i. f i ∷ [])
 

@@ -3,6 +3,7 @@ use Prim.Native.Nat.{ℕ, zero, suc, _+_, _*_, _/_, _%_}
 use mathlib.Core.List.{List, [], _∷_}
 use lib.ListN.{getD}
 
+-- the byte at place `i`
 unfoldable pub byteAt : List ℕ → ℕ → ℕ
 byteAt b i = getD b i 0
 
@@ -15,5 +16,6 @@ abbrev pub bytesBefore : ℕ → ℕ → List ℕ → List ℕ
 bytesBefore zero n rest = rest
 bytesBefore (suc k) n rest = bytesBefore k (n / 256) ((n % 256) ∷ rest)
 
+-- the lowest `k` bytes of a number, highest first
 unfoldable pub hex : ℕ → ℕ → List ℕ
 hex k n = bytesBefore k n []

@@ -10,13 +10,16 @@ use lib.Dec.{leb, eqb}
 abbrev pub update {ℓ} : {A : Type ℓ} → (ℕ → A) → ℕ → A → ℕ → A
 update f i v j = cond (eqb j i) v (f j)
 
+-- `x` is at least `low` and at most `high`
 abbrev pub between : ℕ → ℕ → ℕ → Bool
 between low high x = leb low x && leb x high
 
+-- some member of the list passes the test
 abbrev pub anyOf {ℓ} : {A : Type ℓ} → (A → Bool) → List A → Bool
 anyOf t [] = false
 anyOf t (a ∷ l) = t a || anyOf t l
 
+-- every member of the list passes the test
 abbrev pub allOf {ℓ} : {A : Type ℓ} → (A → Bool) → List A → Bool
 allOf t [] = true
 allOf t (a ∷ l) = t a && allOf t l

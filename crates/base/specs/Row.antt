@@ -4,6 +4,7 @@ use mathlib.Core.Bool.{Bool, cond}
 use lib.Dec.{eqb}
 use Rattle.base.specs.Below.{sumBelow}
 
+-- the lowest bit is set
 abbrev pub isOdd : ℕ → Bool
 isOdd r = eqb (r % 2) 1
 
@@ -26,5 +27,6 @@ unfoldable pub rowCountIn : ℕ → ℕ → ℕ → ℕ
 rowCountIn width zero r = 0
 rowCountIn width (suc calls) r = cond (eqb r 0) 0 (suc (rowCountIn width calls (withoutLowest width r)))
 
+-- how many values a row has, counted in this way; so loading counts supports
 unfoldable pub rowCount : ℕ → ℕ → ℕ
 rowCount width r = rowCountIn width width r

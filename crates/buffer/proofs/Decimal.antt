@@ -1,19 +1,13 @@
 -- Laws of the decimal digits.
 use Prim.Native.Nat.{ℕ, zero, suc, _+_, _/_, _%_, _^_, _<_, _≤_}
 use mathlib.Core.List.{List, [], _∷_, _++_}
-use mathlib.Core.Logic.{_⊎_, inl, inr, ⊎-elim}
 use mathlib.Core.Path.{_≡_, refl, sym, _∙_, ap}
+use native.Mathlib.Decide.{decLt}
 use native.Mathlib.Omega.{arith}
-use borrow.Author.Tests.{ltb-true, ltb-false, lt-ltb, le-ltb}
-use lib.Dec.{ltb}
+use borrow.Author.Tests.{lt-ltb, le-ltb}
 use lib.ListN.{length, length-append}
-use Rattle.base.proofs.Bools.{decided}
 use Rattle.base.proofs.Choice.{cond-true, cond-false}
 use Rattle.buffer.specs.Decimal.{decimalIn, decimal}
-
--- a number is below another, or not
-pub split : (a b : ℕ) → (a < b) ⊎ (b ≤ a)
-split a b = ⊎-elim (λ p. inl (ltb-true a b p)) (λ p. inr (ltb-false a b p)) (decided (ltb a b))
 
 -- a number below ten is one digit
 in-low : (calls n : ℕ) → n < 10 → decimalIn calls n ≡ (48 + n) ∷ []
@@ -30,16 +24,15 @@ in-high calls n h = cond-false _ _ (le-ltb n 10 h)
 in-enough : (calls more n : ℕ) → n ≤ calls → n ≤ more → decimalIn calls n ≡ decimalIn more n
 in-enough zero more n h k = in-low zero n (omega arith) ∙ sym (in-low more n (omega arith))
 in-enough (suc calls) zero n h k = in-low (suc calls) n (omega arith) ∙ sym (in-low zero n (omega arith))
-in-enough (suc calls) (suc more) n h k = go (split n 10) (in-enough calls more (n / 10))
-  where
-    go : (n < 10) ⊎ (10 ≤ n) → (n / 10 ≤ calls → n / 10 ≤ more → decimalIn calls (n / 10) ≡ decimalIn more (n / 10))
-        → decimalIn (suc calls) n ≡ decimalIn (suc more) n
-    go (inl low) ih = in-low (suc calls) n low ∙ sym (in-low (suc more) n low)
-    go (inr high) ih =
-        in-high calls n high
-        ∙ ap (λ (l : List ℕ). l ++ (48 + n % 10) ∷ []) (ih (omega arith) (omega arith))
-        ∙ sym (in-high more n high)
+in-enough (suc calls) (suc more) n h k =
+    elim (decLt n 10) [
+      | yes low ↦ in-low (suc calls) n low ∙ sym (in-low (suc more) n low)
+      | no high ↦ in-high calls n (omega arith)
+          ∙ ap (λ (l : List ℕ). l ++ (48 + n % 10) ∷ []) (in-enough calls more (n / 10) (omega arith) (omega arith))
+          ∙ sym (in-high more n (omega arith))
+    ]
 
+-- the same for all the digits of a number
 pub decimal-low : (n : ℕ) → n < 10 → decimal n ≡ (48 + n) ∷ []
 unfolding decimal
 decimal-low n h = in-low n n h
@@ -54,14 +47,13 @@ decimal-high n h =
 -- how many digits a number has at most
 pub decimal-length : (k n : ℕ) → n < 10 ^ suc k → length (decimal n) ≤ suc k
 decimal-length zero n h = omega (arith, ap length (decimal-low n (omega arith)))
-decimal-length (suc k) n h = go (split n 10) (decimal-length k (n / 10))
-  where
-    go : (n < 10) ⊎ (10 ≤ n) → (n / 10 < 10 ^ suc k → length (decimal (n / 10)) ≤ suc k) → length (decimal n) ≤ suc (suc k)
-    go (inl low) ih = omega (arith, ap length (decimal-low n low))
-    go (inr high) ih =
-        omega (
-          arith,
-          ap length (decimal-high n high),
-          length-append (decimal (n / 10)) ((48 + n % 10) ∷ []),
-          ih (omega arith),
-        )
+decimal-length (suc k) n h =
+    elim (decLt n 10) [
+      | yes low ↦ omega (arith, ap length (decimal-low n low))
+      | no high ↦ omega (
+        arith,
+        ap length (decimal-high n (omega arith)),
+        length-append (decimal (n / 10)) ((48 + n % 10) ∷ []),
+        decimal-length k (n / 10) (omega arith),
+      )
+    ]

@@ -1,8 +1,8 @@
 -- Laws of a buffer that takes a text.
 use Prim.Native.Nat.{ℕ, suc, _+_, _<_, _≤_}
 use mathlib.Core.List.{List, [], _∷_, _++_, append-nil}
-use mathlib.Core.Logic.{⊎-elim}
 use mathlib.Core.Path.{_≡_, refl, sym, _∙_, ap}
+use native.Mathlib.Decide.{decLt}
 use native.Mathlib.Numerals.{add-one}
 use native.Mathlib.Omega.{arith}
 use borrow.Author.Tests.{lt-ltb, le-ltb}
@@ -10,7 +10,6 @@ use lib.ListN.{length, getD, set, take, drop, length-append, length-take, length
 use lib.Seq.{take-suc, take-all, drop-cons, set-at, append-snoc, take-append-le, take-at}
 use Rattle.base.proofs.Choice.{cond-true, cond-false}
 use Rattle.base.specs.Below.{gatherBelow}
-use Rattle.buffer.proofs.Decimal.{split}
 use Rattle.buffer.specs.Buffer.{Buffer, buffer, put, puts, Adds, Holds}
 
 put-room : (l : List ℕ) (at b : ℕ) → at < length l → put (buffer l at) b ≡ buffer (set l at b) (at + 1)
@@ -111,14 +110,12 @@ module _ (before : List ℕ) where
       rw (append-nil, ← same, ← place) h
   holds-puts (b ∷ more) text after next count last h e =
       rw (← append-snoc text b more)
-      (⊎-elim
-      (λ room.
-      holds-puts more (text ++ b ∷ []) (set after count b) next (count + 1) last (holds-room text after count b h room)
-      (e ∙ ap (λ (t : Buffer). puts t more) (put-room after count b (omega (arith, holds-length text after count h)))))
-      (λ full.
-      holds-puts more (text ++ b ∷ []) after next count last (holds-full text after count b h full)
-      (e ∙ ap (λ (t : Buffer). puts t more) (put-full after count b (omega (arith, holds-length text after count h)))))
-      (split count (length before)))
+      (elim (decLt count (length before)) [
+        | yes room ↦ holds-puts more (text ++ b ∷ []) (set after count b) next (count + 1) last (holds-room text after count b h room)
+            (e ∙ ap (λ (t : Buffer). puts t more) (put-room after count b (omega (arith, holds-length text after count h))))
+        | no full ↦ holds-puts more (text ++ b ∷ []) after next count last (holds-full text after count b h (omega arith))
+            (e ∙ ap (λ (t : Buffer). puts t more) (put-full after count b (omega (arith, holds-length text after count h))))
+      ])
 
   -- a text put at the start
   pub holds-added : {text after : List ℕ} {count : ℕ} → Adds text before 0 after count → Holds text before after count

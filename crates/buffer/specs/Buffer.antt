@@ -6,10 +6,12 @@ use mathlib.Core.Path.{_≡_}
 use lib.Dec.{ltb}
 use lib.ListN.{length, set, take, drop}
 
+-- its cells, and the place of the next byte
 pub record Buffer : Type 0 where
   pub cells : List ℕ
   pub at : ℕ
 
+-- such a buffer, of the two
 abbrev pub buffer : List ℕ → ℕ → Buffer
 buffer cells at = record { cells = cells; at = at }
 
@@ -17,6 +19,7 @@ buffer cells at = record { cells = cells; at = at }
 unfoldable pub put : Buffer → ℕ → Buffer
 put t b = cond (ltb (t .at) (length (t .cells))) (buffer (set (t .cells) (t .at) b) (t .at + 1)) t
 
+-- a text, byte after byte
 unfoldable pub puts : Buffer → List ℕ → Buffer
 puts t [] = t
 puts t (b ∷ text) = puts (put t b) text

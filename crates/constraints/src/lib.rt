@@ -39,11 +39,11 @@ pub fn table_row(b: &[u8], at: usize, v: usize) -> usize
 }
 
 // One byte of such a row: half 0 is its high byte, and half 1 its low one.
-pub fn table_byte(b: &[u8], at: usize, w: usize, half: usize) -> usize
-    requires { ⌜ (at ≤ length (now b)) × (w < 256) × (half < 2) ⌝ }
-    ensures { λ r. ⌜ (r ≡ tableByteAt (now (b .entry)) at w half) × (r < 256) ⌝ }
+pub fn table_byte(b: &[u8], at: usize, v: usize, half: usize) -> usize
+    requires { ⌜ (at ≤ length (now b)) × (v < 256) × (half < 2) ⌝ }
+    ensures { λ r. ⌜ (r ≡ tableByteAt (now (b .entry)) at v half) × (r < 256) ⌝ }
 {
-    byte_at(b, at + 5 + 2 * w + half)
+    byte_at(b, at + 5 + 2 * v + half)
 }
 
 // A sodium rule's limit.

@@ -14,7 +14,7 @@ ghost use Rattle.base.specs.Row.{bit};
 ghost use Rattle.disac4.specs.System.{systemOf};
 ghost use Rattle.plan.specs.Decode.{planOf};
 ghost use Rattle.plan.specs.Network.{shareConstraint, networkOf};
-ghost use Rattle.plan.specs.WellFormed.{sizeOf};
+ghost use Rattle.plan.specs.Plan.{sizeOf};
 ghost use Rattle.format.specs.Format.{variableCount};
 ghost use Rattle.index.specs.Index.{Ready};
 ghost use Rattle.cells.specs.Memory.{memOf};

@@ -7,10 +7,11 @@ use lib.ListN.{length, take, drop, replicate}
 use Rattle.disac4.specs.Outcome.{Outcome, turnRun, roundRun, workNeed, listNeed}
 use Rattle.text.specs.Printed.{printed}
 
--- the buffers of a run as the program lends them: as long as a run needs them, every cell 0
+-- the work cells of a run as the program lends them: as many as a run needs, each 0
 unfoldable pub freshWork : List ℕ
 freshWork = replicate workNeed 0
 
+-- and the list cells
 unfoldable pub freshLists : List ℕ
 freshLists = replicate listNeed 0
 

@@ -5,13 +5,14 @@ use mathlib.Core.List.{List, [], _∷_, _++_}
 use lib.ListN.{length, getD}
 use Rattle.base.specs.Below.{gatherBelow}
 use Rattle.base.specs.Row.{bit}
-use Rattle.plan.specs.Plan.{Plan, variableOf, valueOf}
-use Rattle.plan.specs.WellFormed.{sizeOf}
+use Rattle.plan.specs.Plan.{Plan, variableOf, valueOf, sizeOf}
 use Rattle.buffer.specs.Decimal.{decimal, spaced}
 
+-- the end of each line
 abbrev pub newline : List ℕ
 newline = 10 ∷ []
 
+-- what stands behind a slot's kitchen
 abbrev pub colon : List ℕ
 colon = 58 ∷ []
 

@@ -17,18 +17,15 @@ ghost use Rattle.buffer.specs.Buffer.{Adds};
 ghost use Rattle.buffer.specs.Decimal.{spaced};
 ghost use Rattle.domains.specs.Lines.{listedCodes, domainLine, variableLines};
 
-// A cell as a number.
-fn wide(x: u16) -> usize
-    ensures { λ r. ⌜ (r ≡ x) × (r < 65536) ⌝ }
-{
-    x as usize
-}
-
 // The cell at i, 0 past the end.
 fn cell_at(cells: &[u16], i: usize) -> usize
     ensures { λ r. ⌜ r ≡ getD (now (cells .entry)) i 0 ⌝ }
 {
-    if i < cells.len() { wide(cells[i]) } else { 0 }
+    if i < cells.len() {
+        cells[i] as usize
+    } else {
+        0
+    }
 }
 
 // A code after a space, where the row's lowest bit is set.

@@ -39,6 +39,10 @@ codeAt b at v = wordAt b (at + 4 + 4 * v)
 abbrev pub figureAt : List ℕ → ℕ → ℕ → ℕ
 figureAt b at v = wordAt b (at + 4 + 4 * v + 2)
 
+-- where constraint (rule) `c` starts, counted from 0: behind the head and the slots
+abbrev pub constraintStart : List ℕ → ℕ → ℕ
+constraintStart b c = sectionStart b (suc (variableCount b + c))
+
 -- a rule's section at `at`: first slot, second slot, kind, then a row for each dish of the first slot, or a limit
 abbrev pub firstAt : List ℕ → ℕ → ℕ
 firstAt b at = byteAt b (at + 2)

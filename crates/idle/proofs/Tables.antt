@@ -1,6 +1,6 @@
 -- Laws of a table's cells.
 use Prim.Native.Nat.{ℕ, _+_, _*_, _<_, _≤_}
-use mathlib.Core.Bool.{Bool, true, false, cond, _&&_, _||_}
+use mathlib.Core.Bool.{Bool, true, false, cond, _&&_, _||_, or-comm}
 use mathlib.Core.List.{List}
 use mathlib.Core.Path.{_≡_, refl, sym, _∙_, ap}
 use native.Mathlib.Decide.{ℕ-discrete}
@@ -10,32 +10,27 @@ use lib.Dec.{leb, eqb}
 use lib.ListN.{length, set, length-set}
 use lib.Seq.{getD-set-same, getD-set-other}
 use Rattle.base.proofs.Below.{any-below, some-below}
-use Rattle.base.proofs.Bools.{bool-ext, and-intro, and-right, and-false-left, and-false-right, or-never, or-false}
-use Rattle.base.proofs.Choice.{cond-true, cond-false}
+use Rattle.base.proofs.Bools.{bool-ext, and-intro, and-right, or-false}
+use Rattle.base.proofs.Choice.{pair-other, cond-true, cond-false}
 use Rattle.base.specs.Below.{anyBelow}
 use Rattle.disac4.specs.Turn.{turn}
-use Rattle.idle.specs.Table.{idleAt, Puts, enables}
+use Rattle.flags.specs.Flags.{actors, actions, cellCount, cellAt}
+use Rattle.idle.specs.Table.{Puts, enables}
 
 -- one cell is stored
-pub puts-one : (v k d : ℕ) (table : List ℕ) → length table ≡ 117 → k < 9 → d < 13
-    → Puts v (λ j a. eqb j k && eqb a d) table (set table (k * 13 + d) v)
-puts-one v k d table l h e = record { long = length-set table (k * 13 + d) v ∙ l; each = each }
+pub puts-one : (v k d : ℕ) (table : List ℕ) → length table ≡ cellCount → k < actors → d < actions
+    → Puts v (λ j a. eqb j k && eqb a d) table (set table (k * actions + d) v)
+puts-one v k d table l h e = record { long = length-set table (k * actions + d) v ∙ l; each = each }
   where
-    each : (j a : ℕ) → j < 9 → a < 13 → idleAt (set table (k * 13 + d) v) j a ≡ cond (eqb j k && eqb a d) v (idleAt table j a)
+    each : (j a : ℕ) → j < actors → a < actions
+        → cellAt (set table (k * actions + d) v) j a ≡ cond (eqb j k && eqb a d) v (cellAt table j a)
     each j a m n =
-        elim (ℕ-discrete (j * 13 + a) (k * 13 + d)) [
-          | yes same ↦ rw same (getD-set-same table (k * 13 + d) v 0 (omega (arith, l)))
-              ∙ sym (cond-true v (idleAt table j a) (and-intro (eq-eqb j k (omega arith)) (eq-eqb a d (omega arith))))
-          | no other ↦ getD-set-other table (k * 13 + d) (j * 13 + a) v 0 other
-              ∙ sym (cond-false v (idleAt table j a) (away other))
+        elim (ℕ-discrete (j * actions + a) (k * actions + d)) [
+          | yes same ↦ rw same (getD-set-same table (k * actions + d) v 0 (omega (arith, l)))
+              ∙ sym (cond-true v (cellAt table j a) (and-intro (eq-eqb j k (omega arith)) (eq-eqb a d (omega arith))))
+          | no other ↦ getD-set-other table (k * actions + d) (j * actions + a) v 0 other
+              ∙ sym (cond-false v (cellAt table j a) (pair-other k d j a (λ p q. other (omega arith))))
         ]
-      where
-        away : (j * 13 + a ≡ k * 13 + d → ⊥) → eqb j k && eqb a d ≡ false
-        away other =
-            elim (ℕ-discrete j k) [
-              | yes p ↦ and-false-right (eqb j k) (ne-eqb a d (λ q. other (omega arith)))
-              | no n ↦ and-false-left (eqb a d) (ne-eqb j k n)
-            ]
 
 module _ {v : ℕ} {p q : ℕ → ℕ → Bool} {before after : List ℕ} where
   -- two changes after each other are one
@@ -43,7 +38,7 @@ module _ {v : ℕ} {p q : ℕ → ℕ → Bool} {before after : List ℕ} where
   puts-both {then} f g = record {
     long = g .long;
     each = λ k d h e.
-        g .each k d h e ∙ ap (λ (n : ℕ). cond (q k d) v n) (f .each k d h e) ∙ either (p k d) (q k d) (idleAt before k d);
+        g .each k d h e ∙ ap (λ (n : ℕ). cond (q k d) v n) (f .each k d h e) ∙ either (p k d) (q k d) (cellAt before k d);
   }
     where
       either : (a b : Bool) (n : ℕ) → cond b v (cond a v n) ≡ cond (a || b) v n
@@ -52,14 +47,14 @@ module _ {v : ℕ} {p q : ℕ → ℕ → Bool} {before after : List ℕ} where
       either false b n = refl
 
   -- a change may be said by another test that agrees with its own
-  pub puts-as : ((k d : ℕ) → k < 9 → d < 13 → p k d ≡ q k d) → Puts v p before after → Puts v q before after
+  pub puts-as : ((k d : ℕ) → k < actors → d < actions → p k d ≡ q k d) → Puts v p before after → Puts v q before after
   puts-as e f = record {
     long = f .long;
-    each = λ k d h a. f .each k d h a ∙ ap (λ (t : Bool). cond t v (idleAt before k d)) (e k d h a);
+    each = λ k d h a. f .each k d h a ∙ ap (λ (t : Bool). cond t v (cellAt before k d)) (e k d h a);
   }
 
 -- an actor's actions that are no reads, one by one
-pub own-actions : (c : Bool) (a : ℕ) → a < 13
+pub own-actions : (c : Bool) (a : ℕ) → a < actions
     → (((c && eqb a 9) || (c && eqb a 10)) || (c && eqb a 11)) || (c && eqb a 12) ≡ c && leb 9 a
 own-actions false a h = refl
 own-actions true a h =
@@ -79,11 +74,11 @@ own-actions true a h =
     ]
 
 -- the reads from actor `k`, one actor after the other
-pub all-reads : (k j a : ℕ) → j < 9 → anyBelow 9 (λ i. eqb j i && eqb a k) ≡ eqb a k
+pub all-reads : (k j a : ℕ) → j < actors → anyBelow actors (λ i. eqb j i && eqb a k) ≡ eqb a k
 all-reads k j a h =
     bool-ext _ _
-    (λ e. let w = some-below 9 (λ i. eqb j i && eqb a k) e in and-right (eqb j (w .0)) (eqb a k) (w .2))
-    (λ e. any-below 9 (λ i. eqb j i && eqb a k) j h (and-intro (eq-eqb j j refl) e))
+    (λ e. let w = some-below actors (λ i. eqb j i && eqb a k) e in and-right (eqb j (w .0)) (eqb a k) (w .2))
+    (λ e. any-below actors (λ i. eqb j i && eqb a k) j h (and-intro (eq-eqb j j refl) e))
 
 -- ---- what `forget` forgets, with the reads and without
 
@@ -101,4 +96,4 @@ module _ (k d : ℕ) {before after : List ℕ} where
   unfolding enables
   forgets-own h =
       puts-as
-      (λ j a l m. sym (or-never (own k d j a)) ∙ ap (λ (t : Bool). own k d j a || (t && eqb a k)) (sym (le-ltb 9 d h)))
+      (λ j a l m. or-comm false (own k d j a) ∙ ap (λ (t : Bool). own k d j a || (t && eqb a k)) (sym (le-ltb 9 d h)))

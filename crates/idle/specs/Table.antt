@@ -1,20 +1,17 @@
--- A table of the turns that are known to be idle, and which of them a turn may enable.
-use Prim.Native.Nat.{ℕ, _+_, _*_, _<_}
+-- A table of the turns that are known to be idle, whose flags are set, and which of them a turn may enable.
+use Prim.Native.Nat.{ℕ, _<_}
 use mathlib.Core.Bool.{Bool, cond, _&&_, _||_}
 use mathlib.Core.List.{List}
 use mathlib.Core.Path.{_≡_}
 use lib.Dec.{leb, ltb, eqb}
-use lib.ListN.{length, getD}
+use lib.ListN.{length}
 use Rattle.disac4.specs.Turn.{Turn, treatNumber}
-
--- the cell of actor `k`'s action `d`: 1 where that is known to be idle
-abbrev pub idleAt : List ℕ → ℕ → ℕ → ℕ
-idleAt table k d = getD table (k * 13 + d) 0
+use Rattle.flags.specs.Flags.{actors, actions, cellCount, cellAt}
 
 -- the cells of some turns become `v`, the others stay
 pub record Puts (v : ℕ) (which : ℕ → ℕ → Bool) (before after : List ℕ) : Type 0 where
-  pub long : length after ≡ 117
-  pub each : (k d : ℕ) → k < 9 → d < 13 → idleAt after k d ≡ cond (which k d) v (idleAt before k d)
+  pub long : length after ≡ cellCount
+  pub each : (k d : ℕ) → k < actors → d < actions → cellAt after k d ≡ cond (which k d) v (cellAt before k d)
 
 -- where `t` has changed something, `u` may find something to do: the same turn again; what its actor does but read; and where
 -- `t` sent a message, a read from that actor

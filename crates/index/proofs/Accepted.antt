@@ -14,14 +14,13 @@ use Rattle.base.specs.Below.{listBelow}
 use Rattle.base.specs.Row.{bit}
 use Rattle.index.proofs.Ends.{Ends, ends, over-ends}
 use Rattle.index.specs.Allowed.{permitsAt, Listed}
-use Rattle.index.specs.Index.{over, Placed, constraintStart}
+use Rattle.index.specs.Index.{over, Placed}
 use Rattle.plan.proofs.Links.{joins-of, of-joins}
 use Rattle.plan.proofs.Parts.{constraint-read, size-read, value-read}
 use Rattle.plan.specs.Decode.{planFault, relationAt, constraintAt, planOf}
-use Rattle.format.specs.Format.{sectionStart, variableCount, constraintCount, firstAt, secondAt, kindAt, tableRowAt, limitAt, figureAt, sizeAt}
+use Rattle.format.specs.Format.{sectionStart, constraintStart, variableCount, constraintCount, firstAt, secondAt, kindAt, tableRowAt, limitAt, figureAt, sizeAt}
 use Rattle.plan.specs.Network.{withinLimit, permits, joins, ties, spares, accepts}
-use Rattle.plan.specs.Plan.{Value, table, sumLimit, Constraint, valueOf}
-use Rattle.plan.specs.WellFormed.{constraintOf}
+use Rattle.plan.specs.Plan.{Value, table, sumLimit, Constraint, valueOf, constraintOf}
 
 -- the constraint at an index does not forbid the pair
 abbrev pub acceptsAt : List ℕ → ℕ → ℕ → ℕ → ℕ → ℕ → Bool

@@ -1,10 +1,9 @@
 -- The walk along the chain of constraints over two variables, and what it leaves to be accepted.
 use Prim.Native.Nat.{ℕ, suc, _≤_}
-use mathlib.Core.Bool.{Bool, true, false, _&&_}
+use mathlib.Core.Bool.{Bool, true, false, _&&_, and-comm}
 use mathlib.Core.List.{List}
 use mathlib.Core.Path.{_≡_, refl, sym, _∙_, ap, ap₂}
 use native.Mathlib.Omega.{arith}
-use Rattle.base.proofs.Bools.{and-comm}
 use Rattle.base.proofs.Members.{all-places}
 use Rattle.base.specs.Below.{allBelow}
 use Rattle.index.proofs.Accepted.{acceptsAt, accepts-apart}
@@ -14,7 +13,7 @@ use Rattle.plan.proofs.Parts.{constraints-read}
 use Rattle.plan.specs.Decode.{planOf}
 use Rattle.format.specs.Format.{constraintCount}
 use Rattle.plan.specs.Network.{accepts, pairAllowed}
-use Rattle.plan.specs.WellFormed.{noConstraint, constraintOf}
+use Rattle.plan.specs.Plan.{noConstraint, constraintOf}
 
 -- the walk has come to the constraint before `n`, or with 0 to the end
 pub record Along (b : List ℕ) (x y n : ℕ) : Type 0 where

@@ -14,10 +14,10 @@ use Rattle.base.specs.Below.{loop}
 use Rattle.cells.proofs.Stores.{store-same, store-other, store-apart}
 use Rattle.cells.specs.Layout.{HEADS, NEXT}
 use Rattle.cells.specs.Memory.{Mem, store}
-use Rattle.format.specs.Format.{constraintCount, firstAt, secondAt}
+use Rattle.format.specs.Format.{constraintStart, constraintCount, firstAt, secondAt}
 use Rattle.index.proofs.Ends.{Ends, ends, ends-over, over-ends, over-turned}
 use Rattle.index.proofs.Nearest.{near-none, near-here, near-past, near-ext}
-use Rattle.index.specs.Index.{over, chainBelow, linkM, constraintStart, chainM, chainsM}
+use Rattle.index.specs.Index.{over, chainBelow, linkM, chainM, chainsM}
 use Rattle.plan.specs.Decode.{planFault}
 
 -- ---- one constraint in front of its chain

@@ -7,16 +7,15 @@ use mathlib.Core.Option.{none}
 use mathlib.Core.Path.{_≡_, _∙_, ap}
 use native.Mathlib.Omega.{arith}
 use Rattle.base.proofs.Bools.{or-cases, or-left}
-use Rattle.index.specs.Index.{over, constraintStart}
+use Rattle.index.specs.Index.{over}
 use Rattle.plan.proofs.Constraints.{in-order}
 use Rattle.plan.proofs.InOrder.{InOrder}
 use Rattle.plan.proofs.Links.{ties-turned, joins-of, of-joins}
 use Rattle.plan.proofs.Parts.{constraint-read}
 use Rattle.plan.specs.Decode.{planFault, planOf, constraintAt}
-use Rattle.format.specs.Format.{variableCount, constraintCount, firstAt, secondAt}
+use Rattle.format.specs.Format.{constraintStart, variableCount, constraintCount, firstAt, secondAt}
 use Rattle.plan.specs.Network.{joins, ties}
-use Rattle.plan.specs.Plan.{Constraint}
-use Rattle.plan.specs.WellFormed.{constraintOf}
+use Rattle.plan.specs.Plan.{Constraint, constraintOf}
 
 -- a constraint over two variables is over them either way round
 pub over-turned : (b : List ℕ) (x y c : ℕ) → over b x y c ≡ over b y x c

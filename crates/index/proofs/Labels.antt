@@ -11,8 +11,7 @@ use Rattle.plan.proofs.Parts.{variables-read, variable-read, size-read}
 use Rattle.plan.specs.Decode.{planFault, planOf, variableAt}
 use Rattle.format.specs.Format.{sectionStart, variableCount, constraintCount, ownerAt}
 use Rattle.plan.specs.Network.{shareConstraint, networkOf}
-use Rattle.plan.specs.Plan.{Variable}
-use Rattle.plan.specs.WellFormed.{sizeOf}
+use Rattle.plan.specs.Plan.{Variable, sizeOf}
 use Rattle.index.proofs.Nearest.{last-any}
 use Rattle.index.proofs.Owners.{owner-range}
 use Rattle.index.proofs.Pairing.{paired}

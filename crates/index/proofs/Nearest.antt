@@ -1,12 +1,12 @@
 -- The nearest number that passes a test: the steps of the search, and what the last one below a bound says of all of them.
 use Prim.Native.Nat.{ℕ, zero, suc, _≤_}
-use mathlib.Core.Bool.{Bool, true, false, cond, _||_, not}
+use mathlib.Core.Bool.{Bool, true, false, cond, _||_, not, or-comm}
 use mathlib.Core.Logic.{⊎-elim}
 use mathlib.Core.Path.{_≡_, refl, sym, _∙_, ap, ap₂}
 use borrow.Author.Tests.{ne-eqb}
 use native.Mathlib.Omega.{arith}
 use lib.Dec.{eqb}
-use Rattle.base.proofs.Bools.{decided, and-true, or-comm, or-right}
+use Rattle.base.proofs.Bools.{decided, and-true, or-right}
 use Rattle.base.proofs.Choice.{cond-true, cond-false}
 use Rattle.base.specs.Below.{allBelow, anyBelow}
 use Rattle.index.specs.Index.{nearest}

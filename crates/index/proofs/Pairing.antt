@@ -13,11 +13,11 @@ use Rattle.index.proofs.Ends.{Ends, ends, over-ends}
 use Rattle.index.proofs.Nearest.{last-low, last-settled, last-passes}
 use Rattle.index.proofs.Permitted.{linked-chain}
 use Rattle.index.proofs.Places.{few-sections}
-use Rattle.index.specs.Index.{over, chainBelow, Indexed, Paired, constraintStart}
+use Rattle.index.specs.Index.{over, chainBelow, Indexed, Paired}
 use Rattle.cells.specs.Layout.{HEADS}
 use Rattle.cells.specs.Memory.{Mem}
 use Rattle.plan.specs.Decode.{planFault, planOf}
-use Rattle.format.specs.Format.{constraintCount, firstAt, secondAt}
+use Rattle.format.specs.Format.{constraintStart, constraintCount, firstAt, secondAt}
 use Rattle.plan.specs.Network.{shareConstraint, networkOf}
 
 module _ (b : List ℕ) (none-found : planFault b ≡ none) (m : Mem) (index : Indexed b m) where

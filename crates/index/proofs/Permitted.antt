@@ -20,7 +20,7 @@ use Rattle.plan.proofs.WellFormed.{read-well-formed}
 use Rattle.plan.specs.Decode.{planFault, planOf}
 use Rattle.format.specs.Format.{variableCount, constraintCount}
 use Rattle.plan.specs.Network.{ties, pairAllowed, shareConstraint, networkOf}
-use Rattle.plan.specs.WellFormed.{sizeOf, noConstraint, constraintOf}
+use Rattle.plan.specs.Plan.{sizeOf, noConstraint, constraintOf}
 
 -- two variables are linked where there is a chain for them
 pub linked-chain : (b : List ℕ) (x y : ℕ)

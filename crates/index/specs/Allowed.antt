@@ -7,7 +7,7 @@ use Rattle.base.specs.Row.{bit}
 use Rattle.plan.specs.Decode.{planOf}
 use Rattle.format.specs.Format.{variableCount, kindAt, tableRowAt, limitAt, figureAt}
 use Rattle.plan.specs.Network.{withinLimit}
-use Rattle.plan.specs.WellFormed.{sizeOf}
+use Rattle.plan.specs.Plan.{sizeOf}
 
 -- the constraint at `at` permits value `v` of its first variable, at `first`, with value `w` of its second, at
 -- `second`: `permits` of the plan's network said over the bytes; `permits-read` (proofs/Accepted) proves the two equal

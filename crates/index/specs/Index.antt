@@ -13,9 +13,9 @@ use Rattle.disac4.specs.System.{System, systemOf}
 use Rattle.cells.specs.Layout.{HEADS, PLACES, NEXT, FIRST, FOLLOW, WORKCELLS}
 use Rattle.cells.specs.Memory.{Mem, memOf, store}
 use Rattle.plan.specs.Decode.{planFault, planOf}
-use Rattle.format.specs.Format.{sectionStart, variableCount, constraintCount, sectionCount, firstAt, secondAt}
+use Rattle.format.specs.Format.{sectionStart, constraintStart, variableCount, constraintCount, sectionCount, firstAt, secondAt}
 use Rattle.plan.specs.Network.{ties}
-use Rattle.plan.specs.WellFormed.{constraintOf}
+use Rattle.plan.specs.Plan.{constraintOf}
 
 -- constraint `c` of the plan is over `x` and `y`, either way round
 unfoldable pub over : List ℕ → ℕ → ℕ → ℕ → Bool
@@ -93,10 +93,6 @@ placesM b = loop (sectionCount b) (placeM b)
 -- constraint `c` in front of the chain of `x` and `y`
 unfoldable pub linkM : ℕ → ℕ → ℕ → Mem → Mem
 linkM x y c m = store (store (store m NEXT 0 c (m HEADS x y)) HEADS x y (c + 1)) HEADS y x (c + 1)
-
--- where constraint `c` starts
-abbrev pub constraintStart : List ℕ → ℕ → ℕ
-constraintStart b c = sectionStart b (suc (variableCount b + c))
 
 -- constraint `c` in front of the chain of its two variables
 abbrev pub chainM : List ℕ → ℕ → Mem → Mem

@@ -9,7 +9,7 @@ ghost use Rattle.disac4.specs.System.{systemOf};
 ghost use Rattle.plan.specs.Decode.{planOf};
 ghost use Rattle.format.specs.Format.{variableCount, sectionCount};
 ghost use Rattle.plan.specs.Network.{shareConstraint};
-ghost use Rattle.plan.specs.WellFormed.{sizeOf};
+ghost use Rattle.plan.specs.Plan.{sizeOf};
 ghost use Rattle.index.specs.Index.{Indexed, Located, Placed, Ready};
 ghost use Rattle.cells.specs.Layout.{WORKCELLS};
 ghost use Rattle.cells.specs.Memory.{memOf};

@@ -17,7 +17,7 @@ ghost use Rattle.cells.specs.View.{counterRow};
 ghost use Rattle.disac4.specs.System.{systemOf};
 ghost use Rattle.plan.specs.Decode.{planOf};
 ghost use Rattle.plan.specs.Network.{shareConstraint};
-ghost use Rattle.plan.specs.WellFormed.{sizeOf};
+ghost use Rattle.plan.specs.Plan.{sizeOf};
 ghost use Rattle.format.specs.Format.{variableCount};
 ghost use Rattle.index.specs.Allowed.{Listed};
 ghost use Rattle.index.specs.Index.{Ready};

@@ -2,15 +2,15 @@
 use Prim.Native.Nat.{ℕ}
 use mathlib.Core.Bool.{Bool, true, false, cond, _&&_}
 use mathlib.Core.List.{[], _∷_}
-use mathlib.Core.Logic.{_⊎_, inl, inr}
+use mathlib.Core.Logic.{⊎-elim}
 use mathlib.Core.Path.{_≡_, refl, sym, _∙_, ap}
-use native.Mathlib.Decide.{ℕ-discrete}
 use native.Mathlib.Nat.{add-zero}
 use native.Mathlib.Omega.{arith}
-use borrow.Author.Tests.{eqb-true, eq-eqb, ne-eqb}
+use borrow.Author.Tests.{eqb-true, eq-eqb}
 use lib.Dec.{eqb}
 use lib.ListN.{length}
-use Rattle.base.proofs.Bools.{decided, clash, and-left, and-right, and-intro, and-false-left, and-false-right}
+use Rattle.base.proofs.Bools.{decided, clash, and-left, and-right, and-intro}
+use Rattle.base.proofs.Choice.{pair-other, cond-ext, cond-same}
 use Rattle.base.proofs.Sums.{sum-ext, sum-zero, sum-const, sum-single}
 use Rattle.base.proofs.Weight.{weigh, weigh-gather, weigh-one}
 use Rattle.base.specs.Below.{sumBelow, countBelow, one, gatherBelow}
@@ -33,14 +33,10 @@ isLabel-same x v = and-intro (eq-eqb x x refl) (eq-eqb v v refl)
 -- and no other label's
 pub isLabel-other : (x v y w : ℕ) → (y ≡ x → w ≡ v → ⊥) → isLabel x v (label y w) ≡ false
 unfolding isLabel
-isLabel-other x v y w h =
-    elim (ℕ-discrete y x) [
-      | yes p ↦ and-false-right (eqb y x) (ne-eqb w v (h p))
-      | no p ↦ and-false-left (eqb w v) (ne-eqb y x p)
-    ]
+isLabel-other = pair-other
 
 -- the labels that pass a test weigh the sum over variables and values
-pub weigh-labels : (net : Network) (t : ℕ → ℕ → Bool) (w : Label → ℕ)
+weigh-labels : (net : Network) (t : ℕ → ℕ → Bool) (w : Label → ℕ)
     → weigh w (labelsWhere net t)
     ≡ sumBelow (net .variables) (λ x. sumBelow (net .size x) (λ v. cond (t x v) (w (label x v)) 0))
 unfolding labelsWhere
@@ -77,42 +73,31 @@ module _ (net : Network) (t : ℕ → ℕ → Bool) (x v : ℕ) where
 
   other : (y w : ℕ) → (y ≡ x → w ≡ v → ⊥) → weight y w ≡ 0
   unfolding weight
-  other y w h = go (t y w)
-    where
-      go : (b : Bool) → _≡_ {A = ℕ} (cond b (one (isLabel x v (label y w))) 0) 0
-      go true = ap one (isLabel-other x v y w h)
-      go false = refl
+  other y w h = cond-same (t y w) _ _ 0 (ap one (isLabel-other x v y w h)) refl
 
   own : weight x v ≡ one (t x v)
   unfolding weight
-  own = go (t x v)
-    where
-      go : (b : Bool) → cond b (one (isLabel x v (label x v))) 0 ≡ one b
-      go true = ap one (isLabel-same x v)
-      go false = refl
+  own = cond-ext (t x v) _ 1 0 0 (λ p. ap one (isLabel-same x v)) (λ p. refl)
 
   -- each loaded label that passes the test is enumerated exactly once, no other at all
   pub labels-once : weigh (λ a. one (isLabel x v a)) (labelsWhere net t) ≡ one (loaded net x v && t x v)
   unfolding weight
-  labels-once = weigh-labels net t (λ a. one (isLabel x v a)) ∙ go (decided (loaded net x v))
+  labels-once =
+      weigh-labels net t (λ a. one (isLabel x v a))
+      ∙ ⊎-elim
+      (λ p.
+      sum-single (net .variables) row x (loaded-variable net x v p)
+      (λ y k d. sum-zero (net .size y) (weight y) (λ w j. other y w (λ e f. d e)))
+      ∙ sum-single (net .size x) (weight x) v (loaded-value net x v p) (λ w j d. other x w (λ e f. d f))
+      ∙ own
+      ∙ ap (λ (b : Bool). one (b && t x v)) (sym p))
+      (λ p.
+      sum-zero (net .variables) row
+      (λ y k.
+      sum-zero (net .size y) (weight y)
+      (λ w j. other y w (λ e f. clash (loaded-intro net x v (omega arith) (omega (arith, ap (net .size) e))) p)))
+      ∙ ap (λ (b : Bool). one (b && t x v)) (sym p))
+      (decided (loaded net x v))
     where
       row : ℕ → ℕ
       row y = sumBelow (net .size y) (weight y)
-
-      go : (loaded net x v ≡ true) ⊎ (loaded net x v ≡ false)
-          → sumBelow (net .variables) row ≡ one (loaded net x v && t x v)
-      go (inl p) =
-          sum-single (net .variables) row x (loaded-variable net x v p)
-          (λ y k d. sum-zero (net .size y) (weight y) (λ w j. other y w (λ e f. d e)))
-          ∙ sum-single (net .size x) (weight x) v (loaded-value net x v p) (λ w j d. other x w (λ e f. d f))
-          ∙ own
-          ∙ ap (λ (b : Bool). one (b && t x v)) (sym p)
-      go (inr p) =
-          sum-zero (net .variables) row
-          (λ y k.
-          sum-zero (net .size y) (weight y)
-          (λ w j.
-          other y w
-          (λ e f.
-          clash (loaded-intro net x v (omega arith) (omega (arith, ap (net .size) e))) p)))
-          ∙ ap (λ (b : Bool). one (b && t x v)) (sym p)

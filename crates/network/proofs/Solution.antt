@@ -1,13 +1,12 @@
 -- Solutions: each lies within the largest domains, and a choice of loaded values is one exactly if it breaks no constraint.
 use Prim.Native.Nat.{ℕ, _<_}
-use mathlib.Core.Bool.{true, _&&_, _||_, not}
+use mathlib.Core.Bool.{true, _&&_}
 use mathlib.Core.Path.{_≡_, refl}
 use native.Mathlib.Omega.{arith}
 use borrow.Author.Tests.{eqb-true, eq-eqb, ltb-true, lt-ltb}
 use lib.Dec.{ltb, eqb}
 use Rattle.base.proofs.Below.{all-below, every-below}
 use Rattle.base.proofs.Bools.{and-left, and-right, and-intro, implied, implies}
-use Rattle.base.specs.Below.{allBelow}
 use Rattle.network.proofs.Largest.{largest-contains}
 use Rattle.network.proofs.Loaded.{loaded-intro}
 use Rattle.network.specs.Consistency.{Within, Supported, ArcConsistent, ConsistentWithin, Largest}
@@ -15,12 +14,12 @@ use Rattle.network.specs.Network.{Network, Domains, loaded}
 use Rattle.network.specs.Solution.{Solution, agrees}
 
 -- the domains that hold the values of a choice alone
-abbrev pub chosenOnly : Network → (ℕ → ℕ) → Domains
+abbrev chosenOnly : Network → (ℕ → ℕ) → Domains
 chosenOnly net s x v = ltb x (net .variables) && eqb v (s x)
 
 module _ (net : Network) (s : ℕ → ℕ) (sol : Solution net s) where
   -- the values of a solution are arc-consistent domains by themselves
-  pub solution-consistent : ConsistentWithin net (chosenOnly net s)
+  solution-consistent : ConsistentWithin net (chosenOnly net s)
   unfolding Within Supported ArcConsistent
   solution-consistent = record { within = inner; consistent = supported }
     where
@@ -63,10 +62,9 @@ module _ (net : Network) where
   pub solution-agrees : (s : ℕ → ℕ) → Solution net s → agrees net (net .variables) s ≡ true
   unfolding agrees
   solution-agrees s sol =
-      every-below (net .variables)
-      (λ x. allBelow (net .variables) (λ y. not (net .linked x y) || net .allows x (s x) y (s y)))
+      every-below (net .variables) _
       (λ x l.
-      every-below (net .variables) (λ y. not (net .linked x y) || net .allows x (s x) y (s y))
+      every-below (net .variables) _
       (λ y m. implies (net .linked x y) (net .allows x (s x) y (s y)) (sol .allowed x y l m)))
 
   -- a choice of loaded values that breaks no constraint is a solution
@@ -79,7 +77,5 @@ module _ (net : Network) where
         allowed =
             λ x y l m.
             implied (net .linked x y) (net .allows x (s x) y (s y))
-            (all-below (net .variables) (λ z. not (net .linked x z) || net .allows x (s x) z (s z))
-            (all-below (net .variables)
-            (λ u. allBelow (net .variables) (λ z. not (net .linked u z) || net .allows u (s u) z (s z))) e x l) y m);
+            (all-below (net .variables) _ (all-below (net .variables) _ e x l) y m);
       }

@@ -6,6 +6,7 @@ use lib.Dec.{ltb, eqb}
 use Rattle.base.specs.Below.{sumBelow, countBelow, gatherBelow}
 use Rattle.base.specs.Row.{rowOf, rowCount}
 
+-- the variables and values of a plan, and which two values its constraints allow together
 pub record Network : Type 0 where
   -- how many variables (slots) there are
   pub variables : ℕ
@@ -21,9 +22,11 @@ pub record Label : Type 0 where
   pub variable : ℕ
   pub value : ℕ
 
+-- value `v` of variable `x`
 abbrev pub label : ℕ → ℕ → Label
 label x v = record { variable = x; value = v }
 
+-- the label is value `v` of variable `x`
 unfoldable pub isLabel : ℕ → ℕ → Label → Bool
 isLabel x v a = eqb (a .variable) x && eqb (a .value) v
 

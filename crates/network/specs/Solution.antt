@@ -6,6 +6,7 @@ use Rattle.base.specs.Below.{allBelow, anyBelow}
 use Rattle.base.specs.Choice.{update}
 use Rattle.network.specs.Network.{Network}
 
+-- the choice of value `s x` for each variable `x` is a menu that meets all rules
 pub record Solution (net : Network) (s : ℕ → ℕ) : Type 0 where
   -- each value was loaded
   pub chosen : (x : ℕ) → x < net .variables → s x < net .size x

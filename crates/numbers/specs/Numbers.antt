@@ -11,6 +11,7 @@ use Rattle.plan.specs.declared.Checked as checked
 use Rattle.plan.specs.declared.Checked.{Checked}
 use Rattle.plan.specs.declared.Decline.{Decline}
 
+-- a number for each status
 abbrev pub statusNumber : Status → ℕ
 statusNumber Open = 0
 statusNumber Closed = 1

@@ -1,6 +1,6 @@
 -- The rows of values that the constraints of a chain permit, and the row that they leave together.
 use Prim.Native.Nat.{ℕ, suc, _+_, _-_, _*_, _/_, _%_, _^_, _<_, _≤_}
-use mathlib.Core.Bool.{Bool, true, false, _&&_, _||_}
+use mathlib.Core.Bool.{Bool, true, false, _&&_, _||_, and-comm, or-comm}
 use mathlib.Core.List.{List}
 use mathlib.Core.Logic.{⊎-elim}
 use mathlib.Core.Option.{none}
@@ -12,7 +12,7 @@ use borrow.Author.Tests.{ltb-true, ltb-false, leb-true, le-leb}
 use lib.Bits.{bitAnd, and-le-l}
 use lib.Dec.{leb, ltb, eqb}
 use lib.Pow.{pow-pos}
-use Rattle.base.proofs.Bools.{decided, and-comm, or-comm, bool-ext, and-true}
+use Rattle.base.proofs.Bools.{decided, bool-ext, and-true}
 use Rattle.base.proofs.Choice.{cond-true, cond-false}
 use Rattle.base.proofs.Row.{bit-and, bit-low, bit-high, row-bit, row-doubled, row-ext, row-full, row-low, row-of-bits}
 use Rattle.base.specs.Below.{one}
@@ -27,7 +27,7 @@ use Rattle.index.specs.Index.{over, chainBelow, Placed}
 use Rattle.plan.proofs.Limits.{unrecorded-allows, recorded-judges}
 use Rattle.plan.specs.Decode.{planFault, planOf}
 use Rattle.plan.specs.Network.{unrecorded, withinLimit, spares, accepts, pairAllowed}
-use Rattle.plan.specs.WellFormed.{constraintOf}
+use Rattle.plan.specs.Plan.{constraintOf}
 
 -- ---- a row that is put together from its highest value down
 

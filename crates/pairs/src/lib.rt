@@ -15,7 +15,7 @@ ghost use Rattle.index.specs.Index.{Ready};
 ghost use Rattle.network.specs.Network.{supports};
 ghost use Rattle.plan.specs.Decode.{planOf};
 ghost use Rattle.plan.specs.Network.{withinLimit, shareConstraint, networkOf};
-ghost use Rattle.plan.specs.WellFormed.{sizeOf};
+ghost use Rattle.plan.specs.Plan.{sizeOf};
 
 // One more than what a limit leaves beside figure f, and 0 where f is over it.
 fn room_beside(limit: usize, f: usize) -> usize

@@ -10,11 +10,10 @@ use native.Mathlib.Omega.{arith}
 use lib.ListN.{length, set, getD}
 use lib.Seq.{getD-set-same, getD-set-other}
 use Rattle.base.proofs.Below.{below-cases, first-at, first-more}
-use Rattle.base.proofs.Choice.{between-high}
 use Rattle.base.specs.Below.{firstBelow}
 use Rattle.format.specs.Format.{behind, sectionStart, variableCount, sectionCount, sizeAt}
 use Rattle.plan.proofs.Checks.{each-holds}
-use Rattle.plan.proofs.Head.{variables-range}
+use Rattle.plan.proofs.Head.{head-fits}
 use Rattle.plan.proofs.Sections.{passed-before, start-within}
 use Rattle.plan.specs.Check.{firstFault, variableChecks, sectionChecks, faultAt, sectionFault, verdictOf}
 use Rattle.plan.specs.Decode.{trailingFault, sectionsFault}
@@ -27,13 +26,18 @@ use Rattle.plan.specs.declared.Fault.{Fault}
 use Rattle.plan.specs.declared.Verdict.{Verdict}
 use Rattle.plan.specs.declared.Verdict.the-variants.{Passes, Fails}
 
+-- the section behind section k starts where that one ends
+pub next-start : (b : List ℕ) (k at next : ℕ) → at ≡ sectionStart b k → next ≡ behind b at → next ≡ sectionStart b (k + 1)
+unfolding sectionStart
+next-start b k at next e p = rw add-one (p ∙ ap (behind b) e)
+
 module _ (b starts : List ℕ) (k : ℕ) (known : PassedBefore b starts k) where
   passes : (i : ℕ) → i < k → firstFault (sectionChecks b i) ≡ none
   passes = passed-before b k (known .passed)
 
   few-variables : 0 < k → variableCount b ≤ 32
   unfolding sectionChecks
-  few-variables h = between-high 1 32 (variableCount b) (variables-range b (sectionStart b 0) (passes 0 h))
+  few-variables h = head-fits b (sectionStart b 0) (passes 0 h) .variables-high
 
   few-values : (s : ℕ) → 1 ≤ s → s ≤ variableCount b → s < k → sizeAt b s ≤ 16
   unfolding sectionChecks variableChecks
@@ -56,11 +60,6 @@ module _ (b starts : List ℕ) (k : ℕ) (known : PassedBefore b starts k) where
   -- section k starts within the plan
   pub next-within : 0 < length b → sectionStart b k ≤ length b
   next-within h = start-within b h k passes
-
-  -- the section behind it starts where it ends
-  pub next-start : (at next : ℕ) → at ≡ sectionStart b k → next ≡ behind b at → next ≡ sectionStart b (k + 1)
-  unfolding sectionStart
-  next-start at next e p = rw add-one (p ∙ ap (behind b) e)
 
   -- section k passes too
   pub passed-more : (at : ℕ) → length starts ≡ 33 → at ≡ sectionStart b k → firstFault (sectionChecks b k) ≡ none

@@ -2,7 +2,6 @@
 use Prim.Native.Nat.{ℕ, suc}
 use mathlib.Core.List.{List}
 use mathlib.Core.Path.{_≡_, sym, _∙_, ap}
-use lib.ListN.{length}
 use Rattle.base.proofs.Sums.{sum-ext}
 use Rattle.base.specs.Below.{sumBelow}
 use Rattle.format.specs.Format.{workerCount, variableCount, constraintCount, sizeAt}
@@ -23,16 +22,8 @@ labels-read b =
     ∙ sum-ext (variableCount b) (networkOf (planOf b) .size) (λ x. sizeAt b (suc x)) (size-read b)
 
 -- an accepted plan's figures are p, n, the number of constraints and L
-pub figures : (b : List ℕ) (plan : Plan) → decode b ≡ accepted plan
-    → planCheck b
-    ≡ Accepted
-    (record {
-      workers = plan .workers;
-      variables = length (plan .variables);
-      constraints = length (plan .constraints);
-      labels = labelCount (networkOf plan);
-    })
-unfolding planCheck figuresOf
+pub figures : (b : List ℕ) (plan : Plan) → decode b ≡ accepted plan → planCheck b ≡ Accepted (figuresOf plan)
+unfolding planCheck
 figures b plan e = ap checkedAs e
 
 -- figures that are read part by part

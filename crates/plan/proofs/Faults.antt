@@ -9,7 +9,7 @@ use borrow.Author.Tests.{ltb-true, ltb-false, eqb-true, eqb-false}
 use lib.Dec.{ltb, eqb}
 use lib.ListN.{length}
 use Rattle.base.proofs.Below.{first-below}
-use Rattle.base.proofs.Choice.{none≢some, between-low, between-high}
+use Rattle.base.proofs.Choice.{none≢some, some-same, between-low, between-high}
 use Rattle.base.specs.Below.{firstBelow}
 use Rattle.base.specs.Bytes.{byteAt}
 use Rattle.base.specs.Choice.{between, firstOf}
@@ -57,21 +57,17 @@ ending b =
         sound (eqb-true (byteAt b 0) 1 q) r (ltb-false (planEnd b) (length b) w) refl
 
 -- a plan without fault has version 1, no section with a fault, and nothing behind the last one
-pub sound-plan : (b : List ℕ) → planFault b ≡ none
+sound-plan : (b : List ℕ) {o : Option Decline} → Ending b o → o ≡ none
     → (byteAt b 0 ≡ 1) × (firstBelow (sectionCount b) (sectionFault b) ≡ none) × (length b ≤ planEnd b)
-sound-plan b e = go (ending b)
-  where
-    go : Ending b (planFault b)
-        → (byteAt b 0 ≡ 1) × (firstBelow (sectionCount b) (sectionFault b) ≡ none) × (length b ≤ planEnd b)
-    go (empty p q) = none≢some (sym e ∙ q)
-    go (version p q r) = none≢some (sym e ∙ r)
-    go (section p j q r d s t) = none≢some (sym e ∙ t)
-    go (trailing p q) = none≢some (sym e ∙ q)
-    go (sound p q r s) = (p, q, r)
+sound-plan b (empty p q) e = none≢some (sym e ∙ q)
+sound-plan b (version p q r) e = none≢some (sym e ∙ r)
+sound-plan b (section p j q r d s t) e = none≢some (sym e ∙ t)
+sound-plan b (trailing p q) e = none≢some (sym e ∙ q)
+sound-plan b (sound p q r s) e = (p, q, r)
 
 -- a plan without fault has passed the checks of each of its sections
 pub sound-section : (b : List ℕ) → planFault b ≡ none → (k : ℕ) → k < sectionCount b → firstFault (sectionChecks b k) ≡ none
-sound-section b e = passed-before b (sectionCount b) (sound-plan b e .1)
+sound-section b e = passed-before b (sectionCount b) (sound-plan b (ending b) e .1)
 
 -- a plan without fault ends where its last section ends
 pub sound-end : (b : List ℕ) → planFault b ≡ none → planEnd b ≡ length b
@@ -80,69 +76,56 @@ sound-end b e =
     let last : ℕ = variableCount b + constraintCount b in
     let count : suc last ≡ 1 + variableCount b + constraintCount b = omega arith in
     let within : sectionStart b (suc last) ≤ length b = section-complete b last (sound-section b e last (omega arith)) in
-    omega (arith, ap (sectionStart b) count, sound-plan b e .2)
+    omega (arith, ap (sectionStart b) count, sound-plan b (ending b) e .2)
+
+-- what is decoded as an accepted plan is that plan, without fault
+decoded-plan : (p : Plan) (o : Option Decline) (q : Plan) → decodedAs p o ≡ accepted q → (o ≡ none) × (q ≡ p)
+decoded-plan p none q e = (refl, cc)
+decoded-plan p (some d) q e = let z : _≡_ {A = ℕ} 0 1 = cc in absurd (omega arith)
+
+-- what is decoded as a fault has that fault
+decoded-fault : (p : Plan) (o : Option Decline) (d : Decline) → decodedAs p o ≡ declined d → o ≡ some d
+decoded-fault p none d e = let z : _≡_ {A = ℕ} 0 1 = cc in absurd (omega arith)
+decoded-fault p (some c) d e = let r : c ≡ d = cc in ap {B = Option Decline} some r
 
 -- a plan is accepted where it has no fault, and is then what the bytes hold
 pub decode-plan : (b : List ℕ) (plan : Plan) → decode b ≡ accepted plan → (planFault b ≡ none) × (plan ≡ planOf b)
 unfolding decode
-decode-plan b plan e = go (planFault b) refl
-  where
-    go : (o : Option Decline) → planFault b ≡ o → (planFault b ≡ none) × (plan ≡ planOf b)
-    go none p =
-        let q : accepted (planOf b) ≡ accepted plan = ap (decodedAs (planOf b)) (sym p) ∙ e in
-        (p, cc)
-    go (some d) p =
-        let q : declined d ≡ accepted plan = ap (decodedAs (planOf b)) (sym p) ∙ e in
-        let z : _≡_ {A = ℕ} 0 1 = cc in
-        absurd (omega arith)
+decode-plan b = decoded-plan (planOf b) (planFault b)
 
 -- a plan is declined for its first fault
 pub decode-fault : (b : List ℕ) (d : Decline) → decode b ≡ declined d → planFault b ≡ some d
 unfolding decode
-decode-fault b d e = go (planFault b) refl
-  where
-    go : (o : Option Decline) → planFault b ≡ o → planFault b ≡ some d
-    go none p =
-        let q : accepted (planOf b) ≡ declined d = ap (decodedAs (planOf b)) (sym p) ∙ e in
-        let z : _≡_ {A = ℕ} 0 1 = cc in
-        absurd (omega arith)
-    go (some c) p =
-        let q : declined c ≡ declined d = ap (decodedAs (planOf b)) (sym p) ∙ e in
-        let r : c ≡ d = cc in
-        p ∙ ap {B = Option Decline} some r
+decode-fault b = decoded-fault (planOf b) (planFault b)
+
+module _ (P : Decline → Type 0) (b : List ℕ) (at-none : P (decline Truncated 0)) (at-version : P (decline BadVersion 0))
+    (at-section : 0 < length b → (k : ℕ) → firstBelow k (sectionFault b) ≡ none → (d : Decline) → sectionFault b k ≡ some d → P d)
+    (at-end : planEnd b < length b → P (decline TrailingBytes (planEnd b))) where
+  -- what holds of each fault that a plan can have holds of the one that its check ends with
+  each-fault : {o : Option Decline} → Ending b o → (d : Decline) → o ≡ some d → P d
+  each-fault (empty p q) d e = some-same P (sym q ∙ e) at-none
+  each-fault (version p q r) d e = some-same P (sym r ∙ e) at-version
+  each-fault (section p k q r c s t) d e = some-same P (sym t ∙ e) (at-section p k r c s)
+  each-fault (trailing p q) d e = some-same P (sym q ∙ e) (at-end p)
+  each-fault (sound p q r s) d e = none≢some (sym s ∙ e)
 
 -- a decline's place is in the plan or at its end: a section starts there only where those before it are complete
 pub place-within : (b : List ℕ) (d : Decline) → decode b ≡ declined d → d .place ≤ length b
-place-within b d e = go (ending b)
-  where
-    place-of : (c : Decline) → planFault b ≡ some c → c .place ≡ d .place
-    place-of c p = let q : c ≡ d = cc (decode-fault b d e) in ap (λ (c : Decline). c .place) q
-
-    go : Ending b (planFault b) → d .place ≤ length b
-    go (empty p q) = omega (arith, place-of (decline Truncated 0) q)
-    go (version p q r) = omega (arith, place-of (decline BadVersion 0) r)
-    go (section p k q r c s t) = omega (arith, place-of c t, start-within b p k (passed-before b k r), section-declines b k c s .1)
-    go (trailing p q) = omega (arith, place-of (decline TrailingBytes (planEnd b)) q)
-    go (sound p q r s) = none≢some (sym s ∙ decode-fault b d e)
+place-within b d e =
+    each-fault (λ c. c .place ≤ length b) b (omega arith) (omega arith)
+    (λ p k r c s. omega (arith, start-within b p k (passed-before b k r), section-declines b k c s .1))
+    (λ p. omega arith) (ending b) d (decode-fault b d e)
 
 -- the plan check alone gives the numbers 1 to 8
 pub number-within : (b : List ℕ) (d : Decline) → decode b ≡ declined d
     → (1 ≤ numberOf (d .fault)) × (numberOf (d .fault) ≤ 8)
 unfolding numberOf
-number-within b d e = go (ending b)
-  where
-    number-of : (c : Decline) → planFault b ≡ some c → numberOf (c .fault) ≡ numberOf (d .fault)
-    number-of c p = let q : c ≡ d = cc (decode-fault b d e) in ap (λ (c : Decline). numberOf (c .fault)) q
-
-    go : Ending b (planFault b) → (1 ≤ numberOf (d .fault)) × (numberOf (d .fault) ≤ 8)
-    go (empty p q) = omega (arith, number-of (decline Truncated 0) q)
-    go (version p q r) = omega (arith, number-of (decline BadVersion 0) r)
-    go (section p k q r c s t) =
-        let h : between 1 7 (numberOf (c .fault)) ≡ true = section-number b k (c .fault) (section-declines b k c s .0) in
-        omega
-        (arith, number-of c t, between-low 1 7 (numberOf (c .fault)) h, between-high 1 7 (numberOf (c .fault)) h)
-    go (trailing p q) = omega (arith, number-of (decline TrailingBytes (planEnd b)) q)
-    go (sound p q r s) = none≢some (sym s ∙ decode-fault b d e)
+number-within b d e =
+    each-fault (λ c. (1 ≤ numberOf (c .fault)) × (numberOf (c .fault) ≤ 8)) b (omega arith) (omega arith)
+    (λ p k r c s.
+    let h : between 1 7 (numberOf (c .fault)) ≡ true = section-number b k (c .fault) (section-declines b k c s .0) in
+    omega (arith, between-low 1 7 (numberOf (c .fault)) h, between-high 1 7 (numberOf (c .fault)) h))
+    (λ p. omega arith) (ending b) d (decode-fault b d e)
 
 -- a plan without a fault is accepted
 pub decoded : (b : List ℕ) → planFault b ≡ none → decode b ≡ accepted (planOf b)

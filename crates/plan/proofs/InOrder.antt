@@ -9,11 +9,13 @@ use Rattle.base.proofs.Bools.{and-left, and-right}
 use Rattle.format.specs.Format.{firstAt, secondAt, variableCount}
 use Rattle.plan.specs.Check.{variablesInOrder}
 
+-- the numbers of the variables in the constraint's section at `at`, as `ConstraintFits` has them
 pub record InOrder (b : List ℕ) (at : ℕ) : Type 0 where
-  pub first : 1 ≤ firstAt b at
-  pub less : firstAt b at < secondAt b at
-  pub second : secondAt b at ≤ variableCount b
+  pub first-low : 1 ≤ firstAt b at
+  pub in-order : firstAt b at < secondAt b at
+  pub second-high : secondAt b at ≤ variableCount b
 
+-- they are so where the check holds
 pub ordered : (b : List ℕ) (at : ℕ) → variablesInOrder b at ≡ true → InOrder b at
 unfolding variablesInOrder
 ordered b at e =
@@ -22,7 +24,7 @@ ordered b at e =
     let second : Bool = leb (secondAt b at) (variableCount b) in
     let both : first && less ≡ true = and-left (first && less) second e in
     record {
-      first = leb-true 1 (firstAt b at) (and-left first less both);
-      less = ltb-true (firstAt b at) (secondAt b at) (and-right first less both);
-      second = leb-true (secondAt b at) (variableCount b) (and-right (first && less) second e);
+      first-low = leb-true 1 (firstAt b at) (and-left first less both);
+      in-order = ltb-true (firstAt b at) (secondAt b at) (and-right first less both);
+      second-high = leb-true (secondAt b at) (variableCount b) (and-right (first && less) second e);
     }

@@ -1,17 +1,17 @@
 -- Which variables the plan's constraints link.
 use Prim.Native.Nat.{ℕ, suc, _<_}
-use mathlib.Core.Bool.{true}
+use mathlib.Core.Bool.{true, or-comm}
 use mathlib.Core.Logic.{_⊎_, inl, inr, ⊎-elim}
 use mathlib.Core.Path.{_≡_}
 use native.Mathlib.Omega.{arith}
 use borrow.Author.Tests.{eqb-true, eq-eqb}
 use lib.Dec.{eqb}
 use lib.ListN.{length}
-use Rattle.base.proofs.Bools.{and-left, and-right, and-intro, or-cases, or-comm}
+use Rattle.base.proofs.Bools.{and-left, and-right, and-intro, or-cases}
 use Rattle.base.proofs.Members.{any-at, any-ext}
 use Rattle.plan.specs.Network.{joins, ties, shareConstraint}
-use Rattle.plan.specs.Plan.{Plan, Constraint}
-use Rattle.plan.specs.WellFormed.{noConstraint, constraintOf, ConstraintFits, WellFormed}
+use Rattle.plan.specs.Plan.{Plan, Constraint, noConstraint, constraintOf}
+use Rattle.plan.specs.WellFormed.{ConstraintFits, WellFormed}
 
 -- a constraint over two variables is over them either way round
 pub ties-turned : (c : Constraint) (x y : ℕ) → ties c x y ≡ ties c y x
@@ -52,7 +52,7 @@ over plan c x y h p = record {
 }
 
 -- two variables are linked only by a constraint over both
-pub linked-by : (plan : Plan) (x y : ℕ) → shareConstraint plan x y ≡ true → (c : ℕ) × (Over plan c x y ⊎ Over plan c y x)
+linked-by : (plan : Plan) (x y : ℕ) → shareConstraint plan x y ≡ true → (c : ℕ) × (Over plan c x y ⊎ Over plan c y x)
 unfolding shareConstraint ties constraintOf
 linked-by plan x y e =
     let r : (c : ℕ) × (c < length (plan .constraints)) × (ties (constraintOf plan c) x y ≡ true) =
@@ -63,7 +63,7 @@ linked-by plan x y e =
     )
 
 -- a constraint's variables are two of a well-formed plan's, the first before the second
-pub over-in-range : (plan : Plan) → WellFormed plan → (c x y : ℕ) → Over plan c x y → (x < y) × (y < length (plan .variables))
+over-in-range : (plan : Plan) → WellFormed plan → (c x y : ℕ) → Over plan c x y → (x < y) × (y < length (plan .variables))
 over-in-range plan fits c x y o =
     let fit : ConstraintFits plan (constraintOf plan c) = fits .each-constraint c (o .listed) in
     omega arith

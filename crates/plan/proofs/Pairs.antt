@@ -8,8 +8,7 @@ use Rattle.base.proofs.Bools.{decided, and-left, and-right, and-intro, or-left,
 use Rattle.base.proofs.Members.{all-at, at-all}
 use Rattle.plan.proofs.Links.{Over, over, of-joins}
 use Rattle.plan.specs.Network.{permits, joins, spares, accepts, pairAllowed}
-use Rattle.plan.specs.Plan.{Plan}
-use Rattle.plan.specs.WellFormed.{noConstraint, constraintOf}
+use Rattle.plan.specs.Plan.{Plan, noConstraint, constraintOf}
 
 -- each constraint over `x` and then `y` permits value `v` of the one with value `w` of the other
 abbrev pub EachPermits : Plan → ℕ → ℕ → ℕ → ℕ → Type 0

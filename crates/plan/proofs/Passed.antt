@@ -5,7 +5,7 @@ use mathlib.Core.Option.{none}
 use mathlib.Core.Path.{_≡_}
 use native.Mathlib.Omega.{arith}
 use borrow.Author.Tests.{le-leb, lt-leb, ne-eqb}
-use Rattle.format.specs.Format.{sectionStart, variableCount, constraintCount}
+use Rattle.format.specs.Format.{sectionStart, constraintStart, variableCount, constraintCount}
 use Rattle.plan.proofs.Faults.{sound-section}
 use Rattle.plan.specs.Check.{firstFault, headChecks, variableChecks, constraintChecks, sectionChecks}
 use Rattle.plan.specs.Decode.{planFault}
@@ -24,8 +24,7 @@ module _ (b : List ℕ) (none-found : planFault b ≡ none) where
       (sound-section b none-found (suc x) (omega arith))
 
   -- each constraint's section has passed its checks
-  pub constraint-passed : (c : ℕ) → c < constraintCount b
-      → firstFault (constraintChecks b (sectionStart b (suc (variableCount b + c)))) ≡ none
+  pub constraint-passed : (c : ℕ) → c < constraintCount b → firstFault (constraintChecks b (constraintStart b c)) ≡ none
   unfolding sectionChecks
   constraint-passed c h =
       rw (ne-eqb (suc (variableCount b + c)) 0 (omega arith), lt-leb (suc (variableCount b + c)) (variableCount b) (omega arith)) at

@@ -3,19 +3,19 @@ use Prim.Native.Nat.{ℕ, zero, suc, _<_, _≤_}
 use mathlib.Core.Bool.{Bool, true, false, cond}
 use mathlib.Core.List.{List}
 use mathlib.Core.Option.{Option, none, some}
-use mathlib.Core.Path.{_≡_, refl, sym, _∙_, ap}
+use mathlib.Core.Path.{_≡_, refl, sym}
 use native.Mathlib.Nat.{le-refl}
 use borrow.Author.Tests.{leb-true}
 use lib.Dec.{leb, eqb}
 use lib.ListN.{length}
 use Rattle.base.proofs.Below.{none-first}
-use Rattle.base.proofs.Choice.{none≢some}
+use Rattle.base.proofs.Choice.{none≢some, some-same}
 use Rattle.base.specs.Below.{firstBelow}
 use Rattle.base.specs.Choice.{allOf, between}
 use Rattle.format.specs.Format.{sectionStart, variableCount}
 use Rattle.plan.proofs.Checks.{each-holds, fault-among}
 use Rattle.plan.specs.Check.{Check, firstFault, complete, headChecks, variableChecks, constraintChecks, sectionChecks, faultAt, sectionFault}
-use Rattle.plan.specs.Fault.{numberOf, decline}
+use Rattle.plan.specs.Fault.{numberOf}
 use Rattle.plan.specs.declared.Decline.{Decline}
 use Rattle.plan.specs.declared.Fault.{Fault}
 
@@ -48,28 +48,27 @@ section-number b k f =
     fault-among (λ g. between 1 7 (numberOf g)) (sectionChecks b k)
     (each-section (λ cs. allOf (λ c. between 1 7 (numberOf (c .fault))) cs ≡ true) b k refl refl refl) f
 
+-- a fault with its place is the fault that was found, at that place
+fault-found : (at : ℕ) (o : Option Fault) (d : Decline) → faultAt at o ≡ some d → (o ≡ some (d .fault)) × (d .place ≡ at)
+fault-found at none d e = none≢some e
+fault-found at (some f) d e =
+    some-same (λ d. (_≡_ {A = Option Fault} (some f) (some (d .fault))) × (d .place ≡ at)) e (refl, refl)
+
+-- where there is none, none was found
+fault-none : (at : ℕ) (o : Option Fault) → faultAt at o ≡ none → o ≡ none
+fault-none at none e = refl
+fault-none at (some f) e = none≢some (sym e)
+
 -- a section's fault is the first of its checks', and stands at the section's start
 pub section-declines : (b : List ℕ) (k : ℕ) (d : Decline) → sectionFault b k ≡ some d
     → (firstFault (sectionChecks b k) ≡ some (d .fault)) × (d .place ≡ sectionStart b k)
 unfolding sectionFault
-section-declines b k d e = go (firstFault (sectionChecks b k)) refl
-  where
-    go : (o : Option Fault) → firstFault (sectionChecks b k) ≡ o
-        → (firstFault (sectionChecks b k) ≡ some (d .fault)) × (d .place ≡ sectionStart b k)
-    go none p = none≢some (ap (faultAt (sectionStart b k)) (sym p) ∙ e)
-    go (some f) p =
-        let q : some (decline f (sectionStart b k)) ≡ some d = ap (faultAt (sectionStart b k)) (sym p) ∙ e in
-        let r : decline f (sectionStart b k) ≡ d = cc in
-        (p ∙ ap (λ (c : Decline). some (c .fault)) r, ap (λ (c : Decline). c .place) (sym r))
+section-declines b k = fault-found (sectionStart b k) (firstFault (sectionChecks b k))
 
 -- a section with no fault passes its checks
-pub section-passes : (b : List ℕ) (k : ℕ) → sectionFault b k ≡ none → firstFault (sectionChecks b k) ≡ none
+section-passes : (b : List ℕ) (k : ℕ) → sectionFault b k ≡ none → firstFault (sectionChecks b k) ≡ none
 unfolding sectionFault
-section-passes b k e = go (firstFault (sectionChecks b k)) refl
-  where
-    go : (o : Option Fault) → firstFault (sectionChecks b k) ≡ o → firstFault (sectionChecks b k) ≡ none
-    go none p = p
-    go (some f) p = none≢some (sym e ∙ ap (faultAt (sectionStart b k)) p)
+section-passes b k = fault-none (sectionStart b k) (firstFault (sectionChecks b k))
 
 -- the sections before the first fault pass their checks
 pub passed-before : (b : List ℕ) (k : ℕ) → firstBelow k (sectionFault b) ≡ none → (i : ℕ) → i < k

@@ -18,8 +18,8 @@ use Rattle.plan.proofs.Parts.{variable-read, size-read, value-read}
 use Rattle.plan.proofs.Passed.{variable-passed}
 use Rattle.plan.specs.Check.{_orElse_, repeatsCode, variableChecks}
 use Rattle.plan.specs.Decode.{planFault, variableAt, planOf}
-use Rattle.plan.specs.Plan.{Value, variableOf, valueOf}
-use Rattle.plan.specs.WellFormed.{sizeOf, VariableFits}
+use Rattle.plan.specs.Plan.{Value, variableOf, valueOf, sizeOf}
+use Rattle.plan.specs.WellFormed.{VariableFits}
 use Rattle.plan.specs.declared.Fault.the-variants.{Truncated}
 
 -- the variable of section x + 1

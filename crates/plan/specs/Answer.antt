@@ -21,6 +21,7 @@ figuresOf plan = record {
   labels = labelCount (networkOf plan);
 }
 
+-- what was decoded, as the plan check's answer: the figures of an accepted plan, or the fault and its place
 abbrev pub checkedAs : Decoded → Checked
 checkedAs (accepted plan) = Accepted (figuresOf plan)
 checkedAs (declined d) = Declined d
@@ -29,6 +30,6 @@ checkedAs (declined d) = Declined d
 unfoldable pub checkOf : List ℕ → Option Decline → Checked
 checkOf b fault = checkedAs (decodedAs (planOf b) fault)
 
--- the plan check: the plan's own fault, or its figures
+-- the plan check alone: "on success returns p, n, the number of rules and L"
 unfoldable pub planCheck : List ℕ → Checked
 planCheck b = checkedAs (decode b)

@@ -17,11 +17,12 @@ use Rattle.plan.specs.declared.Verdict.{Verdict}
 use Rattle.plan.specs.declared.Verdict.the-variants.{Passes, Fails}
 
 -- a test and the fault of a section that fails it
-infix 20 _orElse_
 pub record Check : Type 0 where
   pub holds : Bool
   pub fault : Fault
 
+-- such a check, written by its two parts
+infix 20 _orElse_
 abbrev pub _orElse_ : Bool → Fault → Check
 t orElse f = record { holds = t; fault = f }
 
@@ -91,6 +92,7 @@ sectionChecks b k =
     cond (eqb k 0) (headChecks b (sectionStart b k))
     (cond (leb k (variableCount b)) (variableChecks b (sectionStart b k)) (constraintChecks b (sectionStart b k)))
 
+-- a fault of the section that starts at `at`
 abbrev pub faultAt : ℕ → Option Fault → Option Decline
 faultAt at none = none
 faultAt at (some f) = some (decline f at)
@@ -99,7 +101,7 @@ faultAt at (some f) = some (decline f at)
 unfoldable pub sectionFault : List ℕ → ℕ → Option Decline
 sectionFault b k = faultAt (sectionStart b k) (firstFault (sectionChecks b k))
 
--- the same as the answer of the functions that check a section
+-- what a section's checks find, as the functions that check a section answer it: the fault without its place
 abbrev pub verdictOf : Option Fault → Verdict
 verdictOf none = Passes
 verdictOf (some f) = Fails f

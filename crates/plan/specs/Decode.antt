@@ -1,5 +1,5 @@
 -- From bytes to the plan, or to the fault and its place.
-use Prim.Native.Nat.{ℕ, suc, _+_}
+use Prim.Native.Nat.{ℕ, suc}
 use mathlib.Core.Bool.{cond}
 use mathlib.Core.List.{List}
 use mathlib.Core.Option.{Option, none, some}
@@ -8,10 +8,10 @@ use lib.ListN.{length}
 use Rattle.base.specs.Below.{firstBelow, listBelow}
 use Rattle.base.specs.Bytes.{byteAt}
 use Rattle.base.specs.Choice.{firstOf}
-use Rattle.format.specs.Format.{sectionStart, workerCount, variableCount, constraintCount, sectionCount, ownerAt, valueCountAt, codeAt, figureAt, firstAt, secondAt, kindAt, tableRowAt, limitAt, sizeAt}
+use Rattle.format.specs.Format.{sectionStart, constraintStart, workerCount, variableCount, constraintCount, sectionCount, ownerAt, valueCountAt, codeAt, figureAt, firstAt, secondAt, kindAt, tableRowAt, limitAt, sizeAt}
 use Rattle.plan.specs.Check.{sectionFault}
 use Rattle.plan.specs.Fault.{decline}
-use Rattle.plan.specs.Plan.{Variable, Relation, table, sumLimit, Constraint, Plan}
+use Rattle.plan.specs.Plan.{Value, Variable, Relation, table, sumLimit, Constraint, Plan}
 use Rattle.plan.specs.declared.Decline.{Decline}
 use Rattle.plan.specs.declared.Fault.the-variants.{Truncated, BadVersion, TrailingBytes}
 
@@ -33,17 +33,23 @@ planFault b =
     cond (eqb (length b) 0) (some (decline Truncated 0))
     (cond (eqb (byteAt b 0) 1) (sectionsFault b) (some (decline BadVersion 0)))
 
--- the data of the section at `at`
+-- dish `v` of the slot whose section starts at `at`
+abbrev pub valueAt : List ℕ → ℕ → ℕ → Value
+valueAt b at v = record { code = codeAt b at v; figure = figureAt b at v }
+
+-- the slot whose section starts at `at`
 unfoldable pub variableAt : List ℕ → ℕ → Variable
 variableAt b at = record {
   owner = ownerAt b at;
-  values = listBelow (valueCountAt b at) (λ v. record { code = codeAt b at v; figure = figureAt b at v });
+  values = listBelow (valueCountAt b at) (valueAt b at);
 }
 
+-- what the rule says whose section starts at `at`: kind 0 is a table, kind 1 a sodium rule
 unfoldable pub relationAt : List ℕ → ℕ → Relation
 relationAt b at =
     cond (eqb (kindAt b at) 0) (table (listBelow (sizeAt b (firstAt b at)) (tableRowAt b at))) (sumLimit (limitAt b at))
 
+-- the rule whose section starts at `at`
 unfoldable pub constraintAt : List ℕ → ℕ → Constraint
 constraintAt b at = record { first = firstAt b at; second = secondAt b at; relation = relationAt b at }
 
@@ -52,7 +58,7 @@ unfoldable pub planOf : List ℕ → Plan
 planOf b = record {
   workers = workerCount b;
   variables = listBelow (variableCount b) (λ x. variableAt b (sectionStart b (suc x)));
-  constraints = listBelow (constraintCount b) (λ c. constraintAt b (sectionStart b (suc (variableCount b + c))));
+  constraints = listBelow (constraintCount b) (λ c. constraintAt b (constraintStart b c));
 }
 
 -- an accepted plan, or the fault and its place
@@ -60,9 +66,11 @@ pub data Decoded : Type 0 where
   accepted : Plan → Decoded
   declined : Decline → Decoded
 
+-- a plan with its first fault, if it has one
 abbrev pub decodedAs : Plan → Option Decline → Decoded
 decodedAs plan none = accepted plan
 decodedAs plan (some d) = declined d
 
+-- what the bytes are: an accepted plan where no check fails, else declined for the first fault
 unfoldable pub decode : List ℕ → Decoded
 decode b = decodedAs (planOf b) (planFault b)

@@ -4,6 +4,7 @@ use Rattle.plan.specs.declared.Decline.{Decline}
 use Rattle.plan.specs.declared.Fault.{Fault}
 use Rattle.plan.specs.declared.Fault.the-variants.{Truncated, BadVersion, BadLength, BadCount, BadNumber, RepeatedCode, BadConstraint, TrailingBytes, ShortWork, ShortLists, BadTurnList, BadTurn}
 
+-- the number of each reason
 abbrev pub numberOf : Fault → ℕ
 numberOf Truncated = 1
 numberOf BadVersion = 2

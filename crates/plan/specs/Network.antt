@@ -6,8 +6,7 @@ use lib.ListN.{length, getD}
 use Rattle.base.specs.Choice.{anyOf, allOf}
 use Rattle.base.specs.Row.{bit}
 use Rattle.network.specs.Network.{Network}
-use Rattle.plan.specs.Plan.{Plan, Relation, table, sumLimit, Constraint, valueOf}
-use Rattle.plan.specs.WellFormed.{sizeOf}
+use Rattle.plan.specs.Plan.{Plan, Relation, table, sumLimit, Constraint, valueOf, sizeOf}
 
 -- the sodium figure that means "not recorded"; zero is a recorded figure
 unfoldable pub unrecorded : ℕ → Bool
@@ -46,6 +45,7 @@ pairAllowed plan x v y w = allOf (λ c. accepts plan c x v y w) (plan .constrain
 unfoldable pub shareConstraint : Plan → ℕ → ℕ → Bool
 shareConstraint plan x y = anyOf (λ c. ties c x y) (plan .constraints)
 
+-- the plan's slots as variables, and its pair rules as constraints between them
 unfoldable pub networkOf : Plan → Network
 networkOf plan = record {
   variables = length (plan .variables);

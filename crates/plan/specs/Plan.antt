@@ -1,7 +1,7 @@
 -- A plan as plain data. Slot s of document 01 is variable s - 1; kitchens are workers 1 to p.
 use Prim.Native.Nat.{ℕ}
 use mathlib.Core.List.{List, []}
-use lib.ListN.{getD}
+use lib.ListN.{length, getD}
 
 -- a dish: its code and its sodium figure in mg
 pub record Value : Type 0 where
@@ -25,16 +25,37 @@ pub record Constraint : Type 0 where
   pub second : ℕ
   pub relation : Relation
 
+-- what a plan's bytes hold: kitchens, slots and pair rules
 pub record Plan : Type 0 where
   -- p
   pub workers : ℕ
   pub variables : List Variable
   pub constraints : List Constraint
 
--- the variable at an index; one without values and owner past the end
+-- past the end of the variables: one without owner and values
+abbrev pub noVariable : Variable
+noVariable = record { owner = 0; values = [] }
+
+-- past the end of a variable's values
+abbrev pub noValue : Value
+noValue = record { code = 0; figure = 0 }
+
+-- past the end of the constraints: one over no variables
+abbrev pub noConstraint : Constraint
+noConstraint = record { first = 0; second = 0; relation = sumLimit 0 }
+
+-- the variable at an index
 unfoldable pub variableOf : Plan → ℕ → Variable
-variableOf plan x = getD (plan .variables) x (record { owner = 0; values = [] })
+variableOf plan x = getD (plan .variables) x noVariable
 
 -- the value at an index of a variable's list
 unfoldable pub valueOf : Plan → ℕ → ℕ → Value
-valueOf plan x v = getD (variableOf plan x .values) v (record { code = 0; figure = 0 })
+valueOf plan x v = getD (variableOf plan x .values) v noValue
+
+-- how many values a variable has
+unfoldable pub sizeOf : Plan → ℕ → ℕ
+sizeOf plan x = length (variableOf plan x .values)
+
+-- the constraint at an index
+unfoldable pub constraintOf : Plan → ℕ → Constraint
+constraintOf plan c = getD (plan .constraints) c noConstraint

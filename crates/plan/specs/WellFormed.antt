@@ -3,19 +3,7 @@ use Prim.Native.Nat.{ℕ, suc, _^_, _<_, _≤_}
 use mathlib.Core.List.{List}
 use mathlib.Core.Path.{_≡_}
 use lib.ListN.{length, getD}
-use Rattle.plan.specs.Plan.{Plan, Constraint, table, sumLimit, variableOf, valueOf}
-
--- how many values a variable has
-unfoldable pub sizeOf : Plan → ℕ → ℕ
-sizeOf plan x = length (variableOf plan x .values)
-
--- a constraint over no variables
-abbrev pub noConstraint : Constraint
-noConstraint = record { first = 0; second = 0; relation = sumLimit 0 }
-
--- the constraint at an index; one over no variables past the end
-unfoldable pub constraintOf : Plan → ℕ → Constraint
-constraintOf plan c = getD (plan .constraints) c noConstraint
+use Rattle.plan.specs.Plan.{Plan, Constraint, table, variableOf, valueOf, sizeOf, constraintOf}
 
 -- the variable at an index: its owner is a worker, its values are few and their codes differ
 pub record VariableFits (plan : Plan) (x : ℕ) : Type 0 where
@@ -34,6 +22,7 @@ pub record ConstraintFits (plan : Plan) (c : Constraint) : Type 0 where
   pub rows-fit : (rows : List ℕ) → c .relation ≡ table rows → (y : ℕ) → c .second ≡ suc y
       → (v : ℕ) → v < length rows → getD rows v 0 < 2 ^ sizeOf plan y
 
+-- p, n, the number of rules, and each slot and rule are as document 01 has them
 pub record WellFormed (plan : Plan) : Type 0 where
   pub workers-low : 1 ≤ plan .workers
   pub workers-high : plan .workers ≤ 8

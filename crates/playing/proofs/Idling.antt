@@ -23,7 +23,8 @@ use Rattle.disac4.specs.Turn.{turn, allowed}
 use Rattle.disac4.specs.declared.Tally.{Tally}
 use Rattle.engine.proofs.Advancing.{advanced}
 use Rattle.playing.specs.Known.{Idle, KnownIdle}
-use Rattle.idle.specs.Table.{idleAt, Puts, enables}
+use Rattle.flags.specs.Flags.{actors, actions, cellCount, cellAt}
+use Rattle.idle.specs.Table.{Puts, enables}
 use Rattle.refinement.proofs.IdleKept.{idle-kept}
 use Rattle.refinement.proofs.Start.{fits-regions}
 use Rattle.refinement.proofs.Underway.{under-inv, at-after}
@@ -32,13 +33,13 @@ use Rattle.refinement.specs.Step.{withMem, stepM, afterM}
 use Rattle.refinement.specs.declared.Progress.{Progress}
 
 -- at first nothing is known
-pub nothing-known : (b cells : List ℕ) (t : Tally) (table : List ℕ) → length table ≡ 117
-    → ((k d : ℕ) → k < 9 → d < 13 → idleAt table k d ≡ 0) → KnownIdle b cells t table
+pub nothing-known : (b cells : List ℕ) (t : Tally) (table : List ℕ) → length table ≡ cellCount
+    → ((k d : ℕ) → k < actors → d < actions → cellAt table k d ≡ 0) → KnownIdle b cells t table
 nothing-known b cells t table l z = record { long = l; idle = λ k d h e q. absurd (omega (arith, z k d h e)) }
 
 -- a turn that is known to be idle is played by passing it over
 pub passed-over : (b cells : List ℕ) (g : Progress) (table : List ℕ) → Going b cells g → KnownIdle b cells (g .tally) table
-    → (k d : ℕ) → k < 9 → d < 13 → idleAt table k d ≡ 1 → Plays b (turn k d ∷ []) cells g cells g
+    → (k d : ℕ) → k < actors → d < actions → cellAt table k d ≡ 1 → Plays b (turn k d ∷ []) cells g cells g
 passed-over b cells g table go known k d h e q =
     advanced b cells cells g g k d 0 (go .sound) (idle _ _ (known .idle k d h e q)) (omega arith)
     (adds-none (isSend (turn k d)) (g .sends)) (adds-none (isPoll (turn k d)) (g .polls))

@@ -8,14 +8,14 @@ use Rattle.controller.specs.Controller.{Machine, machine}
 use Rattle.disac4.specs.Outcome.{systemAt}
 use Rattle.disac4.specs.Turn.{turn}
 use Rattle.disac4.specs.declared.Tally.{Tally}
-use Rattle.idle.specs.Table.{idleAt}
+use Rattle.flags.specs.Flags.{actors, actions, cellCount, cellAt}
 use Rattle.refinement.specs.Step.{stepM}
 
 -- the action `d` of actor `k` is idle
 abbrev pub Idle : List ℕ → Machine → ℕ → ℕ → Type 0
 Idle b s k d = stepM (systemAt b) s (turn k d) ≡ none
 
--- the turns that a table notes are idle
+-- the turns whose flags a table has set are idle
 pub record KnownIdle (b cells : List ℕ) (t : Tally) (table : List ℕ) : Type 0 where
-  pub long : length table ≡ 117
-  pub idle : (k d : ℕ) → k < 9 → d < 13 → idleAt table k d ≡ 1 → Idle b (machine cells t) k d
+  pub long : length table ≡ cellCount
+  pub idle : (k d : ℕ) → k < actors → d < actions → cellAt table k d ≡ 1 → Idle b (machine cells t) k d

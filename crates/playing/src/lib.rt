@@ -2,6 +2,8 @@
 use crate::settle::settle;
 use base::byte_at;
 use engine::run;
+use flags::Table;
+use flags::is_set;
 use refinement::Progress;
 ghost use mathlib.Core.Bool.{true};
 ghost use mathlib.Core.List.{[], _∷_};
@@ -20,14 +22,14 @@ fn next_turn(
     cells: &mut [u16],
     g: Progress,
     p: usize,
-    table: &mut [u8; 117],
+    table: &mut Table,
     actor: usize,
     action: usize,
 ) -> Progress
     requires { ⌜ Going (now b) (now cells) g × (p ≡ workerCount (now b)) × (allowed p (turn actor action) ≡ true) × KnownIdle (now b) (now cells) (g .tally) (now table) ⌝ }
     ensures { λ r. ⌜ Plays (now (b .entry)) (turn actor action ∷ []) (now (cells .entry)) g (now (cells .exit)) r × KnownIdle (now (b .entry)) (now (cells .exit)) (r .tally) (now (table .exit)) ⌝ }
 {
-    if idle::known(table, actor, action) {
+    if is_set(table, actor, action) {
         return g;
     }
     let after = run::advance(b, cells, g, p, actor, action);

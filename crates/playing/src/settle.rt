@@ -4,6 +4,7 @@ use disac4::ANSWER_ACTION;
 use disac4::SEND_ACTION;
 use disac4::TREAT_ACTION;
 use disac4::Tally;
+use flags::Table;
 ghost use mathlib.Core.Bool.{true};
 ghost use mathlib.Core.List.{List};
 ghost use mathlib.Core.Option.{none};
@@ -14,6 +15,7 @@ ghost use Rattle.answers.specs.Answers.{answerM};
 ghost use Rattle.cells.specs.Layout.{WORKCELLS};
 ghost use Rattle.cells.specs.Memory.{memOf};
 ghost use Rattle.disac4.specs.System.{System};
+ghost use Rattle.flags.specs.Flags.{cellCount};
 ghost use Rattle.playing.specs.Known.{KnownIdle};
 ghost use Rattle.refinement.specs.Run.{readOn};
 ghost use Rattle.sends.specs.Sends.{sendM};
@@ -70,8 +72,8 @@ fn all_read(cells: &[u16], t: Tally, i: usize, d: usize) -> bool
 }
 
 // Notes which actions of worker k the cells show to be idle, after its action d.
-pub fn settle(cells: &[u16], t: Tally, table: &mut [u8; 117], k: usize, d: usize)
-    requires { ⌜ (WORKCELLS ≤ length (now cells)) × (length (now table) ≡ 117) × (0 < k) × (k ≤ 8) ⌝ }
+pub fn settle(cells: &[u16], t: Tally, table: &mut Table, k: usize, d: usize)
+    requires { ⌜ (WORKCELLS ≤ length (now cells)) × (length (now table) ≡ cellCount) × (0 < k) × (k ≤ 8) ⌝ }
     ensures { λ _. ⌜ ((b : List ℕ) → KnownIdle b (now (cells .entry)) t (now (table .entry)) → KnownIdle b (now (cells .entry)) t (now (table .exit))) ⌝ }
 {
     let i = k - 1;

@@ -1,13 +1,13 @@
 -- Answering keeps the invariant: a worker replies once at each value of its list counter.
 use Prim.Native.Nat.{ℕ, _+_, _-_, _<_, _≤_}
-use mathlib.Core.Bool.{false}
+use mathlib.Core.Bool.{false, and-false}
 use mathlib.Core.Logic.{inl, inr, ⊎-elim}
 use mathlib.Core.Option.{some}
 use mathlib.Core.Path.{_≡_, refl, sym, _∙_, ap}
 use native.Mathlib.Decide.{ℕ-discrete}
 use native.Mathlib.Omega.{arith}
 use borrow.Author.Tests.{lt-leb, ne-eqb}
-use Rattle.base.proofs.Bools.{decided, and-never}
+use Rattle.base.proofs.Bools.{decided}
 use Rattle.base.proofs.Choice.{if-some, some-same}
 use Rattle.base.specs.Below.{one}
 use Rattle.disac4.specs.System.{System}
@@ -34,7 +34,7 @@ module _ (i : ℕ) (m : Mem) where
   -- no other worker's row
   pub other-rows : (k c : ℕ) → (k ≡ i → ⊥) → answeredM i m WORKERS k c ≡ m WORKERS k c
   unfolding answeredM
-  other-rows k c n = simp (ne-eqb k i n, and-never)
+  other-rows k c n = simp (ne-eqb k i n, and-false)
 
   -- no poll is held any more
   pub none-held : answeredM i m WORKERS i HELD ≡ 0

@@ -1,12 +1,12 @@
 -- Reading a poll keeps the invariant: the reader holds it.
 use Prim.Native.Nat.{ℕ, _+_, _<_}
+use mathlib.Core.Bool.{and-false}
 use mathlib.Core.Logic.{inl, inr, ⊎-elim}
 use mathlib.Core.Option.{some}
 use mathlib.Core.Path.{_≡_}
 use native.Mathlib.Omega.{arith}
 use borrow.Author.Tests.{ltb-true, ne-eqb}
 use lib.Dec.{ltb}
-use Rattle.base.proofs.Bools.{and-never}
 use Rattle.base.proofs.Choice.{if-some, some-same}
 use Rattle.disac4.specs.System.{System}
 use Rattle.disac4.specs.declared.Tally.{Tally}
@@ -32,7 +32,7 @@ module _ (i : ℕ) (m : Mem) where
 
   -- no other worker's row changes
   pub other-rows : (k c : ℕ) → (k ≡ i → ⊥) → heldM i m WORKERS k c ≡ m WORKERS k c
-  other-rows k c n = simp (ne-eqb k i n, and-never)
+  other-rows k c n = simp (ne-eqb k i n, and-false)
 
 module _ (sys : System) (m : Mem) (t : Tally) (i : ℕ) (inv : Inv sys (record { mem = m; tally = t })) (h : i < sys .workers)
     (unread : m WORKERS i POLLS < t .timestamp .0) where

@@ -1,12 +1,12 @@
 -- Sending keeps the invariant: the unsent end of the log becomes one more list message.
 use Prim.Native.Nat.{ℕ, _+_, _<_, _≤_}
+use mathlib.Core.Bool.{and-false}
 use mathlib.Core.Logic.{inl, ⊎-elim}
 use mathlib.Core.Option.{some}
 use mathlib.Core.Path.{_≡_, sym, _∙_, ap}
 use native.Mathlib.Omega.{arith}
 use borrow.Author.Tests.{le-leb, ne-eqb}
 use Rattle.base.proofs.Below.{up-to}
-use Rattle.base.proofs.Bools.{and-never}
 use Rattle.base.proofs.Choice.{everywhere, if-some, some-same}
 use Rattle.base.proofs.Sums.{sum-ext}
 use Rattle.base.specs.Below.{sumBelow, one}
@@ -28,7 +28,7 @@ module _ (i : ℕ) (m : Mem) where
   -- no other worker's row
   pub other-rows : (k c : ℕ) → (k ≡ i → ⊥) → sentM i m WORKERS k c ≡ m WORKERS k c
   unfolding sentM
-  other-rows k c n = simp (ne-eqb k i n, and-never)
+  other-rows k c n = simp (ne-eqb k i n, and-false)
 
   -- no bound but the next
   pub old-bound : (k n : ℕ) → (k ≡ i → n ≡ m WORKERS i SENDS + 1 → ⊥) → sentM i m BOUNDS k n ≡ m BOUNDS k n

@@ -1,6 +1,6 @@
 -- Treating in memory is treating: the state that the memory stands for afterwards is the one of document 01.
 use Prim.Native.Nat.{ℕ, suc, _+_, _-_, _<_, _≤_}
-use mathlib.Core.Bool.{Bool, true, false, cond, _&&_, not}
+use mathlib.Core.Bool.{Bool, true, false, cond, _&&_, not, and-false}
 use mathlib.Core.List.{List, [], _∷_, _++_}
 use mathlib.Core.Option.{some, Option·map}
 use mathlib.Core.Path.{_≡_, refl, sym, _∙_, ap, subst}
@@ -8,7 +8,7 @@ use native.Mathlib.Decide.{ℕ-discrete}
 use native.Mathlib.Omega.{arith}
 use lib.Dec.{eqb}
 use lib.ListN.{length}
-use Rattle.base.proofs.Bools.{clash, refuted, and-left, and-right, and-false-left, and-true, and-never}
+use Rattle.base.proofs.Bools.{clash, refuted, and-left, and-right, and-false-left, and-true}
 use Rattle.base.proofs.Choice.{cond-false}
 use Rattle.base.specs.Choice.{update}
 use Rattle.disac4.proofs.DomainSize.{treat-size}
@@ -136,7 +136,7 @@ module _ (sys : System) (small : Small sys) (s : Machine) (inv : Inv sys s) (i :
   domain-after x v = go (loaded (sys .net) x v) refl
     where
       kept : (b : Bool) (d : ℕ) → eqb (cond b 0 d) LISTED ≡ eqb d LISTED && not b
-      kept true d = sym (and-never (eqb d LISTED))
+      kept true d = sym (and-false (eqb d LISTED))
       kept false d = sym (and-true (eqb d LISTED) refl)
 
       go : (b : Bool) → loaded (sys .net) x v ≡ b

@@ -32,7 +32,7 @@ use Rattle.plan.proofs.Parts.{variables-read}
 use Rattle.plan.specs.Decode.{planOf}
 use Rattle.format.specs.Format.{variableCount}
 use Rattle.plan.specs.Network.{networkOf}
-use Rattle.plan.specs.WellFormed.{sizeOf}
+use Rattle.plan.specs.Plan.{sizeOf}
 
 -- a value is in its variable's domain
 abbrev pub isListed : Mem → ℕ → ℕ → Bool

@@ -22,7 +22,7 @@ ghost use Rattle.refinement.specs.Run.{reportM};
 ghost use Rattle.cells.specs.View.{LISTED, view};
 ghost use Rattle.plan.specs.Decode.{planOf};
 ghost use Rattle.format.specs.Format.{variableCount};
-ghost use Rattle.plan.specs.WellFormed.{sizeOf};
+ghost use Rattle.plan.specs.Plan.{sizeOf};
 
 // The row of the values in a variable's domain.
 fn domain_row(b: &[u8], cells: &[u16], x: usize) -> usize

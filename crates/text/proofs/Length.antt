@@ -1,13 +1,12 @@
 -- How long the printed text is: a buffer of 4,096 bytes takes the whole text of an accepted plan.
-use Prim.Native.Nat.{ℕ, zero, suc, _+_, _*_, _^_, _<_, _≤_}
+use Prim.Native.Nat.{ℕ, suc, _+_, _*_, _^_, _<_, _≤_}
 use mathlib.Core.Bool.{Bool, true, false, cond}
 use mathlib.Core.List.{List, []}
 use mathlib.Core.Option.{none}
 use mathlib.Core.Path.{_≡_, ap}
-use native.Mathlib.Nat.{le-step, le-refl, suc-mul}
 use native.Mathlib.Omega.{arith}
 use lib.ListN.{length, getD, length-append}
-use Rattle.base.specs.Below.{gatherBelow}
+use Rattle.base.proofs.Below.{gather-length}
 use Rattle.base.specs.Bytes.{byteAt, wordAt}
 use Rattle.base.specs.Row.{bit}
 use Rattle.plan.proofs.FaultNumbers.{number-range}
@@ -17,8 +16,8 @@ use Rattle.plan.proofs.WellFormed.{read-well-formed}
 use Rattle.plan.specs.Decode.{planFault, planOf, accepted, decode}
 use Rattle.plan.specs.Fault.{numberOf}
 use Rattle.format.specs.Format.{sectionStart}
-use Rattle.plan.specs.Plan.{Plan, Value, variableOf, valueOf}
-use Rattle.plan.specs.WellFormed.{sizeOf, WellFormed}
+use Rattle.plan.specs.Plan.{Plan, Value, variableOf, valueOf, sizeOf}
+use Rattle.plan.specs.WellFormed.{WellFormed}
 use Rattle.plan.specs.declared.Decline.{Decline}
 use Rattle.disac4.proofs.FiguresFit.{FiguresFit, figures-fit}
 use Rattle.disac4.specs.Outcome.{systemAt}
@@ -32,17 +31,6 @@ use Rattle.buffer.proofs.Decimal.{decimal-length}
 use Rattle.buffer.specs.Decimal.{spaced}
 use Rattle.domains.specs.Lines.{listedCodes, domainLine, variableLine, variableLines}
 use Rattle.text.specs.Printed.{statusWord, declinedWord, reportLine, declineLine, printed}
-
-gather-length : (n c : ℕ) (f : ℕ → List ℕ) → ((i : ℕ) → i < n → length (f i) ≤ c) → length (gatherBelow n f) ≤ n * c
-gather-length zero c f h = omega (arith)
-gather-length (suc n) c f h =
-    omega (
-      arith,
-      suc-mul n c,
-      length-append (gatherBelow n f) (f n),
-      gather-length n c f (λ i k. h i (le-step k)),
-      h n (le-refl (suc n)),
-    )
 
 -- a space and at most k + 1 digits
 spaced-length : (k n : ℕ) → n < 10 ^ suc k → length (spaced n) ≤ suc (suc k)
@@ -60,7 +48,7 @@ status-length Closed = omega arith
 status-length Bare = omega arith
 
 -- a report whose numbers fit 64 bits
-pub record Report64 (r : Report) : Type 0 where
+record Report64 (r : Report) : Type 0 where
   pub changes : r .changes < 2 ^ 64
   pub sends : r .sends < 2 ^ 64
   pub polls : r .polls < 2 ^ 64
@@ -140,7 +128,7 @@ module _ (b lists : List ℕ) where
               (fits .each-variable x h .few-values) (code-small x h)),
         )
 
-    pub report-short : (r : Report) → Report64 r → length (printed (Reported r) b lists) ≤ 4096
+    report-short : (r : Report) → Report64 r → length (printed (Reported r) b lists) ≤ 4096
     unfolding printed
     report-short r h = simp length-append (omega (arith, report-length r h, lines-length))
 

@@ -19,7 +19,7 @@ use Rattle.plan.proofs.Pairs.{allowed-symmetric}
 use Rattle.plan.specs.Decode.{planOf}
 use Rattle.format.specs.Format.{variableCount}
 use Rattle.plan.specs.Network.{pairAllowed, shareConstraint, networkOf}
-use Rattle.plan.specs.WellFormed.{sizeOf}
+use Rattle.plan.specs.Plan.{sizeOf}
 use Rattle.index.proofs.Labels.{own-linked}
 use Rattle.index.proofs.Permitted.{supports-allowed}
 use Rattle.index.proofs.Own.{next-none, next-here, next-past, next-above}

@@ -10,21 +10,22 @@ use lib.Seq.{getD-set-same, getD-set-other}
 use Rattle.base.proofs.Below.{up-to}
 use Rattle.base.specs.Below.{one}
 use Rattle.disac4.specs.Turn.{turn, allowed}
+use Rattle.flags.specs.Flags.{actions, cellCount}
 use Rattle.turns.specs.Judged.{Judges}
 
 -- what a cell is to hold
 abbrev pub cellOf : ℕ → ℕ → ℕ
-cellOf p i = one (allowed p (turn (i / 13) (i % 13)))
+cellOf p i = one (allowed p (turn (i / actions) (i % actions)))
 
 -- the first `n` cells are filled
 pub record Judging (p n : ℕ) (table : List ℕ) : Type 0 where
-  pub long : length table ≡ 117
+  pub long : length table ≡ cellCount
   pub done : (i : ℕ) → i < n → getD table i 0 ≡ cellOf p i
 
-pub judging-none : (p : ℕ) (table : List ℕ) → length table ≡ 117 → Judging p 0 table
+pub judging-none : (p : ℕ) (table : List ℕ) → length table ≡ cellCount → Judging p 0 table
 judging-none p table l = record { long = l; done = λ i h. absurd (omega arith) }
 
-pub judging-more : (p n : ℕ) (table : List ℕ) (v : ℕ) → n < 117 → Judging p n table → v ≡ cellOf p n → Judging p (n + 1) (set table n v)
+pub judging-more : (p n : ℕ) (table : List ℕ) (v : ℕ) → n < cellCount → Judging p n table → v ≡ cellOf p n → Judging p (n + 1) (set table n v)
 judging-more p n table v h j e = record {
   long = length-set table n v ∙ j .long;
   done =
@@ -33,11 +34,11 @@ judging-more p n table v h j e = record {
 }
 
 -- all are
-pub judging-all : (p n : ℕ) (table : List ℕ) → 117 ≤ n → Judging p n table → Judges p table
+pub judging-all : (p n : ℕ) (table : List ℕ) → cellCount ≤ n → Judging p n table → Judges p table
 judging-all p n table h j = record {
   long = j .long;
   each = λ k d a b.
-      j .done (k * 13 + d) (omega arith)
+      j .done (k * actions + d) (omega arith)
       ∙ ap₂ (λ (x y : ℕ). one (allowed p (turn x y))) (omega arith) (omega arith);
 }
 

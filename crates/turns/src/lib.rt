@@ -7,6 +7,11 @@ use disac4::LIST_CELLS;
 use disac4::POLL_ACTION;
 use disac4::TREAT_ACTION;
 use disac4::WORK_CELLS;
+use flags::ACTIONS;
+use flags::ACTORS;
+use flags::CELLS;
+use flags::Table;
+use flags::is_set;
 use plan::Fault;
 use plan::Verdict;
 ghost use mathlib.Core.Path.{_≡_};
@@ -68,26 +73,26 @@ pub fn allowed(p: usize, actor: usize, action: usize) -> bool
 }
 
 // For each actor and action, whether p workers allow it.
-fn judge_all(p: usize) -> [u8; 117]
+fn judge_all(p: usize) -> Table
     ensures { λ r. ⌜ Judges p r ⌝ }
 {
-    let mut table = [0; 117];
+    let mut table = [0; CELLS];
     let mut i = 0;
-    while i < 117 {
-        table[i] = one_if(allowed(p, i / 13, i % 13));
+    while i < CELLS {
+        table[i] = one_if(allowed(p, i / ACTIONS, i % ACTIONS));
         i += 1;
     }
     table
 }
 
 // The same as `allowed`, looked up: a long list has each turn many times.
-fn judged(table: &[u8; 117], p: usize, actor: usize, action: usize) -> bool
+fn judged(table: &Table, p: usize, actor: usize, action: usize) -> bool
     requires { ⌜ Judges p (now table) ⌝ }
     ensures { λ r. ⌜ r ≡ allowedOf p (turn actor action) ⌝ }
 {
-    if actor < 9 {
-        if action < 13 {
-            return table[actor * 13 + action] == 1;
+    if actor < ACTORS {
+        if action < ACTIONS {
+            return is_set(table, actor, action);
         }
     }
     allowed(p, actor, action)

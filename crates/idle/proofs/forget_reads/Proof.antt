@@ -7,16 +7,17 @@ use native.Mathlib.Numerals.{add-one}
 use native.Mathlib.Omega.{arith}
 use lib.Dec.{eqb}
 use Rattle.base.specs.Below.{anyBelow}
+use Rattle.flags.specs.Flags.{actors}
 use Rattle.idle.proofs.Tables.{puts-both, puts-as, all-reads}
 use Rattle.idle.proofs.forget_reads.Statement.{statement}
 use Rattle.idle.proofs.forget_reads.Tie as tie
 use Rattle.idle.specs.Table.{Puts}
 
 abbrev Inv-loop : tie.InvT-loop
-Inv-loop table₀ k j₀ table j = (j ≤ 9) × Puts 0 (λ i a. anyBelow j (λ n. eqb i n && eqb a k)) table₀ table
+Inv-loop table₀ k j₀ table j = (j ≤ actors) × Puts 0 (λ i a. anyBelow j (λ n. eqb i n && eqb a k)) table₀ table
 
 abbrev μ-loop : tie.MeasureT-loop
-μ-loop table₀ k j₀ table j = 9 - j
+μ-loop table₀ k j₀ table j = actors - j
 
 loop-holds : tie.Need-loop-holds Inv-loop μ-loop
 loop-holds c = (omega arith, record { long = c .pre .0; each = λ j a h e. refl })
@@ -38,7 +39,7 @@ returns : tie.Need-returns Inv-loop μ-loop
 returns c =
     let l = c .before in
     let k = l .before .args .k in
-    let e : l .loop .j ≡ 9 = omega (arith, l .loop .inv .0) in
+    let e : l .loop .j ≡ actors = omega (arith, l .loop .inv .0) in
     puts-as (λ i a h m. ap (λ (j : ℕ). anyBelow j (λ n. eqb i n && eqb a k)) e ∙ all-reads k i a h) (l .loop .inv .1)
 
 pub forget-reads-spec : {M : Type 1} → statement M

@@ -8,13 +8,13 @@ use Rattle.index.proofs.ConstraintChains.{link-keeps}
 use Rattle.index.proofs.Places.{few-sections, located-done}
 use Rattle.indexing.proofs.index_chains.Statement.{statement}
 use Rattle.indexing.proofs.index_chains.Tie as tie
-use Rattle.index.specs.Index.{Located, constraintStart, linkM, chainM, chainsM}
+use Rattle.index.specs.Index.{Located, linkM, chainM, chainsM}
 use Rattle.cells.proofs.Done.{Done, done-none, done-more, done-all}
 use Rattle.cells.specs.Layout.{PLACES}
 use Rattle.cells.specs.Memory.{memOf}
 use Rattle.plan.proofs.Constraints.{in-order}
 use Rattle.plan.proofs.InOrder.{InOrder}
-use Rattle.format.specs.Format.{sectionStart, variableCount, constraintCount, firstAt, secondAt}
+use Rattle.format.specs.Format.{sectionStart, constraintStart, variableCount, constraintCount, firstAt, secondAt}
 
 abbrev Inv-loop : tie.InvT-loop
 Inv-loop b cells₀ variables count c₀ cells c =

@@ -26,7 +26,7 @@ use Rattle.index.specs.Allowed.{permitsFrom}
 use Rattle.index.specs.Index.{over, chainBelow, Placed}
 use Rattle.plan.specs.Decode.{planOf}
 use Rattle.plan.specs.Network.{pairAllowed}
-use Rattle.plan.specs.WellFormed.{sizeOf}
+use Rattle.plan.specs.Plan.{sizeOf}
 
 abbrev Inv-loop : tie.InvT-loop
 Inv-loop b cells x v y variables here there values row₀ next₀ row next = Left b x v y values row next

@@ -9,6 +9,7 @@ use denote.Ref.{now}
 use Rattle.disac4.proofs.Allowed.{allowed-bounds}
 use Rattle.disac4.specs.Turn.{turn}
 use Rattle.engine.proofs.Advancing.{playable}
+use Rattle.flags.specs.Flags.{actors, actions}
 use Rattle.playing.proofs.Idling.{passed-over, noted, idle-again, known-still, forgotten}
 use Rattle.playing.specs.Known.{KnownIdle}
 use Rattle.playing.proofs.next_turn.Statement.{statement}
@@ -23,15 +24,15 @@ abbrev played : tie.After-struct-known2 → tie.After-advance
 played c = c .before .before .before .before
 
 -- the turn has a cell in the table
-inside : (s : tie.Start) → (s .args .actor < 9) × (s .args .action < 13)
+inside : (s : tie.Start) → (s .args .actor < actors) × (s .args .action < actions)
 inside s =
     let few : s .args .p ≤ 8 =
     omega (arith, s .pre .1, playable (now (s .args .b)) (now (s .args .cells)) (s .args .g) (s .pre .0) .workers) in
     let h = allowed-bounds (s .args .p) (turn (s .args .actor) (s .args .action)) few (s .pre .2) in
     (omega (arith, h .0), h .1)
 
-known-requires : tie.Need-known-requires
-known-requires c κs =
+is-set-requires : tie.Need-is-set-requires
+is-set-requires c κs =
     let s = c .before .before .before in (s .pre .3 .long, inside s .0, inside s .1)
 
 returns : tie.Need-returns
@@ -40,7 +41,7 @@ returns c =
     let s = k .before .before .before .before in
     let a = s .args in (
       passed-over (now (a .b)) (now (a .cells)) (a .g) (now (a .table)) (s .pre .0) (s .pre .3) (a .actor) (a .action)
-          (inside s .0) (inside s .1) (eqb-true _ 1 (sym (k .known .ensures) ∙ c .if1 .taken)),
+          (inside s .0) (inside s .1) (eqb-true _ 1 (sym (k .is-set .ensures) ∙ c .if1 .taken)),
       s .pre .3,
     )
 
@@ -107,7 +108,7 @@ pub next-turn-spec : {M : Type 1} → statement M
 next-turn-spec =
     tie.close
     (tie.spec
-    known-requires
+    is-set-requires
     returns
     advance-requires
     note-requires

@@ -3,15 +3,16 @@ use Prim.Native.Nat.{_-_, _≤_}
 use mathlib.Core.Path.{refl, _∙_, ap}
 use native.Mathlib.Omega.{arith}
 use Rattle.base.specs.Below.{one}
+use Rattle.flags.specs.Flags.{cellCount}
 use Rattle.turns.proofs.Judging.{Judging, judging-none, judging-more, judging-all}
 use Rattle.turns.proofs.judge_all.Statement.{statement}
 use Rattle.turns.proofs.judge_all.Tie as tie
 
 abbrev Inv-loop : tie.InvT-loop
-Inv-loop p table₀ i₀ table i = (i ≤ 117) × Judging p i table
+Inv-loop p table₀ i₀ table i = (i ≤ cellCount) × Judging p i table
 
 abbrev μ-loop : tie.MeasureT-loop
-μ-loop p table₀ i₀ table i = 117 - i
+μ-loop p table₀ i₀ table i = cellCount - i
 
 loop-holds : tie.Need-loop-holds Inv-loop μ-loop
 loop-holds c = (omega arith, judging-none (c .args .p) _ refl)

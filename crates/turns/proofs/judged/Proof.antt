@@ -1,23 +1,19 @@
 -- `turns::judged` looks an allowed turn up. Assumes nothing.
 use borrow.Author.Needs.{needs}
+use mathlib.Core.Path.{_∙_}
 use Rattle.turns.proofs.Judging.{one-tells}
 use Rattle.turns.proofs.judged.Statement.{statement}
 use Rattle.turns.proofs.judged.Tie as tie
 
-mul-result : tie.Need-mul-result
-mul-result c = search needs
-
-add-result : tie.Need-add-result
-add-result c = search needs
-
-element-copy-out-result : tie.Need-element-copy-out-result
-element-copy-out-result c = search needs
+is-set-requires : tie.Need-is-set-requires
+is-set-requires c κs = search needs
 
 returns : tie.Need-returns
 returns c =
     let t = c .before in
     let s = t .before .before in
-    one-tells _ _ (s .pre .each (s .args .actor) (s .args .action) (t .before .if1 .taken) (t .if2 .taken))
+    c .is-set .ensures
+    ∙ one-tells _ _ (s .pre .each (s .args .actor) (s .args .action) (t .before .if1 .taken) (t .if2 .taken))
 
 allowed-requires : tie.Need-allowed-requires
 allowed-requires c κs = search needs
@@ -27,5 +23,4 @@ returns-2 c = search needs
 
 pub judged-spec : {M : Type 1} → statement M
 judged-spec =
-    tie.close
-    (tie.spec mul-result add-result element-copy-out-result returns allowed-requires returns-2)
+    tie.close (tie.spec is-set-requires returns allowed-requires returns-2)

@@ -80,7 +80,7 @@ loop-again c =
     let passes = verdict-passes (firstFault (sectionChecks b (l .loop .k))) (e .before .before .check-section .result) (e .before .before .check-section .ensures)
     (e .enum-told .given .1) in
     let more = passed-more b (l .loop .starts) (l .loop .k) (l .loop .inv .0) (l .loop .at) (l .loop .inv .1) (l .loop .inv .2) passes in
-    let next = next-start b (l .loop .starts) (l .loop .k) (l .loop .inv .0) (l .loop .at) (c .behind .result) (l .loop .inv .2) (c .behind .ensures) in (
+    let next = next-start b (l .loop .k) (l .loop .at) (c .behind .result) (l .loop .inv .2) (c .behind .ensures) in (
       rw (c .before .keep-start .ensures) more,
       rw (c .before .keep-start .ensures, length-set) (l .loop .inv .1),
       next,

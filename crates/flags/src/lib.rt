@@ -1,0 +1,24 @@
+// A table with a flag for each turn: a cell for each actor and action, with 1 or 0.
+ghost use mathlib.Core.Path.{_≡_};
+ghost use Prim.Native.Nat.{_<_};
+ghost use lib.Dec.{eqb};
+ghost use lib.ListN.{length};
+ghost use Rattle.flags.specs.Flags.{actors, actions, cellCount, cellAt};
+
+// The controller and at most eight workers.
+pub const ACTORS: usize = 9;
+// The actions have the numbers 0 to 12.
+pub const ACTIONS: usize = 13;
+// How many cells a table has.
+pub const CELLS: usize = ACTORS * ACTIONS;
+
+// The cells, actor after actor.
+pub type Table = [u8; CELLS];
+
+// Whether the flag of actor k's action d is set.
+pub fn is_set(table: &Table, k: usize, d: usize) -> bool
+    requires { ⌜ (length (now table) ≡ cellCount) × (k < actors) × (d < actions) ⌝ }
+    ensures { λ r. ⌜ r ≡ eqb (cellAt (now (table .entry)) k d) 1 ⌝ }
+{
+    table[k * ACTIONS + d] == 1
+}

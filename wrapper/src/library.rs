@@ -1,0 +1,30 @@
+//! The C interface of the library: one declaration for this package and for the tests.
+
+/// What a plan check writes.
+pub type CheckOut = [usize; 5];
+/// What a run writes.
+pub type RunOut = [usize; 6];
+
+extern "C" {
+    pub fn tinshrew_check_plan(plan: *const u8, plan_len: usize, out: *mut CheckOut);
+    pub fn tinshrew_run_turns(
+        plan: *const u8,
+        plan_len: usize,
+        turns: *const u8,
+        turns_len: usize,
+        work: *mut u16,
+        work_len: usize,
+        lists: *mut u16,
+        lists_len: usize,
+        out: *mut RunOut,
+    );
+    pub fn tinshrew_run_round(
+        plan: *const u8,
+        plan_len: usize,
+        work: *mut u16,
+        work_len: usize,
+        lists: *mut u16,
+        lists_len: usize,
+        out: *mut RunOut,
+    );
+}
