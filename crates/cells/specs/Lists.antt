@@ -38,6 +38,6 @@ deleteM i x v m =
 abbrev pub copyLabelM : ℕ → ℕ → ℕ → ℕ → Mem → Mem
 copyLabelM j i from k m = pushM WORK TAIL i (m LOG j (from + k)) m
 
--- so do the first `n`
+-- the first `n` labels behind `from` in row `j`'s log join the end of row `i`'s work list
 unfoldable pub copyM : ℕ → ℕ → ℕ → ℕ → Mem → Mem
 copyM j i from n = loop n (copyLabelM j i from)

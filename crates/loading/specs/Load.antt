@@ -29,7 +29,7 @@ listLabelM sys x v supported m =
 abbrev pub listValueM : System → ℕ → ℕ → ℕ → Mem → Mem
 listValueM sys x row v = listLabelM sys x v (bit row v)
 
--- all values of `x`
+-- all values of `x`, of which the row holds those that are supported
 unfoldable pub listValuesM : System → ℕ → ℕ → Mem → Mem
 listValuesM sys x row = loop (sys .net .size x) (listValueM sys x row)
 

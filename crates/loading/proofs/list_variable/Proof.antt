@@ -1,8 +1,8 @@
 -- `loading::list_variable` lists a variable's values by its counters. Assumes nothing.
+use Prim.Native.Nat.{ℕ}
 use borrow.Author.Needs.{needs}
 use denote.Ref.{now}
 use mathlib.Core.Path.{_∙_, ap}
-use Prim.Native.Nat.{ℕ}
 use Rattle.disac4.specs.System.{systemOf}
 use Rattle.cells.specs.Memory.{memOf}
 use Rattle.plan.specs.Decode.{planOf}
