@@ -19,7 +19,7 @@ pub struct Decline {
 
 /// What a plan holds.
 #[derive(Clone, Copy, Debug, PartialEq, Eq)]
-pub struct Figures {
+pub struct Counts {
     /// Kitchens, 1 to 8.
     pub workers: usize,
     /// Slots, 1 to 32.
@@ -56,13 +56,13 @@ pub struct Report {
 }
 
 /// Checks a plan.
-pub fn check_plan(plan: &[u8]) -> Result<Figures, Decline> {
+pub fn check_plan(plan: &[u8]) -> Result<Counts, Decline> {
     let mut out = library::CheckOut::default();
     // SAFETY: the slice is valid for its length and never null, and `out` is a local of the size that is written.
     unsafe { library::tinshrew_check_plan(plan.as_ptr(), plan.len(), &mut out) };
     let [number, workers, variables, constraints, labels] = out;
     accepted(number, workers)?;
-    Ok(Figures { workers, variables, constraints, labels })
+    Ok(Counts { workers, variables, constraints, labels })
 }
 
 /// Plays the turns of a list on a plan, two bytes each: the actor and the action. On success `lists` has a cell for

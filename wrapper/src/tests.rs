@@ -52,8 +52,8 @@ impl Buffers {
 
 #[test]
 fn p_is_accepted() {
-    let figures = Figures { workers: 2, variables: 3, constraints: 2, labels: 6 };
-    assert_eq!(check_plan(&hex(P)), Ok(figures));
+    let counts = Counts { workers: 2, variables: 3, constraints: 2, labels: 6 };
+    assert_eq!(check_plan(&hex(P)), Ok(counts));
 }
 
 #[test]

@@ -5,12 +5,12 @@ use mathlib.Core.Option.{Option, none, some}
 use mathlib.Core.Path.{_≡_, refl, ap}
 use native.Mathlib.Omega.{arith}
 use Rattle.format.specs.Format.{workerCount}
-use Rattle.plan.specs.Answer.{figuresOf, checkOf, planCheck}
+use Rattle.plan.specs.Answer.{countsOf, checkOf, planCheck}
 use Rattle.plan.specs.Decode.{planFault, planOf, decode}
 use Rattle.plan.specs.declared.Checked.{Checked}
 use Rattle.plan.specs.declared.Checked.the-variants.{Accepted, Declined}
 use Rattle.plan.specs.declared.Decline.{Decline}
-use Rattle.plan.specs.declared.Figures.{Figures}
+use Rattle.plan.specs.declared.Counts.{Counts}
 
 module _ (b : List ℕ) where
   -- the plan check finds the plan's own fault
@@ -19,20 +19,20 @@ module _ (b : List ℕ) where
   plan-check = refl
 
   -- a plan is accepted where there is no fault
-  pub no-fault : (o : Option Decline) (f : Figures) → Accepted f ≡ checkOf b o → o ≡ none
+  pub no-fault : (o : Option Decline) (f : Counts) → Accepted f ≡ checkOf b o → o ≡ none
   unfolding checkOf
   no-fault none f e = refl
   no-fault (some d) f e = let z : _≡_ {A = ℕ} 0 1 = cc in absurd (omega arith)
 
-  -- and the figures are its own
-  pub its-figures : (o : Option Decline) (f : Figures) → Accepted f ≡ checkOf b o → f ≡ figuresOf (planOf b)
+  -- and the counts are its own
+  pub its-counts : (o : Option Decline) (f : Counts) → Accepted f ≡ checkOf b o → f ≡ countsOf (planOf b)
   unfolding checkOf
-  its-figures none f e = cc
-  its-figures (some d) f e = let z : _≡_ {A = ℕ} 0 1 = cc in absurd (omega arith)
+  its-counts none f e = cc
+  its-counts (some d) f e = let z : _≡_ {A = ℕ} 0 1 = cc in absurd (omega arith)
 
-  pub its-workers : (o : Option Decline) (f : Figures) → Accepted f ≡ checkOf b o → f .workers ≡ workerCount b
-  unfolding figuresOf planOf
-  its-workers o f e = ap (λ (f : Figures). f .workers) (its-figures o f e)
+  pub its-workers : (o : Option Decline) (f : Counts) → Accepted f ≡ checkOf b o → f .workers ≡ workerCount b
+  unfolding countsOf planOf
+  its-workers o f e = ap (λ (f : Counts). f .workers) (its-counts o f e)
 
   -- what is declined is the fault
   pub its-fault : (o : Option Decline) (d : Decline) → Declined d ≡ checkOf b o → o ≡ some d
@@ -41,7 +41,7 @@ module _ (b : List ℕ) where
   its-fault (some c) d e = let same : c ≡ d = cc in ap {B = Option Decline} some same
 
   -- back: the answer to no fault
-  pub answer-accepted : (o : Option Decline) (f : Figures) → f ≡ figuresOf (planOf b) → o ≡ none → Accepted f ≡ checkOf b o
+  pub answer-accepted : (o : Option Decline) (f : Counts) → f ≡ countsOf (planOf b) → o ≡ none → Accepted f ≡ checkOf b o
   unfolding checkOf
   answer-accepted o f is e = rw (e, is)
 

@@ -10,7 +10,7 @@ ghost use Rattle.base.specs.Choice.{firstOf};
 ghost use Rattle.disac4.specs.Outcome.{Gives, bufferFault, inputFault, turnRun, roundRun};
 ghost use Rattle.plan.specs.Answer.{checkOf};
 
-// The tests of a run in their order: 9, 10, 11, the plan's own, 12. Gives the first fault, or the plan's figures.
+// The tests of a run in their order: 9, 10, 11, the plan's own, 12. Gives the first fault, or the plan's counts.
 fn check_run(plan: &[u8], turns: &[u8], work: &[u16], lists: &[u16]) -> Checked
     ensures { λ r. ⌜ r ≡ checkOf (now (plan .entry)) (firstOf (bufferFault (now (work .entry)) (now (lists .entry))) (inputFault (now (plan .entry)) (now (turns .entry)))) ⌝ }
 {

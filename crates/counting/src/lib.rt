@@ -11,7 +11,7 @@ ghost use mathlib.Core.Path.{_≡_};
 ghost use Prim.Native.Nat.{ℕ, _+_, _^_, _<_};
 ghost use lib.ListN.{length, getD};
 ghost use Rattle.base.specs.Row.{bit};
-ghost use Rattle.disac4.specs.System.{systemOf};
+ghost use Rattle.disac4.specs.System.{systemAt};
 ghost use Rattle.plan.specs.Decode.{planOf};
 ghost use Rattle.plan.specs.Network.{shareConstraint, networkOf};
 ghost use Rattle.plan.specs.Plan.{sizeOf};
@@ -60,7 +60,7 @@ fn support_rows(b: &[u8], cells: &[u16], x: usize, y: usize, others: &mut [u16; 
 // The counters of the values of x against y, whose rows are given. Every count is made by the function that calls itself.
 fn put_counts(b: &[u8], cells: &mut [u16], x: usize, y: usize, rows: &[u16; 16])
     requires { ⌜ Ready (now b) (now cells) × (shareConstraint (planOf (now b)) x y ≡ true) × Rows (supportRow (networkOf (planOf (now b))) x y) (sizeOf (planOf (now b)) x) (now rows) ⌝ }
-    ensures { λ _. ⌜ memOf (now (cells .exit)) ≡ countPairM (systemOf (planOf (now (b .entry)))) x y (memOf (now (cells .entry))) ⌝ }
+    ensures { λ _. ⌜ memOf (now (cells .exit)) ≡ countPairM (systemAt (now (b .entry))) x y (memOf (now (cells .entry))) ⌝ }
 {
     let n = parts::size(b, cells, x);
     let at = parts::counter_row(cells, x, y);
@@ -74,7 +74,7 @@ fn put_counts(b: &[u8], cells: &mut [u16], x: usize, y: usize, rows: &[u16; 16])
 // The counters of x and y against each other, if the two share a constraint.
 fn count_both(b: &[u8], cells: &mut [u16], x: usize, y: usize)
     requires { ⌜ Ready (now b) (now cells) × (x < variableCount (now b)) × (y < variableCount (now b)) ⌝ }
-    ensures { λ _. ⌜ memOf (now (cells .exit)) ≡ countBothM (systemOf (planOf (now (b .entry)))) x y (memOf (now (cells .entry))) ⌝ }
+    ensures { λ _. ⌜ memOf (now (cells .exit)) ≡ countBothM (systemAt (now (b .entry))) x y (memOf (now (cells .entry))) ⌝ }
 {
     if parts::linked(cells, x, y) {
         let mut others = no_rows();
@@ -87,7 +87,7 @@ fn count_both(b: &[u8], cells: &mut [u16], x: usize, y: usize)
 // The counters of x and each variable before it, from the rows of that one: a table has those as they are.
 fn count_variable(b: &[u8], cells: &mut [u16], x: usize)
     requires { ⌜ Ready (now b) (now cells) × (x < variableCount (now b)) ⌝ }
-    ensures { λ _. ⌜ memOf (now (cells .exit)) ≡ countVariableM (systemOf (planOf (now (b .entry)))) x (memOf (now (cells .entry))) ⌝ }
+    ensures { λ _. ⌜ memOf (now (cells .exit)) ≡ countVariableM (systemAt (now (b .entry))) x (memOf (now (cells .entry))) ⌝ }
 {
     let mut y = 0;
     while y < x {
@@ -99,7 +99,7 @@ fn count_variable(b: &[u8], cells: &mut [u16], x: usize)
 // The counters of each two variables.
 pub fn count_supports(b: &[u8], cells: &mut [u16])
     requires { ⌜ Ready (now b) (now cells) ⌝ }
-    ensures { λ _. ⌜ memOf (now (cells .exit)) ≡ countSupportsM (systemOf (planOf (now (b .entry)))) (memOf (now (cells .entry))) ⌝ }
+    ensures { λ _. ⌜ memOf (now (cells .exit)) ≡ countSupportsM (systemAt (now (b .entry))) (memOf (now (cells .entry))) ⌝ }
 {
     let n = read::variable_count(b);
     let mut x = 0;

@@ -9,13 +9,13 @@ use lib.Dec.{leb, eqb}
 use Rattle.base.proofs.Bools.{decided, clash, and-left, and-right, and-intro, or-cases, or-left, or-right, not-of}
 use Rattle.base.proofs.Choice.{cond-true, cond-false, between-low, between-high}
 use Rattle.base.specs.Choice.{between}
-use Rattle.disac4.specs.Turn.{Turn, turn, treatNumber, sendNumber, answerNumber, pollNumber, workerMay, controllerMay, allowed}
+use Rattle.disac4.specs.Turn.{Turn, turn, treatAction, sendAction, answerAction, pollAction, workerMay, controllerMay, allowed}
 
 -- ---- taken apart
 
 -- a worker reads from another actor, or treats, sends or answers
 pub worker-cases : (p k d : ℕ) → workerMay p k d ≡ true
-    → ((d ≤ p) × (d ≡ k → ⊥)) ⊎ (between treatNumber answerNumber d ≡ true)
+    → ((d ≤ p) × (d ≡ k → ⊥)) ⊎ (between treatAction answerAction d ≡ true)
 unfolding workerMay
 worker-cases p k d ok =
     ⊎-elim
@@ -24,33 +24,33 @@ worker-cases p k d ok =
       leb-true d p (and-left (leb d p) (not (eqb d k)) e),
       eqb-false d k (not-true (eqb d k) (and-right (leb d p) (not (eqb d k)) e)),
     ))
-    inr (or-cases (leb d p && not (eqb d k)) (between treatNumber answerNumber d) ok)
+    inr (or-cases (leb d p && not (eqb d k)) (between treatAction answerAction d) ok)
 
 -- so it reads from another actor where it does none of the three
-pub reads-other : (p k d : ℕ) → workerMay p k d ≡ true → eqb d treatNumber ≡ false → eqb d sendNumber ≡ false
-    → eqb d answerNumber ≡ false → (d ≤ p) × (d ≡ k → ⊥)
+pub reads-other : (p k d : ℕ) → workerMay p k d ≡ true → eqb d treatAction ≡ false → eqb d sendAction ≡ false
+    → eqb d answerAction ≡ false → (d ≤ p) × (d ≡ k → ⊥)
 reads-other p k d ok n₁ n₂ n₃ =
     ⊎-elim (λ a. a)
     (λ b.
     absurd
     (omega (
       arith,
-      between-low treatNumber answerNumber d b,
-      between-high treatNumber answerNumber d b,
-      eqb-false d treatNumber n₁,
-      eqb-false d sendNumber n₂,
-      eqb-false d answerNumber n₃,
+      between-low treatAction answerAction d b,
+      between-high treatAction answerAction d b,
+      eqb-false d treatAction n₁,
+      eqb-false d sendAction n₂,
+      eqb-false d answerAction n₃,
     )))
     (worker-cases p k d ok)
 
 -- the controller reads from a worker, or polls
-pub controller-cases : (p d : ℕ) → controllerMay p d ≡ true → ((0 < d) × (d ≤ p)) ⊎ (eqb d pollNumber ≡ true)
+pub controller-cases : (p d : ℕ) → controllerMay p d ≡ true → ((0 < d) × (d ≤ p)) ⊎ (eqb d pollAction ≡ true)
 unfolding controllerMay
 controller-cases p d ok =
-    ⊎-elim (λ b. inl (between-low 1 p d b, between-high 1 p d b)) inr (or-cases (between 1 p d) (eqb d pollNumber) ok)
+    ⊎-elim (λ b. inl (between-low 1 p d b, between-high 1 p d b)) inr (or-cases (between 1 p d) (eqb d pollAction) ok)
 
 -- so it reads from a worker where it does not poll
-pub reads-worker : (p d : ℕ) → controllerMay p d ≡ true → eqb d pollNumber ≡ false → (0 < d) × (d ≤ p)
+pub reads-worker : (p d : ℕ) → controllerMay p d ≡ true → eqb d pollAction ≡ false → (0 < d) × (d ≤ p)
 reads-worker p d ok n = ⊎-elim (λ a. a) (λ e. clash e n) (controller-cases p d ok)
 
 module _ (p : ℕ) (t : Turn) (ok : allowed p t ≡ true) where
@@ -71,7 +71,7 @@ module _ (p : ℕ) (t : Turn) (ok : allowed p t ≡ true) where
 -- an action of a worker is below 12
 pub worker-bound : (p k d : ℕ) → p ≤ 8 → workerMay p k d ≡ true → d < 12
 worker-bound p k d few ok =
-    ⊎-elim (λ r. omega (arith, r .0)) (λ b. omega (arith, between-high treatNumber answerNumber d b)) (worker-cases p k d ok)
+    ⊎-elim (λ r. omega (arith, r .0)) (λ b. omega (arith, between-high treatAction answerAction d b)) (worker-cases p k d ok)
 
 -- and of any actor below 13
 pub allowed-bounds : (p : ℕ) (t : Turn) → p ≤ 8 → allowed p t ≡ true → (t .actor < suc p) × (t .action < 13)
@@ -80,7 +80,7 @@ allowed-bounds p t few ok = ⊎-elim controller worker (decided (eqb (t .actor) 
     controller : eqb (t .actor) 0 ≡ true → (t .actor < suc p) × (t .action < 13)
     controller e = (
       omega (arith, eqb-true (t .actor) 0 e),
-      ⊎-elim (λ r. omega (arith, r)) (λ q. omega (arith, eqb-true (t .action) pollNumber q))
+      ⊎-elim (λ r. omega (arith, r)) (λ q. omega (arith, eqb-true (t .action) pollAction q))
           (controller-cases p (t .action) (controller-does p t ok e)),
     )
 
@@ -102,7 +102,7 @@ unfolding workerMay
 may-read p k j h b a n = worker-allowed p k j h b (or-left _ (and-intro (le-leb j p a) (not-of (ne-eqb j k n))))
 
 -- and treat, send and answer
-pub may-work : (p k d : ℕ) → 0 < k → k ≤ p → between treatNumber answerNumber d ≡ true → allowed p (turn k d) ≡ true
+pub may-work : (p k d : ℕ) → 0 < k → k ≤ p → between treatAction answerAction d ≡ true → allowed p (turn k d) ≡ true
 unfolding workerMay
 may-work p k d h b e = worker-allowed p k d h b (or-right (leb d p && not (eqb d k)) e)
 
@@ -112,6 +112,6 @@ unfolding allowed controllerMay
 may-hear p k h b = or-left _ (and-intro (le-leb 1 k h) (le-leb k p b))
 
 -- and poll
-pub may-poll : (p : ℕ) → allowed p (turn 0 pollNumber) ≡ true
+pub may-poll : (p : ℕ) → allowed p (turn 0 pollAction) ≡ true
 unfolding allowed controllerMay
-may-poll p = or-right (between 1 p pollNumber) refl
+may-poll p = or-right (between 1 p pollAction) refl

@@ -10,7 +10,7 @@ use Rattle.base.proofs.Weight.{weigh, weigh-append}
 use Rattle.base.specs.Below.{one}
 use Rattle.base.specs.Choice.{update₂}
 use Rattle.disac4.proofs.Channels.{Channels, broadcast-to, broadcast-self, broadcast-each}
-use Rattle.disac4.proofs.Figures.{timestamp-of-run}
+use Rattle.disac4.proofs.RunNumbers.{timestamp-of-run}
 use Rattle.disac4.proofs.Moves.{Moves, treats, sends, reads, takes-poll, ignores, answers, asks, tallies, marks, drops, discards, kept}
 use Rattle.disac4.proofs.Typed.{Typed, typed-move, typed-load, not-controller}
 use Rattle.disac4.specs.Action.{broadcast, nextPoll, afterTreat, afterSend, afterList, afterPoll, afterDrop, afterAnswer, afterAsk, afterCount, afterMark}

@@ -21,7 +21,7 @@ use Rattle.disac4.specs.Fold.{isSome}
 use Rattle.disac4.specs.State.{State, Message}
 use Rattle.disac4.specs.declared.Poll.{Poll}
 use Rattle.disac4.specs.System.{System}
-use Rattle.disac4.specs.Turn.{Turn, treatNumber, sendNumber, answerNumber, pollNumber, allowed, workerStep, controllerStep, step}
+use Rattle.disac4.specs.Turn.{Turn, treatAction, sendAction, answerAction, pollAction, allowed, workerStep, controllerStep, step}
 
 -- what an actor keeps for itself: its work list, its labels to send, the poll that it holds, its count of lists
 abbrev pub ownOf : State → ℕ → List Label × List Label × Option Poll × ℕ
@@ -33,18 +33,18 @@ ownOf st k = (st .workList k, st .toSend k, st .held k, st .listCounter k)
 -- or polls, those from `k`; and the controller, if `k` is a worker
 pub record Leaves (k d : ℕ) (st s : State) : Type 0 where
   pub own : (i : ℕ) → (i ≡ k → ⊥) → ownOf s i ≡ ownOf st i
-  pub channel : (j i : ℕ) → (treatNumber < d → j ≡ k → ⊥) → (j ≡ d → i ≡ k → ⊥) → s .channel j i ≡ st .channel j i
+  pub channel : (j i : ℕ) → (treatAction < d → j ≡ k → ⊥) → (j ≡ d → i ≡ k → ⊥) → s .channel j i ≡ st .channel j i
   pub controller : 0 < k → s .controller ≡ st .controller
 
 module _ (sys : System) (st : State) where
   -- part by part
   leaves : {k d : ℕ} {s : State} → ((i : ℕ) → (i ≡ k → ⊥) → ownOf s i ≡ ownOf st i)
-      → ((j i : ℕ) → (treatNumber < d → j ≡ k → ⊥) → (j ≡ d → i ≡ k → ⊥) → s .channel j i ≡ st .channel j i)
+      → ((j i : ℕ) → (treatAction < d → j ≡ k → ⊥) → (j ≡ d → i ≡ k → ⊥) → s .channel j i ≡ st .channel j i)
       → (0 < k → s .controller ≡ st .controller) → Leaves k d st s
   leaves own box same = record { own = own; channel = box; controller = same }
 
   -- a read changes no other channel
-  read-channel : (d k : ℕ) (rest : List Message) (j i : ℕ) → (treatNumber < d → j ≡ k → ⊥) → (j ≡ d → i ≡ k → ⊥)
+  read-channel : (d k : ℕ) (rest : List Message) (j i : ℕ) → (treatAction < d → j ≡ k → ⊥) → (j ≡ d → i ≡ k → ⊥)
       → update₂ (st .channel) d k rest j i ≡ st .channel j i
   read-channel d k rest j i f =
       update₂-each (λ j i l. (j ≡ d → i ≡ k → ⊥) → l ≡ st .channel j i) (st .channel) d k rest
@@ -89,43 +89,43 @@ module _ (sys : System) (st s : State) where
       ∙ some-refused (ready k q st) _ (ap isSome i))
 
   -- a worker's turn: one that is no read where the worker keeps what it had, a read where its channel is as it was
-  worker-still : (k d : ℕ) → (treatNumber ≤ d → ownOf s k ≡ ownOf st k) → s .channel d k ≡ st .channel d k
+  worker-still : (k d : ℕ) → (treatAction ≤ d → ownOf s k ≡ ownOf st k) → s .channel d k ≡ st .channel d k
       → workerStep sys k d st ≡ none → workerStep sys k d s ≡ none
   unfolding workerStep treat send answer readWorker
   worker-still k d own box =
-      still-cond (eqb d treatNumber)
+      still-cond (eqb d treatAction)
       (λ p i.
-      rw (ap (λ o. o .0) (own (omega (arith, eqb-true d treatNumber p)))
+      rw (ap (λ o. o .0) (own (omega (arith, eqb-true d treatAction p)))
       ∙ none-taken (treatFrom sys k st) (λ a l. refl) (st .workList k) (ap isSome i)))
       (λ p.
-      still-cond (eqb d sendNumber)
+      still-cond (eqb d sendAction)
       (λ q i.
       cond-true none _
-      (ap (λ o. isEmpty (o .1)) (own (omega (arith, eqb-true d sendNumber q)))
+      (ap (λ o. isEmpty (o .1)) (own (omega (arith, eqb-true d sendAction q)))
       ∙ none-chosen (isEmpty (st .toSend k)) _ (ap isSome i)))
       (λ q.
-      still-cond (eqb d answerNumber)
+      still-cond (eqb d answerAction)
       (λ r i.
-      let e = own (omega (arith, eqb-true d answerNumber r)) in rw (ap (λ o. o .2) e) (answer-still k e (st .held k) i))
+      let e = own (omega (arith, eqb-true d answerAction r)) in rw (ap (λ o. o .2) e) (answer-still k e (st .held k) i))
       (λ r i. rw (box, none-taken (readFrom d k st) (read-takes d k st) (st .channel d k) (ap isSome i)))))
 
   -- a turn of the controller: a poll where the controller is as it was, a read where its channel is
-  controller-still : (d : ℕ) → (treatNumber ≤ d → s .controller ≡ st .controller) → s .channel d 0 ≡ st .channel d 0
+  controller-still : (d : ℕ) → (treatAction ≤ d → s .controller ≡ st .controller) → s .channel d 0 ≡ st .channel d 0
       → controllerStep sys d st ≡ none → controllerStep sys d s ≡ none
   unfolding controllerStep ask readController
   controller-still d same box =
-      still-cond (eqb d pollNumber)
+      still-cond (eqb d pollAction)
       (λ p i.
       cond-true none _
-      (ap (λ c. c .pollOpen) (same (omega (arith, eqb-true d pollNumber p)))
+      (ap (λ c. c .pollOpen) (same (omega (arith, eqb-true d pollAction p)))
       ∙ none-chosen (st .controller .pollOpen) _ (ap isSome i)))
       (λ p i. rw (box, none-taken (controllerFrom sys d st) (hear-takes sys d st) (st .channel d 0) (ap isSome i)))
 
 -- after a turn `t` an idle turn `u` is idle still, unless both are of one actor and `u` is the same action or no read, or `t`
 -- sent a message and `u` reads from that actor
 pub idle-still : (sys : System) → sys .workers ≤ 8 → (st : State) (t u : Turn) (s : State)
-    → (u .actor ≡ t .actor → (u .action ≡ t .action → ⊥) × (u .action < treatNumber))
-    → (treatNumber < t .action → u .action ≡ t .actor → ⊥) → step sys st t ≡ some s → step sys st u ≡ none → step sys s u ≡ none
+    → (u .actor ≡ t .actor → (u .action ≡ t .action → ⊥) × (u .action < treatAction))
+    → (treatAction < t .action → u .action ≡ t .actor → ⊥) → step sys st t ≡ some s → step sys st u ≡ none → step sys s u ≡ none
 unfolding step
 idle-still sys few st t u s same sent e i =
     let (running, ok, by) = moves sys st few t s e in
@@ -142,5 +142,5 @@ idle-still sys few st t u s same sent e i =
     (sym (cond-false none _ (or-false running (or-false-right (s .controller .closed) _ b))) ∙ i))
     (decided (s .controller .closed || not (allowed (sys .workers) u)))
   where
-    other : treatNumber ≤ u .action → u .actor ≡ t .actor → ⊥
+    other : treatAction ≤ u .action → u .actor ≡ t .actor → ⊥
     other h f = omega (arith, same f .1)

@@ -13,8 +13,8 @@ pub mod Demands
 pub mod DomainSize
 pub mod Empty
 pub mod Expected
-pub mod Figures
-pub mod FiguresFit
+pub mod RunNumbers
+pub mod RunFits
 pub mod Final
 pub mod Flow
 pub mod Fold

@@ -18,7 +18,7 @@ use Rattle.disac4.specs.Event.{Event, sent, taken, treated, eventsAt, ev
 use Rattle.disac4.specs.Fold.{isSome}
 use Rattle.disac4.specs.State.{State, Message, list, poll, reply}
 use Rattle.disac4.specs.System.{System, Worker}
-use Rattle.disac4.specs.Turn.{Turn, turn, treatNumber, sendNumber, answerNumber, pollNumber, workerMay, controllerMay, allowed, workerStep, controllerStep, step, after, play, changes}
+use Rattle.disac4.specs.Turn.{Turn, turn, treatAction, sendAction, answerAction, pollAction, workerMay, controllerMay, allowed, workerStep, controllerStep, step, after, play, changes}
 use Rattle.disac4.specs.declared.Poll.{Poll}
 use Rattle.disac4.specs.declared.Timestamp.{Timestamp}
 
@@ -48,13 +48,13 @@ pub data Moves (sys : System) (st : State) : State → List Event → Type 0 whe
 
 -- the turn that makes the move
 abbrev pub turnOf : {sys : System} {st s : State} {es : List Event} → Moves sys st s es → Turn
-turnOf (treats k a rest w e) = turn k treatNumber
-turnOf (sends k w e) = turn k sendNumber
+turnOf (treats k a rest w e) = turn k treatAction
+turnOf (sends k w e) = turn k sendAction
 turnOf (reads j k labels rest w h n e) = turn k j
 turnOf (takes-poll j k q rest w h n e) = turn k j
 turnOf (ignores j k i rest w h n e) = turn k j
-turnOf (answers k q w e r) = turn k answerNumber
-turnOf (asks e) = turn 0 pollNumber
+turnOf (answers k q w e r) = turn k answerAction
+turnOf (asks e) = turn 0 pollAction
 turnOf (tallies k labels rest w e) = turn 0 k
 turnOf (marks k n rest w e c) = turn 0 k
 turnOf (drops k n rest w e c) = turn 0 k
@@ -72,11 +72,11 @@ module _ (sys : System) (st : State) where
   reached {t} {es = es} = some-same (By t es)
 
   treat-moves : (k : ℕ) → Worker sys k → (l : List Label) → st .workList k ≡ l → (s : State)
-      → treatFrom sys k st l ≡ some s → By (turn k treatNumber) (treatEvent k l) s
+      → treatFrom sys k st l ≡ some s → By (turn k treatAction) (treatEvent k l) s
   treat-moves k w [] p s e = none≢some e
   treat-moves k w (a ∷ rest) p s e = reached e (treats k a rest w p, refl)
 
-  send-moves : (k : ℕ) → Worker sys k → (s : State) → send sys k st ≡ some s → By (turn k sendNumber) (sent k (st .toSend k) ∷ []) s
+  send-moves : (k : ℕ) → Worker sys k → (s : State) → send sys k st ≡ some s → By (turn k sendAction) (sent k (st .toSend k) ∷ []) s
   unfolding send
   send-moves k w s e = let c = unless-some (isEmpty (st .toSend k)) e in reached (c .1) (sends k w (c .0), refl)
 
@@ -88,11 +88,11 @@ module _ (sys : System) (st : State) where
   read-moves j k w h n (reply i ∷ rest) p s e = reached e (ignores j k i rest w h n p, refl)
 
   answer-moves : (k : ℕ) → Worker sys k → (o : Option Poll) → st .held k ≡ o → (s : State)
-      → answerTo k st o ≡ some s → By (turn k answerNumber) [] s
+      → answerTo k st o ≡ some s → By (turn k answerAction) [] s
   answer-moves k w none p s e = none≢some e
   answer-moves k w (some q) p s e = let c = if-some (ready k q st) e in reached (c .1) (answers k q w p (c .0), refl)
 
-  ask-moves : (s : State) → ask sys st ≡ some s → By (turn 0 pollNumber) [] s
+  ask-moves : (s : State) → ask sys st ≡ some s → By (turn 0 pollAction) [] s
   unfolding ask
   ask-moves s e = let c = unless-some (st .controller .pollOpen) e in reached (c .1) (asks (c .0), refl)
 
@@ -112,14 +112,14 @@ module _ (sys : System) (st : State) where
 
   abbrev workerEvents : ℕ → ℕ → List Event
   workerEvents k d =
-      cond (eqb d sendNumber) (sent k (st .toSend k) ∷ [])
-      (cond (eqb d treatNumber) (treatEvent k (st .workList k))
+      cond (eqb d sendAction) (sent k (st .toSend k) ∷ [])
+      (cond (eqb d treatAction) (treatEvent k (st .workList k))
       (cond (leb d (sys .workers)) (readEvent k d (st .channel d k)) []))
 
   module _ (few : sys .workers ≤ 8) where
     -- a worker that does none of the three other actions reads
-    other-moves : (k d : ℕ) → Worker sys k → workerMay (sys .workers) k d ≡ true → eqb d treatNumber ≡ false
-        → eqb d sendNumber ≡ false → eqb d answerNumber ≡ false → (s : State) → readWorker d k st ≡ some s
+    other-moves : (k d : ℕ) → Worker sys k → workerMay (sys .workers) k d ≡ true → eqb d treatAction ≡ false
+        → eqb d sendAction ≡ false → eqb d answerAction ≡ false → (s : State) → readWorker d k st ≡ some s
         → By (turn k d) (workerEvents k d) s
     unfolding readWorker
     other-moves k d w ok p q r s e =
@@ -131,14 +131,14 @@ module _ (sys : System) (st : State) where
         → workerStep sys k d st ≡ some s → By (turn k d) (workerEvents k d) s
     unfolding workerStep treat answer
     worker-moves k d w ok s e =
-        by-test (eqb d treatNumber) e
-        (λ p f. rw (eqb-true d treatNumber p) (treat-moves k w (st .workList k) refl s f))
+        by-test (eqb d treatAction) e
+        (λ p f. rw (eqb-true d treatAction p) (treat-moves k w (st .workList k) refl s f))
         (λ p e₁.
-        by-test (eqb d sendNumber) e₁ (λ q f. rw (eqb-true d sendNumber q) (send-moves k w s f))
+        by-test (eqb d sendAction) e₁ (λ q f. rw (eqb-true d sendAction q) (send-moves k w s f))
         (λ q e₂.
-        by-test (eqb d answerNumber) e₂
+        by-test (eqb d answerAction) e₂
         (λ r f.
-        rw (eqb-true d answerNumber r, lt-leb answerNumber (sys .workers) (omega arith))
+        rw (eqb-true d answerAction r, lt-leb answerAction (sys .workers) (omega arith))
         (answer-moves k w (st .held k) refl s f))
         (λ r f. other-moves k d w ok p q r s f)))
 
@@ -147,8 +147,8 @@ module _ (sys : System) (st : State) where
         → controllerStep sys d st ≡ some s → By (turn 0 d) (cond (leb d (sys .workers)) (readEvent 0 d (st .channel d 0)) []) s
     unfolding controllerStep readController
     controller-moves d ok s e =
-        by-test (eqb d pollNumber) e
-        (λ p f. rw (eqb-true d pollNumber p, lt-leb pollNumber (sys .workers) (omega arith)) (ask-moves s f))
+        by-test (eqb d pollAction) e
+        (λ p f. rw (eqb-true d pollAction p, lt-leb pollAction (sys .workers) (omega arith)) (ask-moves s f))
         (λ p f.
         let from = reads-worker (sys .workers) d ok p in
         rw (le-leb d (sys .workers) (from .1))

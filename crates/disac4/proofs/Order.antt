@@ -18,8 +18,9 @@ use Rattle.plan.specs.Fault.{decline}
 use Rattle.format.specs.Format.{workerCount}
 use Rattle.plan.specs.declared.Decline.{Decline}
 use Rattle.plan.specs.declared.Fault.the-variants.{ShortWork, ShortLists, BadTurnList, BadTurn}
-use Rattle.disac4.specs.Outcome.{bufferChecks, bufferFault, inputFault, systemAt, runOf, roundRun, workNeed, listNeed, LongEnough}
+use Rattle.disac4.specs.Outcome.{bufferChecks, bufferFault, inputFault, runOf, roundRun, workNeed, listNeed, LongEnough}
 use Rattle.disac4.specs.Round.{roundRunTurns}
+use Rattle.disac4.specs.System.{systemAt}
 use Rattle.disac4.specs.Turn.{allowed, turnAt, turnListFits, turnFault, faultOf}
 
 -- 9 comes first, whatever else is wrong

@@ -15,10 +15,10 @@ use Rattle.plan.specs.declared.Decline.{Decline}
 use Rattle.plan.proofs.WellFormed.{read-well-formed}
 use Rattle.plan.specs.Decode.{planFault}
 use Rattle.plan.specs.Network.{networkOf}
-use Rattle.disac4.specs.Outcome.{Gives, overwrite, refused, played, outcomeBy, runOf, bufferFault, systemAt, workNeed, listNeed, LongEnough, Written}
+use Rattle.disac4.specs.Outcome.{Gives, overwrite, refused, played, outcomeBy, runOf, bufferFault, workNeed, listNeed, LongEnough, Written}
 use Rattle.disac4.specs.Report.{listCells, final, reportOf}
 use Rattle.disac4.specs.State.{State}
-use Rattle.disac4.specs.System.{System, systemOf}
+use Rattle.disac4.specs.System.{System, systemOf, systemAt}
 use Rattle.disac4.specs.Turn.{Turn}
 use Rattle.disac4.specs.declared.Answer.{Answer}
 use Rattle.disac4.specs.declared.Answer.the-variants.{Reported, Declined}
@@ -54,7 +54,7 @@ list-cell-each sys st = length-list-below (sys .net .variables) _
 
 -- an accepted plan has at most 32
 few-cells : (b : List ℕ) → planFault b ≡ none → (st : State) → length (listCells (systemAt b) st) ≤ listNeed
-unfolding systemAt systemOf networkOf listNeed
+unfolding systemOf networkOf listNeed
 few-cells b sound st = omega (arith, list-cell-each (systemAt b) st, read-well-formed b sound .variables-high)
 
 -- so buffers that are long enough have room for what is written

@@ -6,7 +6,7 @@ use native.Mathlib.Omega.{arith}
 use Rattle.base.proofs.Sums.{one-le}
 use Rattle.base.specs.Below.{one}
 use Rattle.network.specs.Network.{labelCount}
-use Rattle.disac4.proofs.Figures.{list-counter-bound, timestamp-of-run}
+use Rattle.disac4.proofs.RunNumbers.{list-counter-bound, timestamp-of-run}
 use Rattle.disac4.proofs.Moves.{Moves, treats, sends, reads, takes-poll, ignores, answers, asks, tallies, marks, drops, discards, kept}
 use Rattle.disac4.proofs.SendBound.{sends-bound}
 use Rattle.disac4.proofs.Typed.{controller-count}

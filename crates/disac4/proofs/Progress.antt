@@ -29,7 +29,7 @@ use Rattle.disac4.specs.Fold.{isSome}
 use Rattle.disac4.specs.Loading.{load}
 use Rattle.disac4.specs.State.{State, Message, list, poll, reply}
 use Rattle.disac4.specs.System.{System, Worker, Sound}
-use Rattle.disac4.specs.Turn.{Turn, turn, treatNumber, sendNumber, answerNumber, pollNumber, allowed, workerStep, controllerStep, step, play, changes}
+use Rattle.disac4.specs.Turn.{Turn, turn, treatAction, sendAction, answerAction, pollAction, allowed, workerStep, controllerStep, step, play, changes}
 use Rattle.disac4.specs.declared.Poll.{Poll}
 
 -- a state in which no allowed turn changes anything
@@ -78,27 +78,27 @@ module _ (sys : System) (st : State) (few : sys .workers ≤ 8) (running : st .c
   controller-idle : (d : ℕ) → allowed (sys .workers) (turn 0 d) ≡ true → isSome (controllerStep sys d st) ≡ false
   controller-idle d ok = step-idle (turn 0 d) ok
 
-  own-idle : (k d : ℕ) → Worker sys k → between treatNumber answerNumber d ≡ true → isSome (workerStep sys k d st) ≡ false
+  own-idle : (k d : ℕ) → Worker sys k → between treatAction answerAction d ≡ true → isSome (workerStep sys k d st) ≡ false
   own-idle k d w b = worker-idle k d w (may-work (sys .workers) k d (w .above) (w .within) b)
 
   -- so nothing is left to treat, to send or to read
   nothing-to-treat : (k : ℕ) → Worker sys k → st .workList k ≡ []
   unfolding workerStep treat
   nothing-to-treat k w =
-      none-taken (treatFrom sys k st) (λ a l. refl) (st .workList k) (own-idle k treatNumber w refl)
+      none-taken (treatFrom sys k st) (λ a l. refl) (st .workList k) (own-idle k treatAction w refl)
 
   nothing-to-send : (k : ℕ) → Worker sys k → st .toSend k ≡ []
   unfolding workerStep send
-  nothing-to-send k w = empty (st .toSend k) (none-chosen (isEmpty (st .toSend k)) _ (own-idle k sendNumber w refl))
+  nothing-to-send k w = empty (st .toSend k) (none-chosen (isEmpty (st .toSend k)) _ (own-idle k sendAction w refl))
 
   nothing-to-read : (j k : ℕ) → Worker sys k → j ≤ sys .workers → (j ≡ k → ⊥) → st .channel j k ≡ []
   unfolding workerStep readWorker
   nothing-to-read j k w h d =
       none-taken (readFrom j k st) (read-takes j k st) (st .channel j k)
       (rw (
-        ne-eqb j treatNumber (λ e. omega arith),
-        ne-eqb j sendNumber (λ e. omega arith),
-        ne-eqb j answerNumber (λ e. omega arith),
+        ne-eqb j treatAction (λ e. omega arith),
+        ne-eqb j sendAction (λ e. omega arith),
+        ne-eqb j answerAction (λ e. omega arith),
       )
       at (worker-idle k j w (may-read (sys .workers) k j (w .above) (w .within) h d)))
 
@@ -106,21 +106,21 @@ module _ (sys : System) (st : State) (few : sys .workers ≤ 8) (running : st .c
   unfolding controllerStep readController
   nothing-to-count k w =
       none-taken (controllerFrom sys k st) (hear-takes sys k st) (st .channel k 0)
-      (rw (ne-eqb k pollNumber (λ e. omega (arith, w .within)))
+      (rw (ne-eqb k pollAction (λ e. omega (arith, w .within)))
       at (controller-idle k (may-hear (sys .workers) k (w .above) (w .within))))
 
   -- a poll is open
   poll-open : st .controller .pollOpen ≡ true
   unfolding controllerStep ask
   poll-open =
-      none-chosen (st .controller .pollOpen) _ (controller-idle pollNumber (may-poll (sys .workers)))
+      none-chosen (st .controller .pollOpen) _ (controller-idle pollAction (may-poll (sys .workers)))
 
   -- no worker can answer
   no-answer : (k : ℕ) (q : Poll) → Worker sys k → st .held k ≡ some q → ready k q st ≡ false
   unfolding workerStep answer
   no-answer k q w e =
       some-refused (ready k q st) _
-      (subst (λ (o : Option Poll). isSome (answerTo k st o) ≡ false) e (own-idle k answerNumber w refl))
+      (subst (λ (o : Option Poll). isSome (answerTo k st o) ≡ false) e (own-idle k answerAction w refl))
 
   module _ (es : List Event) (g : Safe sys st es) where
     no-messages : (j k : ℕ) → j ≤ sys .workers → k ≤ sys .workers → st .channel j k ≡ []

@@ -9,7 +9,7 @@ use Rattle.base.proofs.Sums.{sum-part}
 use Rattle.base.proofs.Weight.{weigh, weigh-zero}
 use Rattle.network.specs.Network.{labelCount}
 use Rattle.disac4.proofs.Answerable.{pollMessage, replyMessage, answerable-bound}
-use Rattle.disac4.proofs.Figures.{lists-of-run}
+use Rattle.disac4.proofs.RunNumbers.{lists-of-run}
 use Rattle.disac4.proofs.PollBound.{polls-bound}
 use Rattle.disac4.proofs.Safety.{safe-run}
 use Rattle.disac4.proofs.SendBound.{sends-bound}

@@ -15,7 +15,7 @@ use Rattle.base.specs.Below.{gatherBelow, listBelow}
 use Rattle.base.specs.Choice.{between}
 use Rattle.disac4.proofs.Allowed.{worker-cases, controller-cases, worker-does, controller-does, may-read, may-work, may-hear, may-poll}
 use Rattle.disac4.specs.Round.{others, workerRound, round}
-use Rattle.disac4.specs.Turn.{Turn, turn, treatNumber, sendNumber, answerNumber, pollNumber, workerMay, controllerMay, allowed}
+use Rattle.disac4.specs.Turn.{Turn, turn, treatAction, sendAction, answerAction, pollAction, workerMay, controllerMay, allowed}
 
 -- the round's parts: what the workers do, and what the controller reads before it polls
 abbrev workerTurns : ℕ → List Turn
@@ -32,17 +32,17 @@ others-member p k j h n =
     member-gather (suc p) (λ j. cond (eqb j k) [] (j ∷ [])) j (omega arith) (rw (ne-eqb j k n) (List·Memᴰ·head refl))
 
 -- treat, send and answer
-own-member : (k d : ℕ) → between treatNumber answerNumber d ≡ true
-    → List·Memᴰ (turn k d) (turn k treatNumber ∷ turn k sendNumber ∷ turn k answerNumber ∷ [])
+own-member : (k d : ℕ) → between treatAction answerAction d ≡ true
+    → List·Memᴰ (turn k d) (turn k treatAction ∷ turn k sendAction ∷ turn k answerAction ∷ [])
 own-member k d e =
-    elim (ℕ-discrete d treatNumber) [
+    elim (ℕ-discrete d treatAction) [
       | yes t ↦ List·Memᴰ·head (ap (turn k) t)
       | no t ↦
-          elim (ℕ-discrete d sendNumber) [
+          elim (ℕ-discrete d sendAction) [
             | yes s ↦ List·Memᴰ·tail (List·Memᴰ·head (ap (turn k) s))
             | no s ↦
-                let last : d ≡ answerNumber =
-                omega (arith, between-low treatNumber answerNumber d e, between-high treatNumber answerNumber d e) in
+                let last : d ≡ answerAction =
+                omega (arith, between-low treatAction answerAction d e, between-high treatAction answerAction d e) in
                 List·Memᴰ·tail (List·Memᴰ·tail (List·Memᴰ·head (ap (turn k) last)))
           ]
     ]
@@ -62,7 +62,7 @@ unfolding round
 controller-member p d e =
     ⊎-elim (λ b. Memᴰ·append-left _ (Memᴰ·append-right (workerTurns p) (tally-member p d (b .0) (b .1))))
     (λ q.
-    Memᴰ·append-right (workerTurns p ++ controllerReads p) (List·Memᴰ·head (ap (turn 0) (eqb-true d pollNumber q))))
+    Memᴰ·append-right (workerTurns p ++ controllerReads p) (List·Memᴰ·head (ap (turn 0) (eqb-true d pollAction q))))
     (controller-cases p d e)
 
 by-actor : (p k d : ℕ) → allowed p (turn k d) ≡ true → List·Memᴰ (turn k d) (round p)
@@ -103,13 +103,13 @@ worker-round-allowed p k h b =
     (each-map (Allowed p) (turn k) (others p k)
     (each-mono (Other p k) (λ j. Allowed p (turn k j)) (λ j r. may-read p k j h b (r .0) (r .1)) (others p k)
     (others-each p k)))
-    (may-work p k treatNumber h b refl, (may-work p k sendNumber h b refl, (may-work p k answerNumber h b refl, tt)))
+    (may-work p k treatAction h b refl, (may-work p k sendAction h b refl, (may-work p k answerAction h b refl, tt)))
 
 -- every turn of the round is allowed
 pub round-allowed : (p : ℕ) → Each (λ t. allowed p t ≡ true) (round p)
 unfolding round
 round-allowed p =
-    each-append (Allowed p) (workerTurns p ++ controllerReads p) (turn 0 pollNumber ∷ [])
+    each-append (Allowed p) (workerTurns p ++ controllerReads p) (turn 0 pollAction ∷ [])
     (each-append (Allowed p) (workerTurns p) (controllerReads p)
     (each-gather (Allowed p) p (λ i. workerRound p (suc i)) (λ i h. worker-round-allowed p (suc i) (omega arith) h))
     (each-gather (Allowed p) p (λ i. turn 0 (suc i) ∷ []) (λ i h. (may-hear p (suc i) (omega arith) h, tt))))

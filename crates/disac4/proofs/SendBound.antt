@@ -9,7 +9,7 @@ use Rattle.network.specs.Network.{Label, labelCount, domainSize}
 use Rattle.disac4.proofs.Conservation.{isSent}
 use Rattle.disac4.proofs.DomainSize.{treat-size, load-size, deletions-loaded}
 use Rattle.disac4.proofs.Empty.{not-empty}
-use Rattle.disac4.proofs.Figures.{sent-count}
+use Rattle.disac4.proofs.RunNumbers.{sent-count}
 use Rattle.disac4.proofs.Moves.{Moves, treats, sends, reads, takes-poll, ignores, answers, asks, tallies, marks, drops, discards, kept}
 use Rattle.disac4.proofs.Workers.{overWorkers, over-part, over-update, over-append}
 use Rattle.disac4.specs.Action.{deletions, afterTreat, afterSend, afterList, afterPoll, afterDrop, afterAnswer, afterAsk, afterCount, afterMark}

@@ -27,7 +27,7 @@ not-controller w e = omega (arith, w .above)
 pub controller-count : {sys : System} (C : ℕ → ℕ) (k n : ℕ) → Worker sys k → update C k n 0 ≡ C 0
 controller-count C k n w = update-other C k n 0 (not-controller w)
 
--- ---- over the controller's figures: its timestamp `N`, whether a poll is `asked`, and its count of lists `D`
+-- ---- over what the controller counts: its timestamp `N`, whether a poll is `asked`, and its count of lists `D`
 
 -- a poll that the controller asked: it wants no more lists than the controller has read, and exactly those if it is open
 pub record Timely (N : ℕ) (asked : Bool) (D : ℕ) (q : Poll) : Type 0 where
@@ -88,7 +88,7 @@ module _ (p N : ℕ) (asked : Bool) (D : ℕ) where
   hold-typed held k o new h =
       update-each (λ i o. (q : Poll) → o ≡ some q → Timely N asked D q) held k o new (λ i d. h i)
 
-  -- the controller's figures change, and the open poll, if it is the same, wants the same count
+  -- what the controller counts changes, and the open poll, if it is the same, wants the same count
   module _ (N′ : ℕ) (asked′ : Bool) (D′ : ℕ) (rises : N ≤ N′) (reads-on : D ≤ D′)
       (same : asked′ ≡ true → N ≡ N′ → (asked ≡ true) × (D ≡ D′)) where
     timely-later : (q : Poll) → Timely N asked D q → Timely N′ asked′ D′ q

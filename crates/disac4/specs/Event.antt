@@ -10,7 +10,7 @@ use Rattle.disac4.specs.Fold.{gatherBy}
 use Rattle.disac4.specs.Report.{isSend}
 use Rattle.disac4.specs.State.{State, Message, list, poll, reply}
 use Rattle.disac4.specs.System.{System}
-use Rattle.disac4.specs.Turn.{Turn, treatNumber, step, changes}
+use Rattle.disac4.specs.Turn.{Turn, treatAction, step, changes}
 
 pub data Event : Type 0 where
   -- a worker sent a list message with these labels
@@ -31,7 +31,7 @@ readEvent k j (poll q ∷ rest) = []
 readEvent k j (reply n ∷ rest) = []
 
 abbrev pub isTreat : Turn → Bool
-isTreat t = not (eqb (t .actor) 0) && eqb (t .action) treatNumber
+isTreat t = not (eqb (t .actor) 0) && eqb (t .action) treatAction
 
 -- a turn that reads: its action is the sender's number
 abbrev pub isRead : ℕ → Turn → Bool

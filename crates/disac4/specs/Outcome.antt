@@ -7,13 +7,13 @@ use lib.Dec.{leb}
 use lib.ListN.{length, getD, drop, replicate}
 use Rattle.base.specs.Choice.{firstOf}
 use Rattle.plan.specs.Check.{Check, _orElse_, firstFault, faultAt}
-use Rattle.plan.specs.Decode.{planFault, planOf}
+use Rattle.plan.specs.Decode.{planFault}
 use Rattle.format.specs.Format.{workerCount}
 use Rattle.plan.specs.declared.Decline.{Decline}
 use Rattle.plan.specs.declared.Fault.the-variants.{ShortWork, ShortLists, BadTurnList}
 use Rattle.disac4.specs.Report.{listCells, final, reportOf}
 use Rattle.disac4.specs.Round.{roundRunTurns}
-use Rattle.disac4.specs.System.{System, systemOf}
+use Rattle.disac4.specs.System.{System, systemAt}
 use Rattle.disac4.specs.Turn.{Turn, turnsOf, turnListFits, turnFault}
 use Rattle.disac4.specs.declared.Answer.{Answer}
 use Rattle.disac4.specs.declared.Answer.the-variants.{Reported, Declined}
@@ -69,10 +69,6 @@ unfoldable pub inputFault : List ℕ → List ℕ → Option Decline
 inputFault bytes turnList =
     firstOf (faultAt 0 (firstFault ((turnListFits turnList orElse BadTurnList) ∷ [])))
     (firstOf (planFault bytes) (turnFault (workerCount bytes) turnList))
-
--- the system of an accepted plan's bytes
-unfoldable pub systemAt : List ℕ → System
-systemAt bytes = systemOf (planOf bytes)
 
 -- these turns are played on a plan, unless a fault was found
 abbrev pub outcomeBy : List ℕ → List Turn → List ℕ → List ℕ → Option Decline → Outcome

@@ -9,7 +9,7 @@ use Rattle.base.specs.Row.{rowOf}
 use Rattle.disac4.specs.Loading.{load}
 use Rattle.disac4.specs.State.{State}
 use Rattle.disac4.specs.System.{System}
-use Rattle.disac4.specs.Turn.{Turn, sendNumber, pollNumber, play, changesWhere}
+use Rattle.disac4.specs.Turn.{Turn, sendAction, pollAction, play, changesWhere}
 use Rattle.disac4.specs.declared.Report.{Report}
 use Rattle.disac4.specs.declared.Status.{Status}
 use Rattle.disac4.specs.declared.Status.the-variants.{Open, Closed, Bare}
@@ -30,10 +30,10 @@ unfoldable pub listCells : System → State → List ℕ
 listCells sys st = listBelow (sys .net .variables) (λ x. rowOf (sys .net .size x) (st .domain x))
 
 abbrev pub isSend : Turn → Bool
-isSend t = not (eqb (t .actor) 0) && eqb (t .action) sendNumber
+isSend t = not (eqb (t .actor) 0) && eqb (t .action) sendAction
 
 abbrev pub isPoll : Turn → Bool
-isPoll t = eqb (t .actor) 0 && eqb (t .action) pollNumber
+isPoll t = eqb (t .actor) 0 && eqb (t .action) pollAction
 
 -- the state after the turns were played from the plan as loaded
 unfoldable pub final : System → List Turn → State

@@ -1,6 +1,8 @@
 -- A constraint network whose variables are spread over workers (kitchens).
 use Prim.Native.Nat.{ℕ, _+_, _*_, _<_, _≤_}
+use mathlib.Core.List.{List}
 use Rattle.network.specs.Network.{Network, labelCount}
+use Rattle.plan.specs.Decode.{planOf}
 use Rattle.plan.specs.Network.{networkOf}
 use Rattle.plan.specs.Plan.{Plan, variableOf}
 
@@ -14,6 +16,10 @@ pub record System : Type 0 where
 
 unfoldable pub systemOf : Plan → System
 systemOf plan = record { net = networkOf plan; workers = plan .workers; owner = λ x. variableOf plan x .owner }
+
+-- the system of an accepted plan's bytes
+abbrev pub systemAt : List ℕ → System
+systemAt b = systemOf (planOf b)
 
 -- an actor that is a worker
 pub record Worker (sys : System) (k : ℕ) : Type 0 where

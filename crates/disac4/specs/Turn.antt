@@ -24,26 +24,26 @@ pub record Turn : Type 0 where
 abbrev pub turn : ℕ → ℕ → Turn
 turn k d = record { actor = k; action = d }
 
-abbrev pub treatNumber : ℕ
-treatNumber = 9
+abbrev pub treatAction : ℕ
+treatAction = 9
 
-abbrev pub sendNumber : ℕ
-sendNumber = 10
+abbrev pub sendAction : ℕ
+sendAction = 10
 
-abbrev pub answerNumber : ℕ
-answerNumber = 11
+abbrev pub answerAction : ℕ
+answerAction = 11
 
-abbrev pub pollNumber : ℕ
-pollNumber = 12
+abbrev pub pollAction : ℕ
+pollAction = 12
 
 -- for worker (kitchen) `k`: 0 to p except k, read from that sender; 9 to 11, treat, send or answer. With at most eight
 -- workers, no number means two things
 unfoldable pub workerMay : ℕ → ℕ → ℕ → Bool
-workerMay p k d = (leb d p && not (eqb d k)) || between treatNumber answerNumber d
+workerMay p k d = (leb d p && not (eqb d k)) || between treatAction answerAction d
 
 -- for the controller (desk): 1 to p, read from that worker; 12, poll
 unfoldable pub controllerMay : ℕ → ℕ → Bool
-controllerMay p d = between 1 p d || eqb d pollNumber
+controllerMay p d = between 1 p d || eqb d pollAction
 
 -- no other turn is allowed
 unfoldable pub allowed : ℕ → Turn → Bool
@@ -53,11 +53,11 @@ allowed p t =
 -- what worker `k` does
 unfoldable pub workerStep : System → ℕ → ℕ → State → Option State
 workerStep sys k d st =
-    cond (eqb d treatNumber) (treat sys k st)
-    (cond (eqb d sendNumber) (send sys k st) (cond (eqb d answerNumber) (answer k st) (readWorker d k st)))
+    cond (eqb d treatAction) (treat sys k st)
+    (cond (eqb d sendAction) (send sys k st) (cond (eqb d answerAction) (answer k st) (readWorker d k st)))
 
 unfoldable pub controllerStep : System → ℕ → State → Option State
-controllerStep sys d st = cond (eqb d pollNumber) (ask sys st) (readController sys d st)
+controllerStep sys d st = cond (eqb d pollAction) (ask sys st) (readController sys d st)
 
 -- the next state, or nothing where the turn is idle; in a closed plan every turn is
 unfoldable pub step : System → State → Turn → Option State

@@ -14,10 +14,10 @@ use Rattle.plan.specs.Fault.{numberOf}
 use Rattle.plan.specs.declared.Decline.{Decline}
 use Rattle.disac4.specs.Event.{events, unsent, deleted}
 use Rattle.disac4.specs.Loading.{load}
-use Rattle.disac4.specs.Outcome.{inputFault, systemAt}
+use Rattle.disac4.specs.Outcome.{inputFault}
 use Rattle.disac4.specs.Report.{reportOf, listCells, final}
 use Rattle.disac4.specs.Round.{roundRunTurns}
-use Rattle.disac4.specs.System.{System, boundOf}
+use Rattle.disac4.specs.System.{System, boundOf, systemAt}
 use Rattle.disac4.specs.Turn.{Turn, turn, allowed, turnAt, turnsOf}
 use Rattle.disac4.specs.declared.Report.{Report}
 use Rattle.disac4.specs.declared.Status.{Status}

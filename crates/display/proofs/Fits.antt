@@ -7,9 +7,10 @@ use native.Mathlib.Omega.{arith}
 use lib.ListN.{length}
 use Rattle.base.specs.Bytes.{byteAt}
 use Rattle.disac4.proofs.Order.{by-fault, round-without-list}
-use Rattle.disac4.specs.Outcome.{overwrite, refused, played, outcomeBy, runOf, turnRun, inputFault, systemAt}
+use Rattle.disac4.specs.Outcome.{overwrite, refused, played, outcomeBy, runOf, turnRun, inputFault}
 use Rattle.disac4.specs.Report.{listCells, final}
 use Rattle.disac4.specs.Round.{roundRunTurns}
+use Rattle.disac4.specs.System.{systemAt}
 use Rattle.disac4.specs.Turn.{Turn, turnsOf}
 use Rattle.plan.proofs.Faults.{decoded, place-within}
 use Rattle.plan.specs.Decode.{planOf, decode, decodedAs}

@@ -13,7 +13,7 @@ use Rattle.base.specs.Bytes.{wordAt}
 use Rattle.base.specs.Row.{isOdd, bit}
 use Rattle.plan.proofs.Parts.{variables-read, variable-read, size-read, value-read}
 use Rattle.plan.specs.Decode.{variableAt, planOf}
-use Rattle.format.specs.Format.{sectionStart, variableCount, ownerAt, valueCountAt, codeAt, sizeAt}
+use Rattle.format.specs.Format.{sectionStart, variableCount, ownerAt, sizeAt, codeAt, numberedSize}
 use Rattle.plan.specs.Plan.{Value, valueOf}
 use Rattle.buffer.proofs.Puts.{then-more}
 use Rattle.buffer.specs.Buffer.{Adds}
@@ -45,7 +45,7 @@ codes-ext n f g row e =
 -- the line of variable `x`, whose section starts at `at`
 pub line-read : (b lists : List ℕ) (x at number row : ℕ) → x < variableCount b → at ≡ sectionStart b (suc x) → number ≡ suc x
     → row ≡ getD lists x 0
-    → domainLine number (ownerAt b at) (valueCountAt b at) (codeAt b at) row ≡ variableLine (planOf b) lists x
+    → domainLine number (ownerAt b at) (sizeAt b at) (codeAt b at) row ≡ variableLine (planOf b) lists x
 unfolding variableLine domainLine variableAt
 line-read b lists x at number row h e p q =
     rw (
@@ -54,7 +54,7 @@ line-read b lists x at number row h e p q =
       q,
       variable-read b x h,
       size-read b x h,
-      codes-ext (sizeAt b (suc x)) (λ v. valueOf (planOf b) x v .code) (codeAt b (sectionStart b (suc x))) (getD lists x 0)
+      codes-ext (numberedSize b (suc x)) (λ v. valueOf (planOf b) x v .code) (codeAt b (sectionStart b (suc x))) (getD lists x 0)
           (λ v k. ap (λ (a : Value). a .code) (value-read b x h v k)),
     )
 

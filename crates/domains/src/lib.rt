@@ -12,7 +12,7 @@ ghost use Prim.Native.Nat.{_<_};
 ghost use lib.ListN.{getD};
 ghost use Rattle.base.specs.Row.{isOdd};
 ghost use Rattle.plan.specs.Decode.{planOf};
-ghost use Rattle.format.specs.Format.{ownerAt, valueCountAt, codeAt};
+ghost use Rattle.format.specs.Format.{ownerAt, sizeAt, codeAt};
 ghost use Rattle.buffer.specs.Buffer.{Adds};
 ghost use Rattle.buffer.specs.Decimal.{spaced};
 ghost use Rattle.domains.specs.Lines.{listedCodes, domainLine, variableLines};
@@ -42,7 +42,7 @@ fn push_code(out: &mut [u8], at: usize, row: usize, code: usize) -> usize
 // The codes of the values whose bits the row has, each after a space.
 fn push_codes(out: &mut [u8], at: usize, plan: &[u8], section: usize, row: usize) -> usize
     requires { ⌜ section < 16777216 ⌝ }
-    ensures { λ r. ⌜ Adds (listedCodes (valueCountAt (now (plan .entry)) section) (codeAt (now (plan .entry)) section) row) (now (out .entry)) at (now (out .exit)) r ⌝ }
+    ensures { λ r. ⌜ Adds (listedCodes (sizeAt (now (plan .entry)) section) (codeAt (now (plan .entry)) section) row) (now (out .entry)) at (now (out .exit)) r ⌝ }
 {
     let size = byte_at(plan, section + 2 + 1);
     let mut place = at;
@@ -66,7 +66,7 @@ fn push_domain(
     row: usize,
 ) -> usize
     requires { ⌜ section < 16777216 ⌝ }
-    ensures { λ r. ⌜ Adds (domainLine number (ownerAt (now (plan .entry)) section) (valueCountAt (now (plan .entry)) section) (codeAt (now (plan .entry)) section) row) (now (out .entry)) at (now (out .exit)) r ⌝ }
+    ensures { λ r. ⌜ Adds (domainLine number (ownerAt (now (plan .entry)) section) (sizeAt (now (plan .entry)) section) (codeAt (now (plan .entry)) section) row) (now (out .entry)) at (now (out .exit)) r ⌝ }
 {
     let mut place = push_number(out, at, number);
     place = push_spaced(out, place, byte_at(plan, section + 2));

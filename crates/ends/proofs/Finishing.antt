@@ -4,10 +4,10 @@ use mathlib.Core.List.{List}
 use mathlib.Core.Option.{none}
 use mathlib.Core.Path.{_≡_, _∙_, ap}
 use lib.ListN.{length, replicate}
-use Rattle.disac4.specs.Outcome.{overwrite, workNeed, systemAt}
+use Rattle.disac4.specs.Outcome.{overwrite, workNeed}
 use Rattle.disac4.specs.Report.{lowestEmpty, statusOf, listCells, final, reportOf}
 use Rattle.disac4.specs.State.{State}
-use Rattle.disac4.specs.System.{systemOf}
+use Rattle.disac4.specs.System.{systemAt}
 use Rattle.disac4.specs.Turn.{Turn}
 use Rattle.disac4.specs.declared.Report.{Report}
 use Rattle.refinement.proofs.Behind.{behind-same}
@@ -17,7 +17,7 @@ use Rattle.index.specs.Index.{Ready}
 use Rattle.refinement.specs.Run.{At, Going, reportM, Finishes}
 use Rattle.cells.specs.View.{view}
 use Rattle.refinement.specs.declared.Progress.{Progress}
-use Rattle.plan.specs.Decode.{planFault, planOf}
+use Rattle.plan.specs.Decode.{planFault}
 
 module _ (b : List ℕ) (sound : planFault b ≡ none) (m : Mem) (ts : List Turn) (cells : List ℕ) (g : Progress)
     (at : At b m ts cells g) where
@@ -52,10 +52,9 @@ pub going-ready : (b cells : List ℕ) (g : Progress) → Going b cells g → Re
 going-ready b cells g go = under-ready b (go .sound) (go .before) (go .turns) cells g (go .at) (go .long)
 
 pub finishes : (b cells lists : List ℕ) (g : Progress) (cells′ lists′ : List ℕ) (r : Report) → planFault b ≡ none
-    → cells′ ≡ overwrite (replicate workNeed 0) cells → r ≡ reportM (systemOf (planOf b)) (memOf cells) g
-    → lists′ ≡ overwrite (listCells (systemOf (planOf b)) (view (systemOf (planOf b)) (memOf cells) (g .tally))) lists
+    → cells′ ≡ overwrite (replicate workNeed 0) cells → r ≡ reportM (systemAt b) (memOf cells) g
+    → lists′ ≡ overwrite (listCells (systemAt b) (view (systemAt b) (memOf cells) (g .tally))) lists
     → Finishes b cells lists g cells′ lists′ r
-unfolding systemAt
 finishes b cells lists g cells′ lists′ r sound cleared report listed = record {
   cleared = cleared;
   reported = λ m ts at. report ∙ report-of-turns b sound m ts cells g at;

@@ -7,13 +7,13 @@ use lib.ListN.{length, replicate}
 use Rattle.cells.specs.Memory.{Mem, memOf, clearedM}
 use Rattle.controller.specs.Controller.{machine}
 use Rattle.disac4.specs.Fold.{playBy, gatherBy, countBy}
-use Rattle.disac4.specs.Outcome.{overwrite, workNeed, systemAt}
-use Rattle.disac4.specs.System.{systemOf}
+use Rattle.disac4.specs.Outcome.{overwrite, workNeed}
+use Rattle.disac4.specs.System.{systemAt}
 use Rattle.disac4.specs.declared.Tally.{Tally}
 use Rattle.index.proofs.Chains.{indexed}
 use Rattle.index.specs.Index.{Ready, Indexed, indexM}
 use Rattle.loading.specs.Load.{loadM}
-use Rattle.plan.specs.Decode.{planFault, planOf}
+use Rattle.plan.specs.Decode.{planFault}
 use Rattle.refinement.proofs.Behind.{cleared-memory}
 use Rattle.refinement.specs.Run.{freshTally, startM, At}
 
@@ -32,10 +32,10 @@ module _ (b c₀ c₁ c₂ : List ℕ) (sound : planFault b ≡ none) (cleared :
   }
 
   -- and loaded, they are where a run starts
-  pub start-made : (c₃ : List ℕ) (t : Tally) → memOf c₃ ≡ loadM (systemOf (planOf b)) (memOf c₂) → t ≡ freshTally
+  pub start-made : (c₃ : List ℕ) (t : Tally) → memOf c₃ ≡ loadM (systemAt b) (memOf c₂) → t ≡ freshTally
       → machine c₃ t ≡ startM b (memOf c₀)
-  unfolding startM systemAt
-  start-made c₃ t e f = λ i. record { mem = (e ∙ ap (loadM (systemOf (planOf b))) ground) i; tally = f i }
+  unfolding startM
+  start-made c₃ t e f = λ i. record { mem = (e ∙ ap (loadM (systemAt b)) ground) i; tally = f i }
 
 -- a loaded plan has played no turns
 pub begins : (b : List ℕ) (m : Mem) (cells : List ℕ) (t : Tally) → machine cells t ≡ startM b m

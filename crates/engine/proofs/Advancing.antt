@@ -8,9 +8,8 @@ use native.Mathlib.Nat.{pow-le-pow-right}
 use native.Mathlib.Omega.{arith}
 use Rattle.base.specs.Below.{one}
 use Rattle.disac4.specs.Fold.{isSome, afterBy}
-use Rattle.disac4.specs.Outcome.{systemAt}
 use Rattle.disac4.specs.Report.{isSend, isPoll}
-use Rattle.disac4.specs.System.{systemOf}
+use Rattle.disac4.specs.System.{systemOf, systemAt}
 use Rattle.disac4.specs.Turn.{Turn, turn}
 use Rattle.engine.proofs.RunLaws.{workers-are, one-and}
 use Rattle.refinement.proofs.Start.{fits-regions}
@@ -38,7 +37,7 @@ module _ (b cells : List ℕ) (g : Progress) (go : Going b cells g) where
 
   -- the number stands for a label of the plan
   number-listed : (c : ℕ) → LabelNumber (systemAt b) c → Listed b (c / 16) (c % 16)
-  unfolding systemAt systemOf networkOf
+  unfolding systemOf networkOf
   number-listed c k = record { variable = omega (arith, k .variable, variables-read b); value = k .value }
 
   pub playable : Playable b cells (g .tally)

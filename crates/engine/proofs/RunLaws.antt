@@ -12,9 +12,8 @@ use Rattle.base.proofs.Choice.{cond-true, cond-false}
 use Rattle.base.specs.Below.{one}
 use Rattle.disac4.proofs.Allowed.{worker-bound, worker-does, controller-does, reads-worker}
 use Rattle.disac4.specs.Fold.{isSome}
-use Rattle.disac4.specs.Outcome.{systemAt}
-use Rattle.disac4.specs.System.{System, systemOf}
-use Rattle.disac4.specs.Turn.{turn, pollNumber, allowed}
+use Rattle.disac4.specs.System.{System, systemOf, systemAt}
+use Rattle.disac4.specs.Turn.{turn, pollAction, allowed}
 use Rattle.disac4.specs.declared.Tally.{Tally}
 use Rattle.cells.specs.Acts.{Acts}
 use Rattle.cells.specs.Memory.{Mem}
@@ -83,7 +82,7 @@ module _ (sys : System) (actor action : ℕ) (s : Machine) where
 
   module _ (running : s .tally .closed ≡ false) (ok : allowed (sys .workers) (turn actor action) ≡ true) where
     acts : turnOn sys actor action s
-        ≡ cond (eqb actor 0) (cond (eqb action pollNumber) (pollM s) (hearM sys (action - 1) s))
+        ≡ cond (eqb actor 0) (cond (eqb action pollAction) (pollM s) (hearM sys (action - 1) s))
         (withMem (s .tally) (workerM sys (actor - 1) action s))
     unfolding stepM
     acts = cond-false none _ (or-false running (not-of-true ok))
@@ -116,9 +115,9 @@ module _ (p actor action : ℕ) (few : p ≤ 8) (ok : allowed p (turn actor acti
   -- the controller's read
   pub may-hear : actor ≡ 0 → (action ≡ 12 → ⊥) → (0 < action) × (action ≤ p)
   may-hear e n =
-      reads-worker p action (controller-does p (turn actor action) ok (eq-eqb actor 0 e)) (ne-eqb action pollNumber n)
+      reads-worker p action (controller-does p (turn actor action) ok (eq-eqb actor 0 e)) (ne-eqb action pollAction n)
 
 -- the system of a plan has as many workers as its head says
 pub workers-are : (b : List ℕ) → systemAt b .workers ≡ workerCount b
-unfolding systemAt systemOf planOf
+unfolding systemOf planOf
 workers-are b = refl

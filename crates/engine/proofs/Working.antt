@@ -14,8 +14,8 @@ use Rattle.cells.proofs.Acting.{idle, acts-as}
 use Rattle.cells.specs.Acts.{Acts}
 use Rattle.cells.specs.Memory.{memOf}
 use Rattle.controller.specs.Controller.{machine}
-use Rattle.disac4.specs.Outcome.{systemAt}
 use Rattle.disac4.specs.Report.{isSend, isPoll}
+use Rattle.disac4.specs.System.{systemAt}
 use Rattle.disac4.specs.Turn.{Turn, turn, allowed}
 use Rattle.disac4.specs.declared.Tally.{Tally}
 use Rattle.engine.proofs.Advancing.{playable, advanced}

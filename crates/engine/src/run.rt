@@ -12,7 +12,6 @@ ghost use mathlib.Core.Path.{_≡_};
 ghost use Prim.Native.Nat.{_<_, _≤_};
 ghost use lib.Dec.{eqb};
 ghost use lib.ListN.{length};
-ghost use Rattle.disac4.specs.Outcome.{systemAt};
 ghost use Rattle.disac4.specs.Turn.{allowed, turn};
 ghost use Rattle.cells.specs.Acts.{Acts};
 ghost use Rattle.cells.specs.Layout.{WORKCELLS};
@@ -21,6 +20,7 @@ ghost use Rattle.engine.specs.Play.{Running, Works};
 ghost use Rattle.refinement.specs.Run.{Playable, readOn, workerOn, turnOn, Going, Plays};
 ghost use Rattle.controller.specs.Controller.{machine};
 ghost use Rattle.format.specs.Format.{workerCount};
+ghost use Rattle.disac4.specs.System.{systemAt};
 
 // Row `i` reads from actor `d`: the next poll, or the next list message.
 fn read(cells: &mut [u16], t: Tally, i: usize, d: usize) -> usize

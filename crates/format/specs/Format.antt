@@ -30,8 +30,8 @@ sectionCount b = 1 + variableCount b + constraintCount b
 abbrev pub ownerAt : List ℕ → ℕ → ℕ
 ownerAt b at = byteAt b (at + 2)
 
-abbrev pub valueCountAt : List ℕ → ℕ → ℕ
-valueCountAt b at = byteAt b (at + 2 + 1)
+abbrev pub sizeAt : List ℕ → ℕ → ℕ
+sizeAt b at = byteAt b (at + 2 + 1)
 
 abbrev pub codeAt : List ℕ → ℕ → ℕ → ℕ
 codeAt b at v = wordAt b (at + 4 + 4 * v)
@@ -64,5 +64,5 @@ abbrev pub limitAt : List ℕ → ℕ → ℕ
 limitAt b at = wordAt b (at + 5)
 
 -- the number of dishes of the slot with number s, from 1: slot s is section s
-abbrev pub sizeAt : List ℕ → ℕ → ℕ
-sizeAt b s = valueCountAt b (sectionStart b s)
+abbrev pub numberedSize : List ℕ → ℕ → ℕ
+numberedSize b s = sizeAt b (sectionStart b s)

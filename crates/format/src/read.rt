@@ -4,7 +4,7 @@ use reader::word_at;
 ghost use mathlib.Core.Path.{_≡_};
 ghost use Prim.Native.Nat.{_<_, _≤_};
 ghost use lib.ListN.{length};
-ghost use Rattle.format.specs.Format.{behind as behindOf, workerCount, variableCount, constraintCount, sectionCount, ownerAt, valueCountAt, codeAt, figureAt};
+ghost use Rattle.format.specs.Format.{behind as behindOf, workerCount, variableCount, constraintCount, sectionCount, ownerAt, sizeAt, codeAt, figureAt};
 
 // The place behind the section at `at`.
 pub fn behind(b: &[u8], at: usize) -> usize
@@ -53,7 +53,7 @@ pub fn owner(b: &[u8], at: usize) -> usize
 // A slot's number of dishes.
 pub fn size(b: &[u8], at: usize) -> usize
     requires { ⌜ at ≤ length (now b) ⌝ }
-    ensures { λ r. ⌜ (r ≡ valueCountAt (now (b .entry)) at) × (r < 256) ⌝ }
+    ensures { λ r. ⌜ (r ≡ sizeAt (now (b .entry)) at) × (r < 256) ⌝ }
 {
     byte_at(b, at + 2 + 1)
 }

@@ -5,7 +5,7 @@ use mathlib.Core.List.{List}
 use mathlib.Core.Path.{_≡_}
 use lib.Dec.{leb, ltb, eqb}
 use lib.ListN.{length}
-use Rattle.disac4.specs.Turn.{Turn, treatNumber}
+use Rattle.disac4.specs.Turn.{Turn, treatAction}
 use Rattle.flags.specs.Flags.{actors, actions, cellCount, cellAt}
 
 -- the cells of some turns become `v`, the others stay
@@ -18,5 +18,5 @@ pub record Puts (v : ℕ) (which : ℕ → ℕ → Bool) (before after : List �
 unfoldable pub enables : Turn → Turn → Bool
 enables t u =
     ((eqb (u .actor) (t .actor) && eqb (u .action) (t .action))
-    || (eqb (u .actor) (t .actor) && leb treatNumber (u .action)))
-    || (ltb treatNumber (t .action) && eqb (u .action) (t .actor))
+    || (eqb (u .actor) (t .actor) && leb treatAction (u .action)))
+    || (ltb treatAction (t .action) && eqb (u .action) (t .actor))

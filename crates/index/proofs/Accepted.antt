@@ -18,7 +18,7 @@ use Rattle.index.specs.Index.{over, Placed}
 use Rattle.plan.proofs.Links.{joins-of, of-joins}
 use Rattle.plan.proofs.Parts.{constraint-read, size-read, value-read}
 use Rattle.plan.specs.Decode.{planFault, relationAt, constraintAt, planOf}
-use Rattle.format.specs.Format.{sectionStart, constraintStart, variableCount, constraintCount, firstAt, secondAt, kindAt, tableRowAt, limitAt, figureAt, sizeAt}
+use Rattle.format.specs.Format.{sectionStart, constraintStart, variableCount, constraintCount, firstAt, secondAt, kindAt, tableRowAt, limitAt, figureAt, numberedSize}
 use Rattle.plan.specs.Network.{withinLimit, permits, joins, ties, spares, accepts}
 use Rattle.plan.specs.Plan.{Value, table, sumLimit, Constraint, valueOf, constraintOf}
 
@@ -51,8 +51,8 @@ module _ (b : List ℕ) (c x v y w : ℕ) (h : c < constraintCount b)
       first-at : firstAt b at ≡ suc x
       first-at = sym (ap (λ (k : Constraint). k .first) (constraint-read b c h)) ∙ first
 
-      row : v < sizeAt b (firstAt b at)
-      row = omega (arith, size-read b x (one .variable), ap (sizeAt b) first-at, one .value)
+      row : v < numberedSize b (firstAt b at)
+      row = omega (arith, size-read b x (one .variable), ap (numberedSize b) first-at, one .value)
 
       figure-read : (x v : ℕ) → Listed b x v → valueOf (planOf b) x v .figure ≡ figureAt b (sectionStart b (suc x)) v
       figure-read x v l =
@@ -60,10 +60,10 @@ module _ (b : List ℕ) (c x v y w : ℕ) (h : c < constraintCount b)
           (value-read b x (l .variable) v (omega (arith, l .value, size-read b x (l .variable))))
 
       go : (t : Bool)
-          → permits (planOf b) (cond t (table (listBelow (sizeAt b (firstAt b at)) (tableRowAt b at))) (sumLimit (limitAt b at))) x v y w
+          → permits (planOf b) (cond t (table (listBelow (numberedSize b (firstAt b at)) (tableRowAt b at))) (sumLimit (limitAt b at))) x v y w
           ≡ cond t (bit (tableRowAt b at v) w)
           (withinLimit (limitAt b at) (figureAt b (sectionStart b (suc x)) v) (figureAt b (sectionStart b (suc y)) w))
-      go true = ap (λ (r : ℕ). bit r w) (getD-list-below (sizeAt b (firstAt b at)) (tableRowAt b at) 0 v row)
+      go true = ap (λ (r : ℕ). bit r w) (getD-list-below (numberedSize b (firstAt b at)) (tableRowAt b at) 0 v row)
       go false = ap₂ (withinLimit (limitAt b at)) (figure-read x v one) (figure-read y w other)
 
   -- a constraint over the two variables, in their order, accepts the pair where its bytes permit it

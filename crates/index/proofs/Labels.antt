@@ -6,7 +6,7 @@ use mathlib.Core.Option.{none}
 use mathlib.Core.Path.{_≡_, refl, sym, _∙_, ap}
 use native.Mathlib.Omega.{arith}
 use lib.ListN.{length}
-use Rattle.disac4.specs.System.{systemOf}
+use Rattle.disac4.specs.System.{systemOf, systemAt}
 use Rattle.plan.proofs.Parts.{variables-read, variable-read, size-read}
 use Rattle.plan.specs.Decode.{planFault, planOf, variableAt}
 use Rattle.format.specs.Format.{sectionStart, variableCount, constraintCount, ownerAt}
@@ -22,12 +22,12 @@ use Rattle.index.specs.Index.{over, owns, ownLinked, Indexed, Located, R
 use Rattle.cells.specs.Memory.{Mem, memOf}
 use Rattle.cells.specs.View.{Numbered}
 
--- the system's figures are those that the plan's bytes give
-pub variables-are : (b : List ℕ) → systemOf (planOf b) .net .variables ≡ variableCount b
+-- the system's sizes are those that the plan's bytes give
+pub variables-are : (b : List ℕ) → systemAt b .net .variables ≡ variableCount b
 unfolding systemOf networkOf
 variables-are b = variables-read b
 
-pub size-is : (b : List ℕ) (x : ℕ) → sizeOf (planOf b) x ≡ systemOf (planOf b) .net .size x
+pub size-is : (b : List ℕ) (x : ℕ) → sizeOf (planOf b) x ≡ systemAt b .net .size x
 unfolding systemOf networkOf
 size-is b x = refl
 
@@ -49,10 +49,10 @@ module _ (b : List ℕ) (sound : planFault b ≡ none) where
 
   -- what is read at a variable's place
   pub owner-there : (x at r : ℕ) → x < variableCount b → at ≡ sectionStart b (suc x) → r ≡ ownerAt b at
-      → (r ≡ systemOf (planOf b) .owner x) × (0 < r) × (r ≤ 8)
+      → (r ≡ systemAt b .owner x) × (0 < r) × (r ≤ 8)
   unfolding systemOf variableAt
   owner-there x at r h e q =
-      let o : r ≡ systemOf (planOf b) .owner x =
+      let o : r ≡ systemAt b .owner x =
       q ∙ ap (ownerAt b) e ∙ sym (ap (λ (a : Variable). a .owner) (variable-read b x h)) in
       (o, omega (arith, owner-range b sound x h), omega (arith, owner-range b sound x h))
 

@@ -12,9 +12,9 @@ use lib.Dec.{eqb}
 use Rattle.base.proofs.Bools.{decided, and-left, and-right, and-intro, and-false-left, and-false-right}
 use Rattle.base.proofs.Loops.{loop-carries, loop-same, loop-from}
 use Rattle.base.specs.Below.{anyBelow, loop}
-use Rattle.disac4.specs.System.{systemOf}
+use Rattle.disac4.specs.System.{systemAt}
 use Rattle.format.specs.Format.{variableCount, constraintCount}
-use Rattle.plan.specs.Decode.{planFault, planOf}
+use Rattle.plan.specs.Decode.{planFault}
 use Rattle.index.proofs.Leads.{leads-same, leads-none, leads-first, leads-follow}
 use Rattle.index.proofs.Own.{next-here, next-past, next-none}
 use Rattle.index.proofs.Owners.{owner-range, owns-it, owns-alone}
@@ -38,7 +38,7 @@ module _ (b : List ℕ) (sound : planFault b ≡ none) (m : Mem)
     (heads : (x y : ℕ) → eqb (m HEADS x y) 0 ≡ not (anyBelow (constraintCount b) (over b x y)))
     (empty : (i y : ℕ) → m FIRST i y ≡ 0) where
   abbrev row : ℕ → ℕ
-  row x = systemOf (planOf b) .owner x - 1
+  row x = systemAt b .owner x - 1
 
   row-low : (x : ℕ) → x < variableCount b → row x < 8
   row-low x h = omega (arith, owner-range b sound x h)
@@ -115,7 +115,7 @@ module _ (b : List ℕ) (sound : planFault b ≡ none) (m : Mem)
 
 -- a variable in front of its owner's chains, with the last `k` done already
 pub leads-last : (b : List ℕ) (x o n k : ℕ) (m : Mem) → suc x + k ≡ variableCount b → n ≡ variableCount b
-    → o ≡ systemOf (planOf b) .owner x → loop n (leadM (o - 1) x) m ≡ lastLeadsM b k m
+    → o ≡ systemAt b .owner x → loop n (leadM (o - 1) x) m ≡ lastLeadsM b k m
 leads-last b x o n k m h c e =
     let here : x ≡ variableCount b - suc k = omega arith in
     ap₂ (λ (o n : ℕ). loop n (leadM (o - 1) x) m) e c ∙ ap (λ (z : ℕ). leadsM b z m) here

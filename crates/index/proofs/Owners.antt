@@ -6,7 +6,7 @@ use mathlib.Core.Option.{none}
 use mathlib.Core.Path.{_≡_}
 use borrow.Author.Tests.{eq-eqb, eqb-true}
 use native.Mathlib.Omega.{arith}
-use Rattle.disac4.specs.System.{systemOf}
+use Rattle.disac4.specs.System.{systemOf, systemAt}
 use Rattle.format.specs.Format.{variableCount}
 use Rattle.plan.proofs.Parts.{variables-read}
 use Rattle.plan.proofs.WellFormed.{read-well-formed}
@@ -16,7 +16,7 @@ use Rattle.index.specs.Index.{owns}
 
 -- an owner is one of at most eight workers
 pub owner-range : (b : List ℕ) → planFault b ≡ none → (x : ℕ) → x < variableCount b
-    → (0 < systemOf (planOf b) .owner x) × (systemOf (planOf b) .owner x ≤ 8)
+    → (0 < systemAt b .owner x) × (systemAt b .owner x ≤ 8)
 unfolding systemOf
 owner-range b sound x h =
     let fits : WellFormed (planOf b) = read-well-formed b sound in
@@ -25,11 +25,11 @@ owner-range b sound x h =
 
 module _ (b : List ℕ) (x : ℕ) where
   -- the row of a variable's owner owns it
-  pub owns-it : 0 < systemOf (planOf b) .owner x → owns b (systemOf (planOf b) .owner x - 1) x ≡ true
+  pub owns-it : 0 < systemAt b .owner x → owns b (systemAt b .owner x - 1) x ≡ true
   unfolding owns
-  owns-it h = eq-eqb (systemOf (planOf b) .owner x) (suc (systemOf (planOf b) .owner x - 1)) (omega arith)
+  owns-it h = eq-eqb (systemAt b .owner x) (suc (systemAt b .owner x - 1)) (omega arith)
 
   -- and no other
-  pub owns-alone : (i : ℕ) → owns b i x ≡ true → i ≡ systemOf (planOf b) .owner x - 1
+  pub owns-alone : (i : ℕ) → owns b i x ≡ true → i ≡ systemAt b .owner x - 1
   unfolding owns
-  owns-alone i e = omega (arith, eqb-true (systemOf (planOf b) .owner x) (suc i) e)
+  owns-alone i e = omega (arith, eqb-true (systemAt b .owner x) (suc i) e)

@@ -8,7 +8,7 @@ use mathlib.Core.Path.{_≡_, sym, _∙_, ap}
 use borrow.Author.Tests.{eqb-false, not-true}
 use native.Mathlib.Omega.{arith}
 use lib.Dec.{eqb}
-use Rattle.disac4.specs.System.{systemOf}
+use Rattle.disac4.specs.System.{systemOf, systemAt}
 use Rattle.index.proofs.Ends.{Ends, ends, over-ends}
 use Rattle.index.proofs.Nearest.{last-low, last-settled, last-passes}
 use Rattle.index.proofs.Permitted.{linked-chain}
@@ -55,7 +55,7 @@ module _ (b : List ℕ) (none-found : planFault b ≡ none) (m : Mem) (index : I
       same-ends x y x′ y′ f s (over-ends b c f s g x y (head .1)) (over-ends b c f s g x′ y′ (head′ .1))
 
   -- each two linked variables have a number of their own
-  pub paired : Paired (systemOf (planOf b)) m
+  pub paired : Paired (systemAt b) m
   unfolding systemOf networkOf
   paired = record {
     low = above;

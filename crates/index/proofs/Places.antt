@@ -21,7 +21,7 @@ use Rattle.plan.proofs.Sections.{each-section, section-complete}
 use Rattle.plan.proofs.WellFormed.{read-well-formed}
 use Rattle.plan.specs.Check.{firstFault, headChecks, variableChecks, constraintChecks, constraintLength}
 use Rattle.plan.specs.Decode.{planFault, planOf}
-use Rattle.format.specs.Format.{sectionStart, variableCount, constraintCount, sectionCount, valueCountAt, firstAt, kindAt, sizeAt}
+use Rattle.format.specs.Format.{sectionStart, variableCount, constraintCount, sectionCount, sizeAt, firstAt, kindAt, numberedSize}
 use Rattle.plan.specs.WellFormed.{WellFormed, VariableFits}
 use Rattle.cells.proofs.Done.{Done}
 use Rattle.cells.proofs.Stores.{store-same, store-other, store-apart}
@@ -36,7 +36,7 @@ module _ (b : List ℕ) (none-found : planFault b ≡ none) where
   pub few-sections : (variableCount b ≤ 32) × (constraintCount b ≤ 128)
   few-sections = omega (arith, fits .variables-high, fits .constraints-high, variables-read b, constraints-read b)
 
-  pub few-values : (x : ℕ) → x < variableCount b → sizeAt b (suc x) ≤ 16
+  pub few-values : (x : ℕ) → x < variableCount b → numberedSize b (suc x) ≤ 16
   few-values x h =
       let fit : VariableFits (planOf b) x = fits .each-variable x (omega (arith, variables-read b)) in
       omega (arith, fit .few-values, size-read b x h)
@@ -51,10 +51,10 @@ module _ (b : List ℕ) (none-found : planFault b ≡ none) where
   constraint-short : (at : ℕ) → InOrder b at → constraintLength b at ≤ 66
   unfolding constraintLength
   constraint-short at order =
-      let size = sizeAt b (firstAt b at) in
+      let size = numberedSize b (firstAt b at) in
       let e : suc (firstAt b at - 1) ≡ firstAt b at = omega arith in
-      let small : sizeAt b (suc (firstAt b at - 1)) ≤ 16 = few-values (firstAt b at - 1) (omega arith) in
-      ⊎-elim (λ p. omega (arith, cond-true (3 + 2 * size) 5 p, ap (sizeAt b) e))
+      let small : numberedSize b (suc (firstAt b at - 1)) ≤ 16 = few-values (firstAt b at - 1) (omega arith) in
+      ⊎-elim (λ p. omega (arith, cond-true (3 + 2 * size) 5 p, ap (numberedSize b) e))
       (λ p. omega (arith, cond-false (3 + 2 * size) 5 p))
       (decided (eqb (kindAt b at) 0))
 
@@ -67,8 +67,8 @@ module _ (b : List ℕ) (none-found : planFault b ≡ none) where
       (λ e.
       omega (
         arith,
-        leb-true (valueCountAt b at) 16 (each-holds (variableChecks b at) e 2),
-        eqb-true (wordAt b at) (2 + 4 * valueCountAt b at) (each-holds (variableChecks b at) e 3),
+        leb-true (sizeAt b at) 16 (each-holds (variableChecks b at) e 2),
+        eqb-true (wordAt b at) (2 + 4 * sizeAt b at) (each-holds (variableChecks b at) e 3),
       ))
       (λ e.
       omega (

@@ -9,7 +9,7 @@ use mathlib.Core.Path.{_≡_}
 use lib.Dec.{eqb}
 use lib.ListN.{length}
 use Rattle.base.specs.Below.{anyBelow, loop}
-use Rattle.disac4.specs.System.{System, systemOf}
+use Rattle.disac4.specs.System.{System, systemAt}
 use Rattle.cells.specs.Layout.{HEADS, PLACES, NEXT, FIRST, FOLLOW, WORKCELLS}
 use Rattle.cells.specs.Memory.{Mem, memOf, store}
 use Rattle.plan.specs.Decode.{planFault, planOf}
@@ -32,7 +32,7 @@ chainBelow b x y c = nearest (λ k. k) (over b x y) c
 
 -- row `i` owns variable `x`
 unfoldable pub owns : List ℕ → ℕ → ℕ → Bool
-owns b i x = eqb (systemOf (planOf b) .owner x) (suc i)
+owns b i x = eqb (systemAt b .owner x) (suc i)
 
 -- it does, and some constraint is over `x` and `y`
 unfoldable pub ownLinked : List ℕ → ℕ → ℕ → ℕ → Bool
@@ -108,7 +108,7 @@ leadM i x y m = cond (eqb (m HEADS x y) 0) m (store (store m FOLLOW x y (m FIRST
 
 -- variable `x` in front of its owner's chains for all variables
 abbrev pub leadsM : List ℕ → ℕ → Mem → Mem
-leadsM b x = loop (variableCount b) (leadM (systemOf (planOf b) .owner x - 1) x)
+leadsM b x = loop (variableCount b) (leadM (systemAt b .owner x - 1) x)
 
 -- the same for the last variable but `k`
 abbrev pub lastLeadsM : List ℕ → ℕ → Mem → Mem

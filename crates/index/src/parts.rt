@@ -5,7 +5,7 @@ ghost use mathlib.Core.List.{List};
 ghost use mathlib.Core.Path.{_≡_};
 ghost use Prim.Native.Nat.{ℕ, _<_, _≤_};
 ghost use lib.ListN.{length};
-ghost use Rattle.disac4.specs.System.{systemOf};
+ghost use Rattle.disac4.specs.System.{systemAt};
 ghost use Rattle.plan.specs.Decode.{planOf};
 ghost use Rattle.format.specs.Format.{variableCount, sectionCount};
 ghost use Rattle.plan.specs.Network.{shareConstraint};
@@ -26,7 +26,7 @@ pub fn place(b: &[u8], cells: &[u16], k: usize) -> usize
 // The worker that owns variable x.
 pub fn owner(b: &[u8], cells: &[u16], x: usize) -> usize
     requires { ⌜ Located (now b) (now cells) × (x < variableCount (now b)) ⌝ }
-    ensures { λ r. ⌜ (r ≡ systemOf (planOf (now (b .entry))) .owner x) × (0 < r) × (r ≤ 8) ⌝ }
+    ensures { λ r. ⌜ (r ≡ systemAt (now (b .entry)) .owner x) × (0 < r) × (r ≤ 8) ⌝ }
 {
     read::owner(b, place(b, cells, x + 1))
 }

@@ -14,7 +14,7 @@ ghost use Rattle.base.specs.Row.{rowOf};
 ghost use Rattle.cells.specs.Layout.{COUNTERS};
 ghost use Rattle.cells.specs.Memory.{memOf};
 ghost use Rattle.cells.specs.View.{counterRow};
-ghost use Rattle.disac4.specs.System.{systemOf};
+ghost use Rattle.disac4.specs.System.{systemAt};
 ghost use Rattle.plan.specs.Decode.{planOf};
 ghost use Rattle.plan.specs.Network.{shareConstraint};
 ghost use Rattle.plan.specs.Plan.{sizeOf};
@@ -35,8 +35,8 @@ fn counted_row(b: &[u8], cells: &[u16], x: usize, y: usize) -> usize
 
 // The row of the values of x that suit the variables before y, and then y too.
 fn suited_beside(b: &[u8], cells: &[u16], x: usize, y: usize, row: usize) -> usize
-    requires { ⌜ Ready (now b) (now cells) × (x < variableCount (now b)) × (y < variableCount (now b)) × (row ≡ suitedRow (systemOf (planOf (now b))) (memOf (now cells)) x y) ⌝ }
-    ensures { λ r. ⌜ r ≡ suitedRow (systemOf (planOf (now (b .entry)))) (memOf (now (cells .entry))) x (y + 1) ⌝ }
+    requires { ⌜ Ready (now b) (now cells) × (x < variableCount (now b)) × (y < variableCount (now b)) × (row ≡ suitedRow (systemAt (now b)) (memOf (now cells)) x y) ⌝ }
+    ensures { λ r. ⌜ r ≡ suitedRow (systemAt (now (b .entry))) (memOf (now (cells .entry))) x (y + 1) ⌝ }
 {
     if !parts::linked(cells, x, y) {
         return row;
@@ -47,7 +47,7 @@ fn suited_beside(b: &[u8], cells: &[u16], x: usize, y: usize, row: usize) -> usi
 // The row of the values of x that have no counter of 0.
 fn supported_row(b: &[u8], cells: &[u16], x: usize) -> usize
     requires { ⌜ Ready (now b) (now cells) × (x < variableCount (now b)) ⌝ }
-    ensures { λ r. ⌜ r ≡ suitedRow (systemOf (planOf (now (b .entry)))) (memOf (now (cells .entry))) x (systemOf (planOf (now (b .entry))) .net .variables) ⌝ }
+    ensures { λ r. ⌜ r ≡ suitedRow (systemAt (now (b .entry))) (memOf (now (cells .entry))) x (systemAt (now (b .entry)) .net .variables) ⌝ }
 {
     let n = read::variable_count(b);
     let mut row = power(parts::size(b, cells, x)) - 1;
@@ -62,7 +62,7 @@ fn supported_row(b: &[u8], cells: &[u16], x: usize) -> usize
 // Label v of x, which its owner deletes unless it is supported.
 fn list_label(b: &[u8], cells: &mut [u16], x: usize, v: usize, supported: bool)
     requires { ⌜ Ready (now b) (now cells) × Listed (now b) x v ⌝ }
-    ensures { λ _. ⌜ memOf (now (cells .exit)) ≡ listLabelM (systemOf (planOf (now (b .entry)))) x v supported (memOf (now (cells .entry))) ⌝ }
+    ensures { λ _. ⌜ memOf (now (cells .exit)) ≡ listLabelM (systemAt (now (b .entry))) x v supported (memOf (now (cells .entry))) ⌝ }
 {
     layout::put(cells, layout::DOMAIN, x, v, layout::LISTED);
     if !supported {
@@ -74,7 +74,7 @@ fn list_label(b: &[u8], cells: &mut [u16], x: usize, v: usize, supported: bool)
 // The values of x, of which the row holds those that are supported.
 fn list_values(b: &[u8], cells: &mut [u16], x: usize, row: usize)
     requires { ⌜ Ready (now b) (now cells) × (x < variableCount (now b)) ⌝ }
-    ensures { λ _. ⌜ memOf (now (cells .exit)) ≡ listValuesM (systemOf (planOf (now (b .entry)))) x row (memOf (now (cells .entry))) ⌝ }
+    ensures { λ _. ⌜ memOf (now (cells .exit)) ≡ listValuesM (systemAt (now (b .entry))) x row (memOf (now (cells .entry))) ⌝ }
 {
     let n = parts::size(b, cells, x);
     let mut v = 0;
@@ -87,7 +87,7 @@ fn list_values(b: &[u8], cells: &mut [u16], x: usize, row: usize)
 // The values of x, once the supports are counted.
 fn list_variable(b: &[u8], cells: &mut [u16], x: usize)
     requires { ⌜ Ready (now b) (now cells) × (x < variableCount (now b)) ⌝ }
-    ensures { λ _. ⌜ memOf (now (cells .exit)) ≡ listVariableM (systemOf (planOf (now (b .entry)))) x (memOf (now (cells .entry))) ⌝ }
+    ensures { λ _. ⌜ memOf (now (cells .exit)) ≡ listVariableM (systemAt (now (b .entry))) x (memOf (now (cells .entry))) ⌝ }
 {
     let row = supported_row(b, cells, x);
     list_values(b, cells, x, row);
@@ -96,7 +96,7 @@ fn list_variable(b: &[u8], cells: &mut [u16], x: usize)
 // The values of all variables.
 fn list_plan(b: &[u8], cells: &mut [u16])
     requires { ⌜ Ready (now b) (now cells) ⌝ }
-    ensures { λ _. ⌜ memOf (now (cells .exit)) ≡ listM (systemOf (planOf (now (b .entry)))) (memOf (now (cells .entry))) ⌝ }
+    ensures { λ _. ⌜ memOf (now (cells .exit)) ≡ listM (systemAt (now (b .entry))) (memOf (now (cells .entry))) ⌝ }
 {
     let n = read::variable_count(b);
     let mut x = 0;
@@ -109,7 +109,7 @@ fn list_plan(b: &[u8], cells: &mut [u16])
 // Loads the plan: the counters, then the domains and the first deletions.
 pub fn load_plan(b: &[u8], cells: &mut [u16])
     requires { ⌜ Ready (now b) (now cells) ⌝ }
-    ensures { λ _. ⌜ memOf (now (cells .exit)) ≡ loadM (systemOf (planOf (now (b .entry)))) (memOf (now (cells .entry))) ⌝ }
+    ensures { λ _. ⌜ memOf (now (cells .exit)) ≡ loadM (systemAt (now (b .entry))) (memOf (now (cells .entry))) ⌝ }
 {
     count_supports(b, cells);
     list_plan(b, cells);

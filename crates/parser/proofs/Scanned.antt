@@ -11,7 +11,7 @@ use lib.ListN.{length, set, getD}
 use lib.Seq.{getD-set-same, getD-set-other}
 use Rattle.base.proofs.Below.{below-cases, first-at, first-more}
 use Rattle.base.specs.Below.{firstBelow}
-use Rattle.format.specs.Format.{behind, sectionStart, variableCount, sectionCount, sizeAt}
+use Rattle.format.specs.Format.{behind, sectionStart, variableCount, sectionCount, numberedSize}
 use Rattle.plan.proofs.Checks.{each-holds}
 use Rattle.plan.proofs.Head.{head-fits}
 use Rattle.plan.proofs.Sections.{passed-before, start-within}
@@ -39,10 +39,10 @@ module _ (b starts : List ℕ) (k : ℕ) (known : PassedBefore b starts k) where
   unfolding sectionChecks
   few-variables h = head-fits b (sectionStart b 0) (passes 0 h) .variables-high
 
-  few-values : (s : ℕ) → 1 ≤ s → s ≤ variableCount b → s < k → sizeAt b s ≤ 16
+  few-values : (s : ℕ) → 1 ≤ s → s ≤ variableCount b → s < k → numberedSize b s ≤ 16
   unfolding sectionChecks variableChecks
   few-values s l h p =
-      leb-true (sizeAt b s) 16
+      leb-true (numberedSize b s) 16
       (each-holds (variableChecks b (sectionStart b s))
       (rw (ne-eqb s 0 (omega arith), le-leb s (variableCount b) h) at (passes s p)) 2)
 

@@ -1,4 +1,4 @@
-// The plan check: from a plan's bytes to its figures, or to its first fault and the fault's place.
+// The plan check: from a plan's bytes to its counts, or to its first fault and the fault's place.
 use plan::Checked;
 use plan::Fault;
 use plan::declined;
@@ -8,7 +8,7 @@ ghost use Rattle.plan.specs.Answer.{planCheck};
 
 mod scan;
 
-// Checks the plan that the bytes hold: its figures, or its first fault and the fault's place.
+// Checks the plan that the bytes hold: its counts, or its first fault and the fault's place.
 pub fn check_plan(plan: &[u8]) -> Checked
     ensures { λ r. ⌜ r ≡ planCheck (now (plan .entry)) ⌝ }
 {

@@ -1,8 +1,8 @@
 // The sections of a plan in turn.
 use format::read;
 use plan::Checked;
+use plan::Counts;
 use plan::Fault;
-use plan::Figures;
 use plan::Verdict;
 use plan::declined;
 use sections::section;
@@ -59,7 +59,7 @@ fn count_labels(b: &[u8], starts: &[usize; 33]) -> usize
     let mut labels = 0;
     let mut x = 0;
     while x < count {
-        labels += variable::size_at(b, starts, x + 1);
+        labels += variable::numbered_size(b, starts, x + 1);
         x += 1;
     }
     labels
@@ -73,7 +73,7 @@ fn check_end(b: &[u8], at: usize, starts: &[usize; 33]) -> Checked
     if at < b.len() {
         return declined(Fault::TrailingBytes, at);
     }
-    Checked::Accepted(Figures {
+    Checked::Accepted(Counts {
         workers: read::worker_count(b),
         variables: read::variable_count(b),
         constraints: read::constraint_count(b),

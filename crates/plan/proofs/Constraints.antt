@@ -11,7 +11,7 @@ use lib.ListN.{length, getD}
 use Rattle.base.proofs.Below.{all-below, length-list-below, getD-list-below}
 use Rattle.base.proofs.Choice.{cond-true, by-test}
 use Rattle.base.specs.Below.{allBelow, listBelow}
-use Rattle.format.specs.Format.{constraintStart, constraintCount, firstAt, secondAt, kindAt, tableRowAt, sizeAt}
+use Rattle.format.specs.Format.{constraintStart, constraintCount, firstAt, secondAt, kindAt, tableRowAt, numberedSize}
 use Rattle.plan.proofs.Checks.{each-holds}
 use Rattle.plan.proofs.InOrder.{InOrder, ordered}
 use Rattle.plan.proofs.Parts.{variables-read, constraint-read, size-read}
@@ -24,7 +24,7 @@ use Rattle.plan.specs.declared.Fault.the-variants.{Truncated}
 
 -- a relation is a table only where the kind is 0, and then its rows are those of the bytes
 table-read : (b : List ℕ) (at : ℕ) (rows : List ℕ) → relationAt b at ≡ table rows
-    → (eqb (kindAt b at) 0 ≡ true) × (rows ≡ listBelow (sizeAt b (firstAt b at)) (tableRowAt b at))
+    → (eqb (kindAt b at) 0 ≡ true) × (rows ≡ listBelow (numberedSize b (firstAt b at)) (tableRowAt b at))
 unfolding relationAt
 table-read b at rows e =
     by-test (eqb (kindAt b at) 0) e (λ p q. (p, cc)) (λ p q. let z : _≡_ {A = ℕ} 0 1 = cc in absurd (omega arith))
@@ -48,28 +48,28 @@ module _ (b : List ℕ) (none-found : planFault b ≡ none) (c : ℕ) (h : c < c
   row-each : (rows : List ℕ) → relationAt b (constraintStart b c) ≡ table rows → (x : ℕ) → first ≡ suc x
       → length rows ≡ sizeOf (planOf b) x
   row-each rows e x p =
-      ap length (table-read b (constraintStart b c) rows e .1) ∙ length-list-below (sizeAt b first) (tableRowAt b (constraintStart b c))
-      ∙ ap (sizeAt b) p ∙ sym (size-read b x (omega (arith, in-order)))
+      ap length (table-read b (constraintStart b c) rows e .1) ∙ length-list-below (numberedSize b first) (tableRowAt b (constraintStart b c))
+      ∙ ap (numberedSize b) p ∙ sym (size-read b x (omega (arith, in-order)))
 
   rows-fit : (rows : List ℕ) → relationAt b (constraintStart b c) ≡ table rows → (y : ℕ) → second ≡ suc y
       → (v : ℕ) → v < length rows → getD rows v 0 < 2 ^ sizeOf (planOf b) y
   unfolding constraintChecks tableFits
   rows-fit rows e y p v q =
-      let is : rows ≡ listBelow (sizeAt b first) (tableRowAt b (constraintStart b c)) = table-read b (constraintStart b c) rows e .1 in
-      let k : v < sizeAt b first =
-      omega (arith, ap length is, length-list-below (sizeAt b first) (tableRowAt b (constraintStart b c))) in
-      let fits : allBelow (sizeAt b first) (λ v. ltb (tableRowAt b (constraintStart b c) v) (2 ^ sizeAt b second)) ≡ true =
+      let is : rows ≡ listBelow (numberedSize b first) (tableRowAt b (constraintStart b c)) = table-read b (constraintStart b c) rows e .1 in
+      let k : v < numberedSize b first =
+      omega (arith, ap length is, length-list-below (numberedSize b first) (tableRowAt b (constraintStart b c))) in
+      let fits : allBelow (numberedSize b first) (λ v. ltb (tableRowAt b (constraintStart b c) v) (2 ^ numberedSize b second)) ≡ true =
       sym
-      (cond-true (allBelow (sizeAt b first) (λ v. ltb (tableRowAt b (constraintStart b c) v) (2 ^ sizeAt b second))) true
+      (cond-true (allBelow (numberedSize b first) (λ v. ltb (tableRowAt b (constraintStart b c) v) (2 ^ numberedSize b second))) true
       (table-read b (constraintStart b c) rows e .0))
       ∙ constraint-holds 5 in
       let row : getD rows v 0 ≡ tableRowAt b (constraintStart b c) v =
-      ap (λ (l : List ℕ). getD l v 0) is ∙ getD-list-below (sizeAt b first) (tableRowAt b (constraintStart b c)) 0 v k in
-      let size : sizeOf (planOf b) y ≡ sizeAt b second =
-      size-read b y (omega (arith, in-order)) ∙ ap (sizeAt b) (sym p) in
+      ap (λ (l : List ℕ). getD l v 0) is ∙ getD-list-below (numberedSize b first) (tableRowAt b (constraintStart b c)) 0 v k in
+      let size : sizeOf (planOf b) y ≡ numberedSize b second =
+      size-read b y (omega (arith, in-order)) ∙ ap (numberedSize b) (sym p) in
       rw (row, size)
-      (ltb-true (tableRowAt b (constraintStart b c) v) (2 ^ sizeAt b second)
-      (all-below (sizeAt b first) (λ v. ltb (tableRowAt b (constraintStart b c) v) (2 ^ sizeAt b second)) fits v k))
+      (ltb-true (tableRowAt b (constraintStart b c) v) (2 ^ numberedSize b second)
+      (all-below (numberedSize b first) (λ v. ltb (tableRowAt b (constraintStart b c) v) (2 ^ numberedSize b second)) fits v k))
 
   -- its variables, its rows and their bits are as the plan asks
   pub constraint-fits : ConstraintFits (planOf b) (constraintOf (planOf b) c)

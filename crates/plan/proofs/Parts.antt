@@ -4,7 +4,7 @@ use mathlib.Core.List.{List}
 use mathlib.Core.Path.{_≡_, _∙_, ap}
 use lib.ListN.{length, getD}
 use Rattle.base.proofs.Below.{length-list-below, getD-list-below}
-use Rattle.format.specs.Format.{sectionStart, constraintStart, variableCount, constraintCount, valueCountAt, sizeAt}
+use Rattle.format.specs.Format.{sectionStart, constraintStart, variableCount, constraintCount, sizeAt, numberedSize}
 use Rattle.plan.specs.Decode.{valueAt, variableAt, constraintAt, planOf}
 use Rattle.plan.specs.Plan.{Variable, noVariable, noValue, noConstraint, variableOf, valueOf, sizeOf, constraintOf}
 
@@ -32,16 +32,16 @@ module _ (b : List ℕ) where
       getD-list-below (constraintCount b) (λ c. constraintAt b (constraintStart b c)) noConstraint c h
 
   -- a variable has as many values as its section gives
-  pub size-read : (x : ℕ) → x < variableCount b → sizeOf (planOf b) x ≡ sizeAt b (suc x)
+  pub size-read : (x : ℕ) → x < variableCount b → sizeOf (planOf b) x ≡ numberedSize b (suc x)
   unfolding sizeOf variableAt
   size-read x h =
       ap (λ (a : Variable). length (a .values)) (variable-read x h)
-      ∙ length-list-below (valueCountAt b (sectionStart b (suc x))) (valueAt b (sectionStart b (suc x)))
+      ∙ length-list-below (sizeAt b (sectionStart b (suc x))) (valueAt b (sectionStart b (suc x)))
 
   -- a value is the code and the figure that its section gives
-  pub value-read : (x : ℕ) → x < variableCount b → (v : ℕ) → v < sizeAt b (suc x)
+  pub value-read : (x : ℕ) → x < variableCount b → (v : ℕ) → v < numberedSize b (suc x)
       → valueOf (planOf b) x v ≡ valueAt b (sectionStart b (suc x)) v
   unfolding valueOf variableAt
   value-read x h v k =
       ap (λ (a : Variable). getD (a .values) v noValue) (variable-read x h)
-      ∙ getD-list-below (valueCountAt b (sectionStart b (suc x))) (valueAt b (sectionStart b (suc x))) noValue v k
+      ∙ getD-list-below (sizeAt b (sectionStart b (suc x))) (valueAt b (sectionStart b (suc x))) noValue v k

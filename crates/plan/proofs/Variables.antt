@@ -12,7 +12,7 @@ use Rattle.base.proofs.Below.{none-below}
 use Rattle.base.proofs.Choice.{between-low, between-high}
 use Rattle.base.specs.Below.{anyBelow}
 use Rattle.base.specs.Choice.{between}
-use Rattle.format.specs.Format.{sectionStart, workerCount, variableCount, valueCountAt, codeAt, sizeAt}
+use Rattle.format.specs.Format.{sectionStart, workerCount, variableCount, sizeAt, codeAt, numberedSize}
 use Rattle.plan.proofs.Checks.{each-holds}
 use Rattle.plan.proofs.Parts.{variable-read, size-read, value-read}
 use Rattle.plan.proofs.Passed.{variable-passed}
@@ -36,18 +36,18 @@ module _ (b : List ℕ) (none-found : planFault b ≡ none) (x : ℕ) (h : x < v
 
   size-range : sizeOf (planOf b) x ≤ 16
   unfolding variableChecks
-  size-range = rw (size-read b x h) (leb-true (valueCountAt b variable-start) 16 (variable-holds 2))
+  size-range = rw (size-read b x h) (leb-true (sizeAt b variable-start) 16 (variable-holds 2))
 
-  code-read : (v : ℕ) → v < sizeAt b (suc x) → valueOf (planOf b) x v .code ≡ codeAt b variable-start v
+  code-read : (v : ℕ) → v < numberedSize b (suc x) → valueOf (planOf b) x v .code ≡ codeAt b variable-start v
   code-read v k = ap (λ (a : Value). a .code) (value-read b x h v k)
 
   codes-differ : (u v : ℕ) → u < v → v < sizeOf (planOf b) x → valueOf (planOf b) x u .code ≡ valueOf (planOf b) x v .code → ⊥
   unfolding variableChecks repeatsCode
   codes-differ u v p q e =
-      let k : v < sizeAt b (suc x) = omega (arith, size-read b x h) in
+      let k : v < numberedSize b (suc x) = omega (arith, size-read b x h) in
       let t : ℕ → ℕ → Bool = λ w u. eqb (codeAt b variable-start u) (codeAt b variable-start w) in
       let none-repeats : anyBelow v (t v) ≡ false =
-      none-below (sizeAt b (suc x)) (λ w. anyBelow w (t w)) (not-true (repeatsCode b variable-start) (variable-holds 5)) v k in
+      none-below (numberedSize b (suc x)) (λ w. anyBelow w (t w)) (not-true (repeatsCode b variable-start) (variable-holds 5)) v k in
       eqb-false (codeAt b variable-start u) (codeAt b variable-start v) (none-below v (t v) none-repeats u p)
       (sym (code-read u (omega arith)) ∙ e ∙ code-read v k)
 

@@ -10,20 +10,20 @@ use Rattle.plan.specs.Plan.{Plan}
 use Rattle.plan.specs.declared.Checked.{Checked}
 use Rattle.plan.specs.declared.Checked.the-variants.{Accepted, Declined}
 use Rattle.plan.specs.declared.Decline.{Decline}
-use Rattle.plan.specs.declared.Figures.{Figures}
+use Rattle.plan.specs.declared.Counts.{Counts}
 
 -- p, n, the number of rules and L
-unfoldable pub figuresOf : Plan → Figures
-figuresOf plan = record {
+unfoldable pub countsOf : Plan → Counts
+countsOf plan = record {
   workers = plan .workers;
   variables = length (plan .variables);
   constraints = length (plan .constraints);
   labels = labelCount (networkOf plan);
 }
 
--- what was decoded, as the plan check's answer: the figures of an accepted plan, or the fault and its place
+-- what was decoded, as the plan check's answer: the counts of an accepted plan, or the fault and its place
 abbrev pub checkedAs : Decoded → Checked
-checkedAs (accepted plan) = Accepted (figuresOf plan)
+checkedAs (accepted plan) = Accepted (countsOf plan)
 checkedAs (declined d) = Declined d
 
 -- the answer of a check that finds this fault, or none

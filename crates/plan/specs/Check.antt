@@ -8,7 +8,7 @@ use lib.ListN.{length}
 use Rattle.base.specs.Below.{allBelow, anyBelow}
 use Rattle.base.specs.Bytes.{wordAt}
 use Rattle.base.specs.Choice.{between}
-use Rattle.format.specs.Format.{behind, sectionStart, workerCount, variableCount, constraintCount, ownerAt, valueCountAt, codeAt, firstAt, secondAt, kindAt, tableRowAt, sizeAt}
+use Rattle.format.specs.Format.{behind, sectionStart, workerCount, variableCount, constraintCount, ownerAt, sizeAt, codeAt, firstAt, secondAt, kindAt, tableRowAt, numberedSize}
 use Rattle.plan.specs.Fault.{decline}
 use Rattle.plan.specs.declared.Decline.{Decline}
 use Rattle.plan.specs.declared.Fault.{Fault}
@@ -47,15 +47,15 @@ headChecks b at =
 
 -- some dish's code stands earlier in the slot
 unfoldable pub repeatsCode : List ℕ → ℕ → Bool
-repeatsCode b at = anyBelow (valueCountAt b at) (λ v. anyBelow v (λ u. eqb (codeAt b at u) (codeAt b at v)))
+repeatsCode b at = anyBelow (sizeAt b at) (λ v. anyBelow v (λ u. eqb (codeAt b at u) (codeAt b at v)))
 
 -- slot: 1, 3 (length under 2), 4, 3, 5, 6
 unfoldable pub variableChecks : List ℕ → ℕ → List Check
 variableChecks b at =
     (complete b at orElse Truncated)
     ∷ (leb 2 (wordAt b at) orElse BadLength)
-    ∷ (leb (valueCountAt b at) 16 orElse BadCount)
-    ∷ (eqb (wordAt b at) (2 + 4 * valueCountAt b at) orElse BadLength)
+    ∷ (leb (sizeAt b at) 16 orElse BadCount)
+    ∷ (eqb (wordAt b at) (2 + 4 * sizeAt b at) orElse BadLength)
     ∷ (between 1 (workerCount b) (ownerAt b at) orElse BadNumber)
     ∷ (not (repeatsCode b at) orElse RepeatedCode)
     ∷ []
@@ -66,13 +66,13 @@ variablesInOrder b at = leb 1 (firstAt b at) && ltb (firstAt b at) (secondAt b a
 
 -- the length that a rule's content calls for
 unfoldable pub constraintLength : List ℕ → ℕ → ℕ
-constraintLength b at = cond (eqb (kindAt b at) 0) (3 + 2 * sizeAt b (firstAt b at)) 5
+constraintLength b at = cond (eqb (kindAt b at) 0) (3 + 2 * numberedSize b (firstAt b at)) 5
 
 -- no bit of a table stands at or past the second slot's count
 unfoldable pub tableFits : List ℕ → ℕ → Bool
 tableFits b at =
     cond (eqb (kindAt b at) 0)
-    (allBelow (sizeAt b (firstAt b at)) (λ v. ltb (tableRowAt b at v) (2 ^ sizeAt b (secondAt b at))))
+    (allBelow (numberedSize b (firstAt b at)) (λ v. ltb (tableRowAt b at v) (2 ^ numberedSize b (secondAt b at))))
     true
 
 -- rule: 1, 3 (length under 3), 7 (kind), 5, 3, 7 (bits)

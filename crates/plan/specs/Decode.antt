@@ -8,7 +8,7 @@ use lib.ListN.{length}
 use Rattle.base.specs.Below.{firstBelow, listBelow}
 use Rattle.base.specs.Bytes.{byteAt}
 use Rattle.base.specs.Choice.{firstOf}
-use Rattle.format.specs.Format.{sectionStart, constraintStart, workerCount, variableCount, constraintCount, sectionCount, ownerAt, valueCountAt, codeAt, figureAt, firstAt, secondAt, kindAt, tableRowAt, limitAt, sizeAt}
+use Rattle.format.specs.Format.{sectionStart, constraintStart, workerCount, variableCount, constraintCount, sectionCount, ownerAt, sizeAt, codeAt, figureAt, firstAt, secondAt, kindAt, tableRowAt, limitAt, numberedSize}
 use Rattle.plan.specs.Check.{sectionFault}
 use Rattle.plan.specs.Fault.{decline}
 use Rattle.plan.specs.Plan.{Value, Variable, Relation, table, sumLimit, Constraint, Plan}
@@ -41,13 +41,13 @@ valueAt b at v = record { code = codeAt b at v; figure = figureAt b at v }
 unfoldable pub variableAt : List ℕ → ℕ → Variable
 variableAt b at = record {
   owner = ownerAt b at;
-  values = listBelow (valueCountAt b at) (valueAt b at);
+  values = listBelow (sizeAt b at) (valueAt b at);
 }
 
 -- what the rule says whose section starts at `at`: kind 0 is a table, kind 1 a sodium rule
 unfoldable pub relationAt : List ℕ → ℕ → Relation
 relationAt b at =
-    cond (eqb (kindAt b at) 0) (table (listBelow (sizeAt b (firstAt b at)) (tableRowAt b at))) (sumLimit (limitAt b at))
+    cond (eqb (kindAt b at) 0) (table (listBelow (numberedSize b (firstAt b at)) (tableRowAt b at))) (sumLimit (limitAt b at))
 
 -- the rule whose section starts at `at`
 unfoldable pub constraintAt : List ℕ → ℕ → Constraint

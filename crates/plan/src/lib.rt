@@ -43,7 +43,7 @@ pub struct Decline {
 }
 
 // What the plan check returns on success: p, n, the number of rules and L.
-pub struct Figures {
+pub struct Counts {
     pub workers: usize,
     pub variables: usize,
     pub constraints: usize,
@@ -52,7 +52,7 @@ pub struct Figures {
 
 // The plan check's answer.
 pub enum Checked {
-    Accepted(Figures),
+    Accepted(Counts),
     Declined(Decline),
 }
 

@@ -16,9 +16,8 @@ use Rattle.cells.specs.Memory.{memOf}
 use Rattle.controller.specs.Controller.{Machine, machine}
 use Rattle.disac4.proofs.Fold.{after-idle}
 use Rattle.disac4.specs.Fold.{isSome}
-use Rattle.disac4.specs.Outcome.{systemAt}
 use Rattle.disac4.specs.Report.{isSend, isPoll}
-use Rattle.disac4.specs.System.{System}
+use Rattle.disac4.specs.System.{System, systemAt}
 use Rattle.disac4.specs.Turn.{turn, allowed}
 use Rattle.disac4.specs.declared.Tally.{Tally}
 use Rattle.engine.proofs.Advancing.{advanced}

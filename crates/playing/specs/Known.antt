@@ -5,11 +5,11 @@ use mathlib.Core.Option.{none}
 use mathlib.Core.Path.{_≡_}
 use lib.ListN.{length}
 use Rattle.controller.specs.Controller.{Machine, machine}
-use Rattle.disac4.specs.Outcome.{systemAt}
 use Rattle.disac4.specs.Turn.{turn}
 use Rattle.disac4.specs.declared.Tally.{Tally}
 use Rattle.flags.specs.Flags.{actors, actions, cellCount, cellAt}
 use Rattle.refinement.specs.Step.{stepM}
+use Rattle.disac4.specs.System.{systemAt}
 
 -- the action `d` of actor `k` is idle
 abbrev pub Idle : List ℕ → Machine → ℕ → ℕ → Type 0

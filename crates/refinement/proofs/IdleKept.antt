@@ -9,7 +9,7 @@ use Rattle.base.proofs.Bools.{clash, and-intro, or-false-left, or-false-right}
 use Rattle.disac4.proofs.Fold.{after-keeps}
 use Rattle.disac4.proofs.Idle.{idle-still}
 use Rattle.disac4.specs.System.{System}
-use Rattle.disac4.specs.Turn.{Turn, treatNumber}
+use Rattle.disac4.specs.Turn.{Turn, treatAction}
 use Rattle.controller.specs.Controller.{Machine}
 use Rattle.refinement.proofs.Refined.{Refines, refined}
 use Rattle.refinement.proofs.ViewParts.{mapO}
@@ -20,22 +20,22 @@ use Rattle.refinement.specs.Step.{stepM, afterM}
 
 module _ (t u : Turn) (apart : enables t u ≡ false) where
   -- a turn of the same actor that is not enabled is another read
-  another-read : u .actor ≡ t .actor → (u .action ≡ t .action → ⊥) × (u .action < treatNumber)
+  another-read : u .actor ≡ t .actor → (u .action ≡ t .action → ⊥) × (u .action < treatAction)
   unfolding enables
   another-read e =
       let other = or-false-left _ _ (rw (eq-eqb (u .actor) (t .actor) e) at apart) in (
         eqb-false (u .action) (t .action) (or-false-left _ _ other),
-        leb-false treatNumber (u .action) (or-false-right (eqb (u .action) (t .action)) _ other),
+        leb-false treatAction (u .action) (or-false-right (eqb (u .action) (t .action)) _ other),
       )
 
   -- and it does not read from an actor that has sent something
-  another-sender : treatNumber < t .action → u .action ≡ t .actor → ⊥
+  another-sender : treatAction < t .action → u .action ≡ t .actor → ⊥
   unfolding enables
   another-sender h e =
-      clash (and-intro (lt-ltb treatNumber (t .action) h) (eq-eqb (u .action) (t .actor) e))
+      clash (and-intro (lt-ltb treatAction (t .action) h) (eq-eqb (u .action) (t .actor) e))
       (or-false-right
       ((eqb (u .actor) (t .actor) && eqb (u .action) (t .action))
-      || (eqb (u .actor) (t .actor) && leb treatNumber (u .action)))
+      || (eqb (u .actor) (t .actor) && leb treatAction (u .action)))
       _ apart)
 
 -- an idle turn that another turn does not enable is idle after it

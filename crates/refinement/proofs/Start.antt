@@ -9,8 +9,7 @@ use borrow.Author.Tests.{lt-ltb}
 use Rattle.base.proofs.Choice.{cond-true}
 use Rattle.disac4.proofs.Demands.{plan-sound}
 use Rattle.disac4.specs.Loading.{load}
-use Rattle.disac4.specs.Outcome.{systemAt}
-use Rattle.disac4.specs.System.{systemOf}
+use Rattle.disac4.specs.System.{systemOf, systemAt}
 use Rattle.index.proofs.Chains.{indexed, index-keeps, indexed-kept}
 use Rattle.refinement.proofs.LoadKeeps.{load-starts}
 use Rattle.index.proofs.Pairing.{paired}
@@ -32,7 +31,7 @@ use Rattle.plan.specs.WellFormed.{WellFormed}
 module _ (b : List ℕ) (sound : planFault b ≡ none) where
   -- its system fits the regions
   pub fits-regions : Small (systemAt b)
-  unfolding systemAt systemOf networkOf
+  unfolding systemOf networkOf
   fits-regions =
       let fits : WellFormed (planOf b) = well-formed b (planOf b) (decoded b sound) in
       record {
@@ -59,12 +58,12 @@ module _ (b : List ℕ) (sound : planFault b ≡ none) where
     blank r i j h = index-keeps b (clearedM m) r (inl h) i j ∙ cleared-low r i j (omega arith)
 
     pub start-inv : Inv (systemAt b) (startM b m)
-    unfolding systemAt startM
-    start-inv = load-starts (systemOf (planOf b)) fits-regions ground (paired b sound ground ground-indexed) blank
+    unfolding startM
+    start-inv = load-starts (systemAt b) fits-regions ground (paired b sound ground ground-indexed) blank
 
     pub start-view : viewOf (systemAt b) (startM b m) ≡ load (systemAt b)
-    unfolding systemAt startM
-    start-view = load-refines (systemOf (planOf b)) fits-regions ground (paired b sound ground ground-indexed) blank
+    unfolding startM
+    start-view = load-refines (systemAt b) fits-regions ground (paired b sound ground ground-indexed) blank
 
     -- loading leaves the index alone, and the cells behind
     load-static : (r i j : ℕ) → HEADS ≤ r → loadM (systemAt b) ground r i j ≡ ground r i j

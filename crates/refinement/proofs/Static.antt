@@ -10,7 +10,7 @@ use lib.Dec.{ltb, eqb}
 use Rattle.disac4.proofs.Fold.{play-keeps}
 use Rattle.disac4.specs.Fold.{afterBy}
 use Rattle.disac4.specs.System.{System}
-use Rattle.disac4.specs.Turn.{Turn, pollNumber, allowed}
+use Rattle.disac4.specs.Turn.{Turn, pollAction, allowed}
 use Rattle.disac4.specs.declared.Tally.{Tally}
 use Rattle.cells.proofs.Stores.{store-apart, copy-other}
 use Rattle.cells.specs.Layout.{WORKERS, CURSORS, BOUNDS, WORK, OUT, WANTED, HEADS, HEAD, POLLS}
@@ -96,7 +96,7 @@ module _ (r a b : ℕ) (h : HEADS ≤ r) where
   step-kept sys s t =
       kept-if (s .tally .closed || not (allowed (sys .workers) t)) idle
       (kept-if (eqb (t .actor) 0)
-      (kept-if (eqb (t .action) pollNumber) (kept-if (asksT (s .tally)) (agrees (rw (far WANTED (omega arith)))) idle)
+      (kept-if (eqb (t .action) pollAction) (kept-if (asksT (s .tally)) (agrees (rw (far WANTED (omega arith)))) idle)
       (kept-if (hasOut (t .action - 1) (s .tally) (s .mem)) (agrees (rw (far WORKERS (omega arith)))) idle))
       (with-kept (s .tally) (s .mem) (workerM sys (t .actor - 1) (t .action) s) (worker-kept sys (t .actor - 1) (t .action) s)))
 

@@ -10,7 +10,7 @@ use Rattle.base.proofs.Bools.{or-false-right}
 use Rattle.base.proofs.Choice.{by-test, none≢some, unless-some, some-same}
 use Rattle.disac4.proofs.Allowed.{reads-other, reads-worker, worker-does, controller-does}
 use Rattle.disac4.specs.System.{System}
-use Rattle.disac4.specs.Turn.{Turn, treatNumber, sendNumber, answerNumber, pollNumber, workerMay, allowed}
+use Rattle.disac4.specs.Turn.{Turn, treatAction, sendAction, answerAction, pollAction, workerMay, allowed}
 use Rattle.cells.specs.Memory.{Mem}
 use Rattle.controller.specs.Controller.{Machine}
 use Rattle.refinement.specs.Step.{withMem, readM, workerM, stepM}
@@ -30,9 +30,9 @@ module _ (sys : System) (small : Small sys) (s : Machine) (inv : Inv sys s) wher
       → Inv sys (record { mem = m′; tally = s .tally })
   unfolding workerM readM
   worker-keeps i d m′ h may e =
-      by-test (eqb d treatNumber) e (λ p. treat-keeps sys small s inv i h m′) (λ n₁ e₁.
-      by-test (eqb d sendNumber) e₁ (λ p. send-keeps sys (s .mem) m′ (s .tally) i inv h) (λ n₂ e₂.
-      by-test (eqb d answerNumber) e₂ (λ p. answer-keeps sys (s .mem) m′ (s .tally) i inv h) (λ n₃ e₃.
+      by-test (eqb d treatAction) e (λ p. treat-keeps sys small s inv i h m′) (λ n₁ e₁.
+      by-test (eqb d sendAction) e₁ (λ p. send-keeps sys (s .mem) m′ (s .tally) i inv h) (λ n₂ e₂.
+      by-test (eqb d answerAction) e₂ (λ p. answer-keeps sys (s .mem) m′ (s .tally) i inv h) (λ n₃ e₃.
       by-test (eqb d 0) e₃ (λ p. read-poll-keeps sys (s .mem) m′ (s .tally) i inv h) (λ n₄ e₄.
       let other = reads-other (sys .workers) (suc i) d may n₁ n₂ n₃ in
       let some-row : 0 < d = omega (arith, eqb-false d 0 n₄) in
@@ -53,7 +53,7 @@ module _ (sys : System) (small : Small sys) (s : Machine) (inv : Inv sys s) wher
       not-false (allowed (sys .workers) t) (or-false-right (s .tally .closed) (not (allowed (sys .workers) t)) (e₁ .0)) in
       by-test (eqb (t .actor) 0) (e₁ .1)
       (λ c e₂.
-      by-test (eqb (t .action) pollNumber) e₂ (λ p. poll-keeps sys s s′ inv)
+      by-test (eqb (t .action) pollAction) e₂ (λ p. poll-keeps sys s s′ inv)
       (λ n.
       let may = reads-worker (sys .workers) (t .action) (controller-does (sys .workers) t ok c) n in
       hear-keeps sys s s′ (t .action - 1) inv (omega arith)))

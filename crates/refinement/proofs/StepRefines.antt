@@ -12,7 +12,7 @@ use Rattle.disac4.proofs.Allowed.{reads-other, reads-worker, worker-does, contr
 use Rattle.disac4.specs.Action.{readWorker, readController}
 use Rattle.disac4.specs.State.{State}
 use Rattle.disac4.specs.System.{System}
-use Rattle.disac4.specs.Turn.{Turn, treatNumber, sendNumber, answerNumber, pollNumber, workerMay, controllerMay, allowed, workerStep, controllerStep, step}
+use Rattle.disac4.specs.Turn.{Turn, treatAction, sendAction, answerAction, pollAction, workerMay, controllerMay, allowed, workerStep, controllerStep, step}
 use Rattle.cells.specs.Memory.{Mem}
 use Rattle.reads.specs.Reads.{readPollM, readListM}
 use Rattle.controller.specs.Controller.{Machine, hearM, pollM}
@@ -54,10 +54,10 @@ module _ (sys : System) (small : Small sys) (s : Machine) (inv : Inv sys s) wher
 
   -- the controller acts
   controller-refines : (d : ℕ) → controllerMay (sys .workers) d ≡ true
-      → mapO (viewOf sys) (cond (eqb d pollNumber) (pollM s) (hearM sys (d - 1) s)) ≡ controllerStep sys d st
+      → mapO (viewOf sys) (cond (eqb d pollAction) (pollM s) (hearM sys (d - 1) s)) ≡ controllerStep sys d st
   unfolding controllerStep
   controller-refines d may =
-      mapO-cond (viewOf sys) (eqb d pollNumber) _ _ _ _ (λ p. ask-refines sys small s inv)
+      mapO-cond (viewOf sys) (eqb d pollAction) _ _ _ _ (λ p. ask-refines sys small s inv)
       (λ p.
       let from = reads-worker (sys .workers) d may p in
       heard (from .0) (from .1))
@@ -72,9 +72,9 @@ module _ (sys : System) (small : Small sys) (s : Machine) (inv : Inv sys s) wher
       → mapO seen (workerM sys i d s) ≡ workerStep sys (suc i) d st
   unfolding workerM workerStep
   worker-refines i d h may =
-      mapO-cond seen (eqb d treatNumber) _ _ _ _ (λ p. treat-refines sys small s inv i h)
-      (λ p. mapO-cond seen (eqb d sendNumber) _ _ _ _ (λ q. send-refines sys small s inv i h)
-      (λ q. mapO-cond seen (eqb d answerNumber) _ _ _ _ (λ r. answer-refines sys small s inv i h)
+      mapO-cond seen (eqb d treatAction) _ _ _ _ (λ p. treat-refines sys small s inv i h)
+      (λ p. mapO-cond seen (eqb d sendAction) _ _ _ _ (λ q. send-refines sys small s inv i h)
+      (λ q. mapO-cond seen (eqb d answerAction) _ _ _ _ (λ r. answer-refines sys small s inv i h)
       (λ r.
       let other = reads-other (sys .workers) (suc i) d may p q r in
       read-refines i d h (other .0) (other .1))))
@@ -98,7 +98,7 @@ module _ (sys : System) (small : Small sys) (s : Machine) (inv : Inv sys s) wher
       acts : allowed (sys .workers) u ≡ true
           → mapO (viewOf sys)
           (cond (eqb (u .actor) 0)
-          (cond (eqb (u .action) pollNumber) (pollM s) (hearM sys (u .action - 1) s))
+          (cond (eqb (u .action) pollAction) (pollM s) (hearM sys (u .action - 1) s))
           (withMem (s .tally) (workerM sys (u .actor - 1) (u .action) s)))
           ≡ cond (eqb (u .actor) 0) (controllerStep sys (u .action) st) (workerStep sys (u .actor) (u .action) st)
       acts ok =

@@ -7,14 +7,13 @@ use mathlib.Core.Path.{_≡_, sym, _∙_, ap, subst}
 use native.Mathlib.Omega.{arith}
 use lib.ListN.{length}
 use Rattle.base.specs.Below.{one}
-use Rattle.disac4.proofs.FiguresFit.{figures-fit}
+use Rattle.disac4.proofs.RunFits.{run-fits}
 use Rattle.disac4.proofs.Fold.{play-next, count-next}
 use Rattle.disac4.specs.Fold.{isSome}
 use Rattle.disac4.specs.Loading.{load}
-use Rattle.disac4.specs.Outcome.{systemAt}
 use Rattle.disac4.specs.Report.{isSend, isPoll, final}
 use Rattle.disac4.specs.State.{State}
-use Rattle.disac4.specs.System.{System}
+use Rattle.disac4.specs.System.{System, systemAt}
 use Rattle.disac4.specs.Turn.{Turn, play, changesWhere}
 use Rattle.index.proofs.Chains.{indexed-kept}
 use Rattle.refinement.proofs.Refined.{Refines, refined}
@@ -86,9 +85,8 @@ module _ (b : List ℕ) (sound : planFault b ≡ none) where
 
     -- and far below what a number can hold
     pub under-small : (g .changes < 65536) × (g .sends < 65536) × (g .polls < 65536)
-    unfolding systemAt
     under-small =
-        let f = figures-fit b (planOf b) (decoded b sound) ts in (
+        let f = run-fits b (planOf b) (decoded b sound) ts in (
           omega (arith, under-changes, f .turns, f .bound),
           omega (arith, under-sends, f .sends),
           omega (arith, under-polls, f .polls),

@@ -6,10 +6,10 @@ use mathlib.Core.Option.{Option, none}
 use mathlib.Core.Path.{_≡_}
 use lib.ListN.{length, replicate}
 use Rattle.disac4.specs.Fold.{playBy, countBy}
-use Rattle.disac4.specs.Outcome.{overwrite, workNeed, systemAt}
+use Rattle.disac4.specs.Outcome.{overwrite, workNeed}
 use Rattle.disac4.specs.Report.{final, isPoll, isSend, listCells, lowestEmpty, reportOf, statusOf}
 use Rattle.disac4.specs.State.{State}
-use Rattle.disac4.specs.System.{System}
+use Rattle.disac4.specs.System.{System, systemAt}
 use Rattle.disac4.specs.Turn.{Turn, turn}
 use Rattle.disac4.specs.declared.Report.{Report}
 use Rattle.disac4.specs.declared.Tally.{Tally}

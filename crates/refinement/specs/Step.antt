@@ -5,7 +5,7 @@ use mathlib.Core.Option.{Option, none, some}
 use lib.Dec.{eqb}
 use Rattle.disac4.specs.Fold.{afterBy}
 use Rattle.disac4.specs.System.{System}
-use Rattle.disac4.specs.Turn.{Turn, treatNumber, sendNumber, answerNumber, pollNumber, allowed}
+use Rattle.disac4.specs.Turn.{Turn, treatAction, sendAction, answerAction, pollAction, allowed}
 use Rattle.disac4.specs.declared.Tally.{Tally}
 use Rattle.controller.specs.Controller.{Machine, pollM, hearM}
 use Rattle.cells.specs.Memory.{Mem}
@@ -25,15 +25,15 @@ readM d i s = cond (eqb d 0) (readPollM i (s .tally .timestamp .0) (s .mem)) (re
 -- the action `d` of row `i`
 unfoldable pub workerM : System → ℕ → ℕ → Machine → Option Mem
 workerM sys i d s =
-    cond (eqb d treatNumber) (treatM sys i (s .mem))
-    (cond (eqb d sendNumber) (sendM i (s .mem)) (cond (eqb d answerNumber) (answerM i (s .mem)) (readM d i s)))
+    cond (eqb d treatAction) (treatM sys i (s .mem))
+    (cond (eqb d sendAction) (sendM i (s .mem)) (cond (eqb d answerAction) (answerM i (s .mem)) (readM d i s)))
 
 -- a turn: the machine after, or nothing where it is idle
 unfoldable pub stepM : System → Machine → Turn → Option Machine
 stepM sys s t =
     cond (s .tally .closed || not (allowed (sys .workers) t)) none
     (cond (eqb (t .actor) 0)
-    (cond (eqb (t .action) pollNumber) (pollM s) (hearM sys (t .action - 1) s))
+    (cond (eqb (t .action) pollAction) (pollM s) (hearM sys (t .action - 1) s))
     (withMem (s .tally) (workerM sys (t .actor - 1) (t .action) s)))
 
 -- the machine after a turn

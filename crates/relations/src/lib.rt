@@ -5,7 +5,7 @@ use plan::Fault;
 use plan::Verdict;
 use reader::word_at;
 use sections::section;
-use sections::variable::size_at;
+use sections::variable::numbered_size;
 ghost use mathlib.Core.Path.{_≡_};
 ghost use mathlib.Core.Bool.{true};
 ghost use Prim.Native.Nat.{_≤_, _<_, _^_};
@@ -38,7 +38,7 @@ fn constraint_length(b: &[u8], at: usize, starts: &[usize; 33]) -> usize
     ensures { λ r. ⌜ r ≡ constraintLength (now (b .entry)) at ⌝ }
 {
     if constraints::kind(b, at) == 0 {
-        3 + 2 * size_at(b, starts, constraints::first(b, at))
+        3 + 2 * numbered_size(b, starts, constraints::first(b, at))
     } else {
         5
     }
@@ -68,8 +68,8 @@ fn table_fits(b: &[u8], at: usize, starts: &[usize; 33]) -> bool
     if constraints::kind(b, at) != 0 {
         return true;
     }
-    let rows = size_at(b, starts, constraints::first(b, at));
-    let width = size_at(b, starts, constraints::second(b, at));
+    let rows = numbered_size(b, starts, constraints::first(b, at));
+    let width = numbered_size(b, starts, constraints::second(b, at));
     rows_fit(b, at, rows, width)
 }
 

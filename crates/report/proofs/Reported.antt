@@ -17,7 +17,7 @@ use Rattle.base.specs.Below.{anyBelow, listBelow, firstBelow}
 use Rattle.base.specs.Row.{rowOf}
 use Rattle.disac4.specs.Outcome.{overwrite}
 use Rattle.disac4.specs.Report.{lowestEmpty, statusOf, listCells}
-use Rattle.disac4.specs.System.{systemOf}
+use Rattle.disac4.specs.System.{systemOf, systemAt}
 use Rattle.disac4.specs.declared.Report.{Report}
 use Rattle.disac4.specs.declared.Status.{Status}
 use Rattle.disac4.specs.declared.Status.the-variants.{Open, Closed, Bare}
@@ -58,7 +58,7 @@ module _ (b : List ℕ) (m : Mem) (k : ℕ) (lists : List ℕ) where
       ∙ ap (λ (n : ℕ). listBelow n (domainRow b m) ++ drop (k + 1) lists) (sym (add-one k))
 
   pub rows-all : k ≡ variableCount b → (t : Tally)
-      → rowsBefore b m k lists ≡ overwrite (listCells (systemOf (planOf b)) (view (systemOf (planOf b)) m t)) lists
+      → rowsBefore b m k lists ≡ overwrite (listCells (systemAt b) (view (systemAt b) m t)) lists
   unfolding listCells systemOf networkOf view
   rows-all e t =
       written-all (listBelow k (domainRow b m)) k (length-list-below k (domainRow b m)) lists
@@ -97,13 +97,13 @@ emptyAt b m x = cond (anyBelow (sizeOf (planOf b) x) (isListed m x)) none (some 
 
 module _ (b : List ℕ) (m : Mem) (x : ℕ) (before : firstBelow x (emptyAt b m) ≡ none) where
   empty-view : (t : Tally)
-      → lowestEmpty (systemOf (planOf b)) (view (systemOf (planOf b)) m t)
+      → lowestEmpty (systemAt b) (view (systemAt b) m t)
       ≡ Option·getD (firstBelow (variableCount b) (emptyAt b m)) 0
   unfolding lowestEmpty systemOf networkOf view
   empty-view t = ap (λ (n : ℕ). Option·getD (firstBelow n (emptyAt b m)) 0) (variables-read b)
 
   pub empty-here : x < variableCount b → domainRow b m x ≡ 0 → (t : Tally)
-      → x + 1 ≡ lowestEmpty (systemOf (planOf b)) (view (systemOf (planOf b)) m t)
+      → x + 1 ≡ lowestEmpty (systemAt b) (view (systemAt b) m t)
   empty-here h e t =
       add-one x
       ∙ ap (λ (o : Option ℕ). Option·getD o 0)
@@ -117,7 +117,7 @@ module _ (b : List ℕ) (m : Mem) (x : ℕ) (before : firstBelow x (emptyAt b m)
       (cond-true none (some (suc x)) (row-some (sizeOf (planOf b) x) (isListed m x) h))
 
   pub empty-nowhere : x ≡ variableCount b → (t : Tally)
-      → 0 ≡ lowestEmpty (systemOf (planOf b)) (view (systemOf (planOf b)) m t)
+      → 0 ≡ lowestEmpty (systemAt b) (view (systemAt b) m t)
   empty-nowhere e t =
       ap (λ (o : Option ℕ). Option·getD o 0) (sym before)
       ∙ ap (λ (n : ℕ). Option·getD (firstBelow n (emptyAt b m)) 0) e
@@ -130,8 +130,8 @@ reported g s e = record { status = s; changes = g .changes; sends = g .sends; po
 
 pub report-law : (b : List ℕ) (m : Mem) (g : Progress) (s : Status) (e : ℕ)
     → s ≡ cond (g .tally .closed) (cond (eqb e 0) Closed Bare) Open
-    → e ≡ lowestEmpty (systemOf (planOf b)) (view (systemOf (planOf b)) m (g .tally))
-    → reported g s e ≡ reportM (systemOf (planOf b)) m g
+    → e ≡ lowestEmpty (systemAt b) (view (systemAt b) m (g .tally))
+    → reported g s e ≡ reportM (systemAt b) m g
 unfolding reportM statusOf view
 report-law b m g s e p q =
     ap₂ (reported g) (p ∙ ap (λ (n : ℕ). cond (g .tally .closed) (cond (eqb n 0) Closed Bare) Open) q) q

@@ -13,7 +13,7 @@ ghost use lib.ListN.{length};
 ghost use Rattle.base.specs.Row.{rowOf};
 ghost use Rattle.disac4.specs.Outcome.{overwrite};
 ghost use Rattle.disac4.specs.Report.{lowestEmpty, listCells};
-ghost use Rattle.disac4.specs.System.{systemOf};
+ghost use Rattle.disac4.specs.System.{systemAt};
 ghost use Rattle.disac4.specs.declared.Tally.{Tally};
 ghost use Rattle.index.specs.Index.{Ready};
 ghost use Rattle.cells.specs.Layout.{DOMAIN};
@@ -36,7 +36,7 @@ fn domain_row(b: &[u8], cells: &[u16], x: usize) -> usize
 // Puts each variable's row into its list cell; the cells behind keep what they had.
 pub fn write_lists(b: &[u8], cells: &[u16], lists: &mut [u16])
     requires { ⌜ Ready (now b) (now cells) × (32 ≤ length (now lists)) ⌝ }
-    ensures { λ _. ⌜ ((t : Tally) → now (lists .exit) ≡ overwrite (listCells (systemOf (planOf (now (b .entry)))) (view (systemOf (planOf (now (b .entry)))) (memOf (now (cells .entry))) t)) (now (lists .entry))) ⌝ }
+    ensures { λ _. ⌜ ((t : Tally) → now (lists .exit) ≡ overwrite (listCells (systemAt (now (b .entry))) (view (systemAt (now (b .entry))) (memOf (now (cells .entry))) t)) (now (lists .entry))) ⌝ }
 {
     let variables = read::variable_count(b);
     let mut x = 0;
@@ -49,7 +49,7 @@ pub fn write_lists(b: &[u8], cells: &[u16], lists: &mut [u16])
 // One more than the lowest variable whose domain is empty, 0 for none.
 fn lowest_empty(b: &[u8], cells: &[u16]) -> usize
     requires { ⌜ Ready (now b) (now cells) ⌝ }
-    ensures { λ r. ⌜ ((t : Tally) → r ≡ lowestEmpty (systemOf (planOf (now (b .entry)))) (view (systemOf (planOf (now (b .entry)))) (memOf (now (cells .entry))) t)) × (r ≤ 32) ⌝ }
+    ensures { λ r. ⌜ ((t : Tally) → r ≡ lowestEmpty (systemAt (now (b .entry))) (view (systemAt (now (b .entry))) (memOf (now (cells .entry))) t)) × (r ≤ 32) ⌝ }
 {
     let variables = read::variable_count(b);
     let mut x = 0;
@@ -80,7 +80,7 @@ fn status_of(closed: bool, empty: usize) -> Status
 // The report of a run that has come so far.
 pub fn report(b: &[u8], cells: &[u16], g: Progress) -> Report
     requires { ⌜ Ready (now b) (now cells) ⌝ }
-    ensures { λ r. ⌜ r ≡ reportM (systemOf (planOf (now (b .entry)))) (memOf (now (cells .entry))) g ⌝ }
+    ensures { λ r. ⌜ r ≡ reportM (systemAt (now (b .entry))) (memOf (now (cells .entry))) g ⌝ }
 {
     let tally = g.tally;
     let empty = lowest_empty(b, cells);

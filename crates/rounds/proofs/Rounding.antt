@@ -9,11 +9,10 @@ use Rattle.disac4.proofs.Potential.{potential}
 use Rattle.disac4.proofs.RoundRun.{Reached, roundOn}
 use Rattle.disac4.specs.Fold.{playBy}
 use Rattle.disac4.specs.Loading.{load}
-use Rattle.disac4.specs.Outcome.{systemAt}
 use Rattle.disac4.specs.Report.{final}
 use Rattle.disac4.specs.Round.{round, roundRunTurns}
 use Rattle.disac4.specs.State.{State}
-use Rattle.disac4.specs.System.{System, Sound}
+use Rattle.disac4.specs.System.{System, Sound, systemAt}
 use Rattle.disac4.specs.Turn.{Turn, step, play}
 use Rattle.rounds.proofs.RoundsLeft.{left, left-loaded, left-closed, left-lowers, left-open}
 use Rattle.engine.proofs.RunLaws.{workers-are}

@@ -4,7 +4,8 @@ use mathlib.Core.List.{List, []}
 use mathlib.Core.Option.{none}
 use mathlib.Core.Path.{_≡_, refl, _∙_, ap}
 use lib.ListN.{length}
-use Rattle.disac4.specs.Outcome.{Gives, played, systemAt}
+use Rattle.disac4.specs.Outcome.{Gives, played}
+use Rattle.disac4.specs.System.{systemAt}
 use Rattle.disac4.specs.Turn.{Turn}
 use Rattle.disac4.specs.declared.Answer.the-variants.{Reported}
 use Rattle.disac4.specs.declared.Report.{Report}

@@ -3,11 +3,11 @@ use Prim.Native.Nat.{ℕ, _≤_}
 use mathlib.Core.List.{List}
 use mathlib.Core.Path.{_≡_}
 use lib.ListN.{length, getD}
-use Rattle.format.specs.Format.{sectionStart, variableCount, sizeAt}
+use Rattle.format.specs.Format.{sectionStart, variableCount, numberedSize}
 
 -- the variables' sections passed, and `starts` has their places
 pub record VariablesKnown (b starts : List ℕ) : Type 0 where
   pub few : variableCount b ≤ 32
   pub found : (s : ℕ) → s ≤ variableCount b → getD starts s 0 ≡ sectionStart b s
   pub within : (s : ℕ) → s ≤ variableCount b → sectionStart b s ≤ length b
-  pub small : (s : ℕ) → 1 ≤ s → s ≤ variableCount b → sizeAt b s ≤ 16
+  pub small : (s : ℕ) → 1 ≤ s → s ≤ variableCount b → numberedSize b s ≤ 16

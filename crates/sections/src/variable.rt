@@ -9,7 +9,7 @@ ghost use mathlib.Core.Path.{_≡_};
 ghost use Prim.Native.Nat.{_≤_};
 ghost use lib.ListN.{length};
 ghost use Rattle.plan.specs.Check.{repeatsCode, variableChecks, firstFault, verdictOf};
-ghost use Rattle.format.specs.Format.{variableCount, sizeAt};
+ghost use Rattle.format.specs.Format.{variableCount, numberedSize};
 ghost use Rattle.sections.specs.Known.{VariablesKnown};
 
 // Some value's code stands earlier in the section: the scan ends at the first such value.
@@ -64,9 +64,9 @@ pub fn check_variable(b: &[u8], at: usize) -> Verdict
 }
 
 // How many values the variable with number s has, from 1; `starts` has the places of the sections.
-pub fn size_at(b: &[u8], starts: &[usize; 33], s: usize) -> usize
+pub fn numbered_size(b: &[u8], starts: &[usize; 33], s: usize) -> usize
     requires { ⌜ VariablesKnown (now b) (now starts) × (1 ≤ s) × (s ≤ variableCount (now b)) ⌝ }
-    ensures { λ r. ⌜ (r ≡ sizeAt (now (b .entry)) s) × (r ≤ 16) ⌝ }
+    ensures { λ r. ⌜ (r ≡ numberedSize (now (b .entry)) s) × (r ≤ 16) ⌝ }
 {
     read::size(b, starts[s])
 }

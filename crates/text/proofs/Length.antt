@@ -19,9 +19,9 @@ use Rattle.format.specs.Format.{sectionStart}
 use Rattle.plan.specs.Plan.{Plan, Value, variableOf, valueOf, sizeOf}
 use Rattle.plan.specs.WellFormed.{WellFormed}
 use Rattle.plan.specs.declared.Decline.{Decline}
-use Rattle.disac4.proofs.FiguresFit.{FiguresFit, figures-fit}
-use Rattle.disac4.specs.Outcome.{systemAt}
+use Rattle.disac4.proofs.RunFits.{RunFits, run-fits}
 use Rattle.disac4.specs.Report.{reportOf}
+use Rattle.disac4.specs.System.{systemAt}
 use Rattle.disac4.specs.Turn.{Turn}
 use Rattle.disac4.specs.declared.Answer.the-variants.{Reported, Declined}
 use Rattle.disac4.specs.declared.Report.{Report}
@@ -135,10 +135,10 @@ module _ (b lists : List ℕ) where
 -- the text of a run's report, whatever its turns
 pub run-short : (b lists : List ℕ) (plan : Plan) → decode b ≡ accepted plan → ((i : ℕ) → byteAt b i < 256) → (ts : List Turn)
     → length (printed (Reported (reportOf (systemAt b) ts)) b lists) ≤ 4096
-unfolding systemAt reportOf
+unfolding reportOf
 run-short b lists plan e bytes ts =
     let read = decode-plan b plan e in
-    let fit : FiguresFit (systemAt b) ts = rw (read .1) at (figures-fit b plan e ts) in
+    let fit : RunFits (systemAt b) ts = rw (read .1) at (run-fits b plan e ts) in
     report-short b lists (read .0) bytes (reportOf (systemAt b) ts)
     (record {
       changes = omega (arith, fit .turns, fit .bound);

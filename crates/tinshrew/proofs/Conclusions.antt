@@ -14,14 +14,15 @@ use Rattle.base.proofs.Each.{each-all, each-gather}
 use Rattle.base.proofs.Row.{row-bit}
 use Rattle.base.specs.Choice.{allOf, firstOf}
 use Rattle.base.specs.Row.{bit, rowOf}
-use Rattle.calls.proofs.Checked.{plan-check, no-fault, its-fault, its-figures}
+use Rattle.calls.proofs.Checked.{plan-check, no-fault, its-fault, its-counts}
 use Rattle.disac4.proofs.Demands.{demand2, demand3, round-closes-plan}
 use Rattle.disac4.proofs.Order.{round-without-list}
 use Rattle.disac4.proofs.Outcome.{list-cell-each, played-written, run-played, run-refused, run-reports, run-declines}
 use Rattle.disac4.specs.Demands.{closedAfter, RoundCloses}
-use Rattle.disac4.specs.Outcome.{Gives, played, bufferFault, inputFault, systemAt, runOf, turnRun, roundRun, Written}
+use Rattle.disac4.specs.Outcome.{Gives, played, bufferFault, inputFault, runOf, turnRun, roundRun, Written}
 use Rattle.disac4.specs.Report.{final, listCells, lowestEmpty, statusOf, reportOf}
 use Rattle.disac4.specs.Round.{roundRunTurns}
+use Rattle.disac4.specs.System.{systemAt}
 use Rattle.disac4.specs.Turn.{Turn, allowed, turnsOf}
 use Rattle.disac4.specs.declared.Answer.{Answer}
 use Rattle.disac4.specs.declared.Answer.the-variants.{Reported, Declined}
@@ -32,15 +33,15 @@ use Rattle.network.proofs.Largest.{largest-consistent}
 use Rattle.network.proofs.Loaded.{loaded-variable, loaded-value}
 use Rattle.network.specs.Consistency.{Within, Largest}
 use Rattle.network.specs.Network.{Domains, loaded}
-use Rattle.plan.proofs.Answer.{figures}
+use Rattle.plan.proofs.Answer.{counts}
 use Rattle.plan.proofs.Faults.{decoded, decode-plan}
 use Rattle.plan.proofs.WellFormed.{read-well-formed, few-labels}
-use Rattle.plan.specs.Answer.{planCheck, checkedAs, figuresOf}
+use Rattle.plan.specs.Answer.{planCheck, checkedAs, countsOf}
 use Rattle.plan.specs.Decode.{planOf, decode, accepted, declined}
 use Rattle.plan.specs.declared.Checked as checked
 use Rattle.plan.specs.declared.Checked.{Checked}
 use Rattle.plan.specs.declared.Decline.{Decline}
-use Rattle.plan.specs.declared.Figures.{Figures}
+use Rattle.plan.specs.declared.Counts.{Counts}
 use Rattle.tinshrew.proofs.Faults.{not-decoded, declined-plan, none-found, one-found, in-table, empty-fits}
 use Rattle.tinshrew.specs.Conclusions.{AcceptedPlan, DeclinedPlan, Fits, TurnsFit, FirstFault, InTable, DeclinedRun, listedIn, ReportedRun, RunTells}
 
@@ -48,23 +49,23 @@ use Rattle.tinshrew.specs.Conclusions.{AcceptedPlan, DeclinedPlan, Fits,
 
 -- the plan check accepts a plan exactly if it has none of the faults 1 to 8
 pub check-accepts : (b : List ℕ) (r : Checked) → r ≡ planCheck b
-    → ((f : Figures) × (r ≡ checked.the-variants.Accepted f)) ↔ (decode b ≡ accepted (planOf b))
-unfolding figuresOf
+    → ((f : Counts) × (r ≡ checked.the-variants.Accepted f)) ↔ (decode b ≡ accepted (planOf b))
+unfolding countsOf
 check-accepts b r g = (
   λ s. decoded b (no-fault b _ (s .0) (sym (s .1) ∙ g ∙ plan-check b)),
-  λ e. (figuresOf (planOf b), g ∙ figures b (planOf b) e),
+  λ e. (countsOf (planOf b), g ∙ counts b (planOf b) e),
 )
 
 -- and then gives p, n, the number of rules and L
-pub check-accepted : (b : List ℕ) (f : Figures) → checked.the-variants.Accepted f ≡ planCheck b → AcceptedPlan b f
-unfolding figuresOf
+pub check-accepted : (b : List ℕ) (f : Counts) → checked.the-variants.Accepted f ≡ planCheck b → AcceptedPlan b f
+unfolding countsOf
 check-accepted b f g =
     let sound = no-fault b _ f (g ∙ plan-check b) in
     let fits = read-well-formed b sound in
-    rw (its-figures b _ f (g ∙ plan-check b))
+    rw (its-counts b _ f (g ∙ plan-check b))
     (record {
       accepts = decoded b sound;
-      figures = refl;
+      counts = refl;
       workers = (fits .workers-low, fits .workers-high);
       variables = (fits .variables-low, fits .variables-high);
       constraints = fits .constraints-high;
@@ -125,14 +126,14 @@ module _ (b : List ℕ) (turns : List Turn) (work lists work′ lists′ : List 
 
   -- so they hold every label of the largest domains
   keeps : (d : Domains) → Largest (systemAt b .net) d → Within d (listedIn (systemAt b .net) lists′)
-  unfolding systemAt Within
+  unfolding Within
   keeps d most x v p =
       holds x v (largest-consistent (systemAt b .net) d most .within x v p)
       ∙ demand3 b (planOf b) (fits .accepts) turns .keeps-largest d most x v p
 
   -- allowed turns that were played on fitting inputs
   reported-run : allOf (allowed (systemAt b .workers)) turns ≡ true → ReportedRun b turns work lists work′ lists′ r
-  unfolding systemAt reportOf statusOf closedAfter Largest Within listedIn
+  unfolding reportOf statusOf closedAfter Largest Within listedIn
   reported-run fine =
       let second = demand2 b (planOf b) (fits .accepts) turns in
       let third = demand3 b (planOf b) (fits .accepts) turns in record {
@@ -220,7 +221,6 @@ turn-run-tells b ts work lists work′ lists′ a g =
 -- it reports exactly if the buffers are long enough and the plan is accepted; otherwise the number is from 1 to 10, never 11 or 12
 pub round-run-tells : (b work lists work′ lists′ : List ℕ) (a : Answer) → Gives (roundRun b work lists) a work′ lists′
     → RunTells (Fits b work lists) 10 b [] (roundRunTurns (systemAt b)) work lists work′ lists′ a
-unfolding systemAt
 round-run-tells b work lists work′ lists′ a g =
     run-tells b [] (roundRunTurns (systemAt b)) work lists work′ lists′ a (rw (← round-without-list b work lists) g) _
     (λ h. (h, empty-fits b), λ h. h .0) (λ h fits. round-closes-plan b (planOf b) (h .accepts) .all-allowed) 10
@@ -231,7 +231,7 @@ round-run-tells b work lists work′ lists′ a g =
 -- where it reports, the plan is closed after its turns, and the status is never open
 pub round-run-ends : (b work lists work′ lists′ : List ℕ) (r : Report) → Gives (roundRun b work lists) (Reported r) work′ lists′
     → RoundCloses (systemAt b) × (r .status ≡ Open → ⊥)
-unfolding systemAt reportOf statusOf closedAfter
+unfolding reportOf statusOf closedAfter
 round-run-ends b work lists work′ lists′ r g =
     let ran = round-run-tells b work lists work′ lists′ _ g .reported r refl in
     let closes = round-closes-plan b (planOf b) (ran .accepts) in (

@@ -9,7 +9,7 @@ use native.Mathlib.Omega.{arith}
 use lib.ListN.{length}
 use Rattle.base.specs.Choice.{firstOf}
 use Rattle.disac4.proofs.Order.{short-work, short-lists, buffers-fit, bad-turn-list, then-plan, faultless-below, bad-turn-first, by-fault}
-use Rattle.disac4.specs.Outcome.{bufferFault, inputFault, systemAt}
+use Rattle.disac4.specs.Outcome.{bufferFault, inputFault}
 use Rattle.disac4.specs.System.{systemOf}
 use Rattle.disac4.specs.Turn.{turnListFits, turnFault}
 use Rattle.turns.proofs.TurnLists.{is-allowed}
@@ -46,7 +46,7 @@ module _ (b ts work lists : List ℕ) where
   Found (some d) = FirstFault b ts work lists d
 
   found-says : Found found
-  unfolding systemAt systemOf planOf
+  unfolding systemOf planOf
   found-says =
       by-fault b ts work lists Found (λ h. few-work-cells h refl) (λ g h. few-list-cells g h refl) (λ g h. bad-list g h refl)
       (λ g h d e. bad-plan g h (not-decoded b d e)) (λ g h e i l bad before. bad-turn g h (decoded b e) i l bad before refl)
@@ -57,7 +57,7 @@ module _ (b ts work lists : List ℕ) where
 
   -- none is found exactly if all fits
   pub none-found : (found ≡ none) ↔ (Fits b work lists × TurnsFit b ts)
-  unfolding systemAt systemOf planOf turnFault
+  unfolding systemOf planOf turnFault
   none-found = (
     λ e. subst Found e found-says,
     λ h.
@@ -68,7 +68,7 @@ module _ (b ts work lists : List ℕ) where
 
   -- and this one exactly if it is the first
   pub one-found : (d : Decline) → (found ≡ some d) ↔ FirstFault b ts work lists d
-  unfolding systemAt systemOf planOf
+  unfolding systemOf planOf
   one-found d = (λ e. subst Found e found-says, back)
     where
       back : FirstFault b ts work lists d → found ≡ some d

@@ -4,8 +4,9 @@ use mathlib.Core.List.{List, []}
 use mathlib.Core.Path.{_≡_, refl, _∙_, ap, subst}
 use native.Mathlib.Omega.{arith}
 use lib.ListN.{getD}
-use Rattle.disac4.specs.Outcome.{Outcome, Gives, systemAt, turnRun, roundRun}
+use Rattle.disac4.specs.Outcome.{Outcome, Gives, turnRun, roundRun}
 use Rattle.disac4.specs.Round.{roundRunTurns}
+use Rattle.disac4.specs.System.{systemAt}
 use Rattle.disac4.specs.Turn.{Turn, turnsOf}
 use Rattle.disac4.specs.declared.Answer.{Answer}
 use Rattle.disac4.specs.declared.Answer.the-variants.{Reported, Declined}

@@ -8,9 +8,9 @@ use lib.ListN.{length, getD}
 use Rattle.base.specs.Choice.{allOf}
 use Rattle.base.specs.Row.{bit}
 use Rattle.disac4.specs.Demands.{Demand2, Demand3}
-use Rattle.disac4.specs.Outcome.{systemAt, workNeed, listNeed, LongEnough, Written}
+use Rattle.disac4.specs.Outcome.{workNeed, listNeed, LongEnough, Written}
 use Rattle.disac4.specs.Report.{final, reportOf}
-use Rattle.disac4.specs.System.{boundOf}
+use Rattle.disac4.specs.System.{boundOf, systemAt}
 use Rattle.disac4.specs.Turn.{Turn, allowed, turnAt, turnListFits}
 use Rattle.disac4.specs.declared.Answer.{Answer}
 use Rattle.disac4.specs.declared.Answer.the-variants.{Reported, Declined}
@@ -18,21 +18,21 @@ use Rattle.disac4.specs.declared.Report.{Report}
 use Rattle.disac4.specs.declared.Status.the-variants.{Open}
 use Rattle.network.specs.Consistency.{Within, Largest}
 use Rattle.network.specs.Network.{Network, Domains, loaded}
-use Rattle.plan.specs.Answer.{figuresOf}
+use Rattle.plan.specs.Answer.{countsOf}
 use Rattle.plan.specs.Decode.{decode, accepted, declined, planOf}
 use Rattle.plan.specs.Fault.{numberOf, decline}
 use Rattle.plan.specs.declared.Decline.{Decline}
 use Rattle.plan.specs.declared.Fault.the-variants.{ShortWork, ShortLists, BadTurnList, BadTurn}
-use Rattle.plan.specs.declared.Figures.{Figures}
+use Rattle.plan.specs.declared.Counts.{Counts}
 
 -- ---- the plan check
 
 -- it accepted the plan ("on success returns p, n, the number of rules and L")
-pub record AcceptedPlan (b : List ℕ) (f : Figures) : Type 0 where
+pub record AcceptedPlan (b : List ℕ) (f : Counts) : Type 0 where
   -- the plan has none of the faults 1 to 8
   pub accepts : decode b ≡ accepted (planOf b)
   -- p, n, the number of rules and L are the plan's
-  pub figures : f ≡ figuresOf (planOf b)
+  pub counts : f ≡ countsOf (planOf b)
   -- p is from 1 to 8
   pub workers : (1 ≤ f .workers) × (f .workers ≤ 8)
   -- n is from 1 to 32

@@ -12,7 +12,7 @@ use Rattle.numbers.specs.Numbers.{answerNumbers, checkedNumbers}
 use Rattle.plan.specs.Decode.{decode, accepted, planOf}
 use Rattle.plan.specs.declared.Checked as checked
 use Rattle.plan.specs.declared.Decline.{Decline}
-use Rattle.plan.specs.declared.Figures.{Figures}
+use Rattle.plan.specs.declared.Counts.{Counts}
 use Rattle.tinshrew.specs.Conclusions.{AcceptedPlan, DeclinedPlan}
 
 -- `Gives`, with the answer as its numbers
@@ -24,8 +24,8 @@ pub record GivesNumbers (o : Outcome) (out work lists : List ℕ) : Type 0 where
 pub record CheckNumbers (b out : List ℕ) : Type 0 where
   -- the first is 0 exactly if the plan is accepted
   pub first-zero : (getD out 0 0 ≡ 0) ↔ (decode b ≡ accepted (planOf b))
-  -- and then they are those of the plan's figures
-  pub zero-accepted : getD out 0 0 ≡ 0 → (f : Figures) × AcceptedPlan b f × (out ≡ checkedNumbers (checked.the-variants.Accepted f))
+  -- and then they are those of the plan's counts
+  pub zero-accepted : getD out 0 0 ≡ 0 → (f : Counts) × AcceptedPlan b f × (out ≡ checkedNumbers (checked.the-variants.Accepted f))
   -- otherwise those of a decline
   pub other-declined : (getD out 0 0 ≡ 0 → ⊥)
       → (d : Decline) × DeclinedPlan b d × (out ≡ checkedNumbers (checked.the-variants.Declined d))

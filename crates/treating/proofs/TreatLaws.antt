@@ -13,7 +13,7 @@ use Rattle.base.proofs.Choice.{cond-true, cond-false}
 use Rattle.base.proofs.Row.{row-bit}
 use Rattle.base.specs.Below.{loop}
 use Rattle.base.specs.Row.{isOdd, bit, rowOf}
-use Rattle.disac4.specs.System.{System, systemOf}
+use Rattle.disac4.specs.System.{System, systemOf, systemAt}
 use Rattle.network.specs.Network.{supports}
 use Rattle.plan.proofs.Pairs.{allowed-symmetric}
 use Rattle.plan.specs.Decode.{planOf}
@@ -88,7 +88,7 @@ module _ (sys : System) (i y w x v t d : ℕ) (m : Mem) (cell : d ≡ m DOMAIN x
 -- the row of the treated label's supports holds the values that had it as a support: a pair reads the same from either side
 pub supported : (b : List ℕ) (m : Mem) (y w x n s r : ℕ) → shareConstraint (planOf b) y x ≡ true → n ≡ sizeOf (planOf b) x
     → s ≡ rowOf (sizeOf (planOf b) x) (supports (networkOf (planOf b)) y w x) → r ≡ counterRow m x y
-    → SupportRow (systemOf (planOf b)) m y w x n s r
+    → SupportRow (systemAt b) m y w x n s r
 unfolding systemOf networkOf
 supported b m y w x n s r l k e c = record {
   holds = λ v h.
@@ -118,21 +118,21 @@ module _ (sys : System) (i y w x : ℕ) (m : Mem) where
 
 -- where the chain goes on with `next`: every variable before it is done, and all are at its end
 pub record Reached (b : List ℕ) (i y w : ℕ) (start m : Mem) (next : ℕ) : Type 0 where
-  pub done : next ≡ 0 → m ≡ loop (variableCount b) (touchVariableM (systemOf (planOf b)) i y w) start
-  pub before : (x : ℕ) → next ≡ suc x → m ≡ loop x (touchVariableM (systemOf (planOf b)) i y w) start
+  pub done : next ≡ 0 → m ≡ loop (variableCount b) (touchVariableM (systemAt b) i y w) start
+  pub before : (x : ℕ) → next ≡ suc x → m ≡ loop x (touchVariableM (systemAt b) i y w) start
   pub inside : (x : ℕ) → next ≡ suc x → x < variableCount b
   pub mine : (x : ℕ) → next ≡ suc x → ownLinked b i y x ≡ true
 
 module _ (b : List ℕ) (i y w : ℕ) (m : Mem) where
   abbrev touched-below : ℕ → Mem
-  touched-below n = loop n (touchVariableM (systemOf (planOf b)) i y w) m
+  touched-below n = loop n (touchVariableM (systemAt b) i y w) m
 
   -- a variable that is not in the chain leaves all as it is
   passed : (x : ℕ) → ownLinked b i y x ≡ false → touched-below x ≡ touched-below (suc x)
   unfolding loop systemOf networkOf owns
   passed x p =
-      ⊎-elim (not-owned (systemOf (planOf b)) i y w x (touched-below x))
-      (not-linked (systemOf (planOf b)) i y w x (touched-below x))
+      ⊎-elim (not-owned (systemAt b) i y w x (touched-below x))
+      (not-linked (systemAt b) i y w x (touched-below x))
       (and-false (owns b i x) (shareConstraint (planOf b) x y) (sym (own-linked b i y x) ∙ p))
 
   -- before the last `n` variables, the chain goes on with the next of them
@@ -175,14 +175,14 @@ module _ (b : List ℕ) (i y w : ℕ) (m : Mem) where
 
   -- one variable of the chain more
   pub reached-next : (m₁ m₂ : Mem) (x next : ℕ) → x < variableCount b → m₁ ≡ touched-below x
-      → m₂ ≡ touchVariableM (systemOf (planOf b)) i y w x m₁ → next ≡ nextOwn b i y (variableCount b - suc x)
+      → m₂ ≡ touchVariableM (systemAt b) i y w x m₁ → next ≡ nextOwn b i y (variableCount b - suc x)
       → Reached b i y w m m₂ next
   unfolding loop
   reached-next m₁ m₂ x next h e p q =
       let more : suc x ≡ variableCount b - (variableCount b - suc x) = omega arith in
       rw q
       (reached m₂ (variableCount b - suc x) (omega arith)
-      (p ∙ ap (touchVariableM (systemOf (planOf b)) i y w x) e ∙ ap touched-below more))
+      (p ∙ ap (touchVariableM (systemAt b) i y w x) e ∙ ap touched-below more))
 
 -- how many variables are left from the chain's next one on
 abbrev pub left : ℕ → ℕ → ℕ

@@ -8,8 +8,7 @@ ghost use Prim.Native.Nat.{ℕ, _<_, _≤_, _/_, _%_};
 ghost use lib.ListN.{length};
 ghost use Rattle.base.specs.Below.{loop};
 ghost use Rattle.base.specs.Row.{bit};
-ghost use Rattle.disac4.specs.System.{System, systemOf};
-ghost use Rattle.plan.specs.Decode.{planOf};
+ghost use Rattle.disac4.specs.System.{System, systemAt};
 ghost use Rattle.index.specs.Allowed.{Listed};
 ghost use Rattle.index.specs.Index.{ownLinked, Ready};
 ghost use Rattle.cells.specs.Acts.{Acts};
@@ -59,7 +58,7 @@ fn touch_values(cells: &mut [u16], i: usize, x: usize, n: usize, supported: usiz
 // Variable x of row i, which shares a constraint with y.
 fn touch_variable(b: &[u8], cells: &mut [u16], i: usize, y: usize, w: usize, x: usize)
     requires { ⌜ Ready (now b) (now cells) × (i < 8) × Listed (now b) y w × (ownLinked (now b) i y x ≡ true) ⌝ }
-    ensures { λ _. ⌜ memOf (now (cells .exit)) ≡ touchVariableM (systemOf (planOf (now (b .entry)))) i y w x (memOf (now (cells .entry))) ⌝ }
+    ensures { λ _. ⌜ memOf (now (cells .exit)) ≡ touchVariableM (systemAt (now (b .entry))) i y w x (memOf (now (cells .entry))) ⌝ }
 {
     let n = parts::size(b, cells, x);
     let supported = pairs::support_row(b, cells, y, w, x);
@@ -70,7 +69,7 @@ fn touch_variable(b: &[u8], cells: &mut [u16], i: usize, y: usize, w: usize, x: 
 // Every variable: only those of the row that share a constraint with y are touched, so following their chain is enough.
 fn touch_variables(b: &[u8], cells: &mut [u16], i: usize, y: usize, w: usize)
     requires { ⌜ Ready (now b) (now cells) × (i < 8) × Listed (now b) y w ⌝ }
-    ensures { λ _. ⌜ memOf (now (cells .exit)) ≡ touchVariablesM (systemOf (planOf (now (b .entry)))) i y w (memOf (now (cells .entry))) ⌝ }
+    ensures { λ _. ⌜ memOf (now (cells .exit)) ≡ touchVariablesM (systemAt (now (b .entry))) i y w (memOf (now (cells .entry))) ⌝ }
 {
     let mut next = layout::get(cells, layout::FIRST, i, y);
     while next != 0 {
@@ -82,7 +81,7 @@ fn touch_variables(b: &[u8], cells: &mut [u16], i: usize, y: usize, w: usize)
 // Row i takes the oldest label from its work list: 1 if there is one, and 0 if not.
 pub fn treat(b: &[u8], cells: &mut [u16], i: usize) -> usize
     requires { ⌜ Ready (now b) (now cells) × (i < 8) × (memOf (now cells) WORKERS i HEAD < memOf (now cells) WORKERS i TAIL → Listed (now b) (memOf (now cells) WORK i (memOf (now cells) WORKERS i HEAD) / 16) (memOf (now cells) WORK i (memOf (now cells) WORKERS i HEAD) % 16)) ⌝ }
-    ensures { λ r. ⌜ Acts (treatM (systemOf (planOf (now (b .entry)))) i) (memOf (now (cells .entry))) (memOf (now (cells .exit))) r ⌝ }
+    ensures { λ r. ⌜ Acts (treatM (systemAt (now (b .entry))) i) (memOf (now (cells .entry))) (memOf (now (cells .exit))) r ⌝ }
 {
     let head = layout::get(cells, layout::WORKERS, i, layout::HEAD);
     if head >= layout::get(cells, layout::WORKERS, i, layout::TAIL) {

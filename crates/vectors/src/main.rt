@@ -50,7 +50,7 @@ fn number(n: usize) {
     io::print_decimal(1, n as u64);
 }
 
-fn accepted(f: plan::Figures) {
+fn accepted(f: plan::Counts) {
     io::write_all(1, b"accepted");
     number(f.workers);
     number(f.variables);

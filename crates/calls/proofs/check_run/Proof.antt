@@ -15,7 +15,7 @@ use Rattle.plan.specs.Decode.{planFault}
 use Rattle.format.specs.Format.{workerCount}
 use Rattle.plan.specs.declared.Checked.the-variants.{Accepted}
 use Rattle.plan.specs.declared.Decline.{Decline}
-use Rattle.calls.proofs.Checked.{no-fault, its-fault, its-workers, its-figures, plan-check, answer-declined, answer-accepted}
+use Rattle.calls.proofs.Checked.{no-fault, its-fault, its-workers, its-counts, plan-check, answer-declined, answer-accepted}
 use Rattle.calls.proofs.Tests.{buffers-pass, buffers-fail, bad-turn, no-bad-turn}
 use Rattle.plan.specs.Answer.{checkOf}
 use borrow.Author.Needs.{needs}
@@ -124,7 +124,7 @@ returns-4 c =
 returns-5 : tie.Need-returns-5
 returns-5 c =
     let t = c .before .before .before in
-    answer-accepted _ _ _ (its-figures _ _ _ (known t))
+    answer-accepted _ _ _ (its-counts _ _ _ (known t))
     (tried (c .before) _ (no-bad-turn _ _ (c .if2 .left)))
 
 pub check-run-spec : {M : Type 1} → statement M

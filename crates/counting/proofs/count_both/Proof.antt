@@ -8,7 +8,7 @@ use Rattle.counting.proofs.CountLaws.{both-linked, both-apart}
 use Rattle.counting.proofs.Kept.{counters-alone, pair-else}
 use Rattle.counting.proofs.count_both.Statement.{statement}
 use Rattle.counting.proofs.count_both.Tie as tie
-use Rattle.disac4.specs.System.{systemOf}
+use Rattle.disac4.specs.System.{systemOf, systemAt}
 use Rattle.index.proofs.Kept.{ready-kept}
 use Rattle.index.proofs.Places.{few-sections}
 use Rattle.plan.proofs.Links.{linked-symmetric}
@@ -58,7 +58,7 @@ put-counts-requires-2 c κs =
     let t = branch r in
     let a = s (t .before) in (
       ready-kept (now (a .args .b)) (now (a .args .cells)) _ (a .pre .0) (p .put-counts .kept .1 .0) (p .put-counts .ensures)
-          (counters-alone (pair-else (systemOf (planOf (now (a .args .b)))) (a .args .x) (a .args .y) _)),
+          (counters-alone (pair-else (systemAt (now (a .args .b))) (a .args .x) (a .args .y) _)),
       found (t .before) _ (t .if1 .taken) .1,
       r .support-rows .ensures .1,
     )
@@ -74,7 +74,7 @@ returns c =
     let t = branch (p .before .before .before) in
     let a = s (t .before) .args in
     let f = found (t .before) _ (t .if1 .taken) in
-    both-linked (systemOf (planOf (now (a .b)))) (a .x) (a .y) _ _ _ (f .0) (f .1) (p .put-counts .ensures) (q .put-counts2 .ensures)
+    both-linked (systemAt (now (a .b))) (a .x) (a .y) _ _ _ (f .0) (f .1) (p .put-counts .ensures) (q .put-counts2 .ensures)
 
 same-length-2 : tie.Need-same-length-2
 same-length-2 c = search needs
@@ -84,7 +84,7 @@ unfolding systemOf networkOf
 returns-2 c =
     let a = s (c .before) .args in
     let f = found (c .before) _ (c .if1 .left) in
-    both-apart (systemOf (planOf (now (a .b)))) (a .x) (a .y) _ (f .0) (f .1)
+    both-apart (systemAt (now (a .b))) (a .x) (a .y) _ (f .0) (f .1)
 
 pub count-both-spec : {M : Type 1} → statement M
 count-both-spec =

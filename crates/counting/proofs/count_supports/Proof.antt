@@ -7,13 +7,12 @@ use Rattle.counting.proofs.Kept.{counters-alone, variable-else}
 use Rattle.counting.proofs.count_supports.Statement.{statement}
 use Rattle.counting.proofs.count_supports.Tie as tie
 use Rattle.counting.specs.Count.{countVariableM, countSupportsM}
-use Rattle.disac4.specs.System.{systemOf}
+use Rattle.disac4.specs.System.{systemAt}
 use Rattle.index.proofs.Kept.{ready-done}
 use Rattle.index.proofs.Labels.{variables-are}
-use Rattle.plan.specs.Decode.{planOf}
 
 abbrev Inv-loop : tie.InvT-loop
-Inv-loop b cells₀ n x₀ cells x = Done (countVariableM (systemOf (planOf b))) n cells₀ x cells
+Inv-loop b cells₀ n x₀ cells x = Done (countVariableM (systemAt b)) n cells₀ x cells
 
 abbrev μ-loop : tie.MeasureT-loop
 μ-loop b cells₀ n x₀ cells x = n - x

@@ -8,12 +8,11 @@ use Rattle.counting.proofs.Kept.{counters-alone, both-else}
 use Rattle.counting.proofs.count_variable.Statement.{statement}
 use Rattle.counting.proofs.count_variable.Tie as tie
 use Rattle.counting.specs.Count.{countBothM, countVariableM}
-use Rattle.disac4.specs.System.{systemOf}
+use Rattle.disac4.specs.System.{systemAt}
 use Rattle.index.proofs.Kept.{ready-done}
-use Rattle.plan.specs.Decode.{planOf}
 
 abbrev Inv-loop : tie.InvT-loop
-Inv-loop b cells₀ x y₀ cells y = Done (λ y. countBothM (systemOf (planOf b)) y x) x cells₀ y cells
+Inv-loop b cells₀ x y₀ cells y = Done (λ y. countBothM (systemAt b) y x) x cells₀ y cells
 
 abbrev μ-loop : tie.MeasureT-loop
 μ-loop b cells₀ x y₀ cells y = x - y

@@ -15,7 +15,7 @@ use Rattle.counting.proofs.CountLaws.{supports-fit}
 use Rattle.counting.proofs.put_counts.Statement.{statement}
 use Rattle.counting.proofs.put_counts.Tie as tie
 use Rattle.counting.specs.Count.{supportRow, countValueM, countPairM}
-use Rattle.disac4.specs.System.{systemOf}
+use Rattle.disac4.specs.System.{systemOf, systemAt}
 use Rattle.index.proofs.Labels.{linked-row}
 use Rattle.index.proofs.Permitted.{linked-inside, supports-counted}
 use Rattle.network.specs.Network.{supportCount}
@@ -24,7 +24,7 @@ use Rattle.plan.specs.Network.{networkOf}
 
 abbrev Inv-loop : tie.InvT-loop
 Inv-loop b cells₀ x y rows n at v₀ cells v =
-    Done (countValueM (systemOf (planOf b)) x y (counterRow (memOf cells₀) x y)) n cells₀ v cells
+    Done (countValueM (systemAt b) x y (counterRow (memOf cells₀) x y)) n cells₀ v cells
 
 abbrev μ-loop : tie.MeasureT-loop
 μ-loop b cells₀ x y rows n at v₀ cells v = n - v

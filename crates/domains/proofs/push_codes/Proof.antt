@@ -7,7 +7,7 @@ use native.Mathlib.Omega.{arith}
 use borrow.Author.Needs.{needs}
 use denote.Ref.{now}
 use lib.ListN.{length}
-use Rattle.format.specs.Format.{codeAt, valueCountAt}
+use Rattle.format.specs.Format.{codeAt, sizeAt}
 use Rattle.buffer.proofs.Puts.{adds-none}
 use Rattle.domains.proofs.Read.{codes-more, half-more}
 use Rattle.buffer.specs.Buffer.{Adds}
@@ -76,7 +76,7 @@ returns : tie.Need-returns Inv-loop μ-loop
 returns c =
     let l = c .before in
     let start = l .before .before .before .before in
-    let all : l .loop .v ≡ valueCountAt (now (start .args .plan)) (start .args .section) = omega (arith, l .before .byte-at .ensures .0) in
+    let all : l .loop .v ≡ sizeAt (now (start .args .plan)) (start .args .section) = omega (arith, l .before .byte-at .ensures .0) in
     rw all at (l .loop .inv .3)
 
 pub push-codes-spec : {M : Type 1} → statement M

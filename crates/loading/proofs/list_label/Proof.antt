@@ -4,8 +4,7 @@ use borrow.Author.Tests.{not-true, not-false}
 use mathlib.Core.Path.{refl}
 use native.Mathlib.Omega.{arith}
 use denote.Ref.{now}
-use Rattle.disac4.specs.System.{systemOf}
-use Rattle.plan.specs.Decode.{planOf}
+use Rattle.disac4.specs.System.{systemAt}
 use Rattle.cells.proofs.RegionsKept.{same, stored}
 use Rattle.index.proofs.Kept.{ready-kept}
 use Rattle.index.proofs.Labels.{located, label-small}
@@ -57,7 +56,7 @@ returns c =
     let p = t .before .before .before in
     let s = p .before .before .before .before in
     let a = s .args in
-    label-deleted (systemOf (planOf (now (a .b)))) (a .x) (a .v) _ _ (p .put .ensures) (a .supported) _ _
+    label-deleted (systemAt (now (a .b))) (a .x) (a .v) _ _ (p .put .ensures) (a .supported) _ _
     (not-true _ (t .if1 .taken))
     (o .owner .ensures .0) (c .before .before .delete .ensures)
 
@@ -69,7 +68,7 @@ returns-2 c =
     let p = c .before .before .before in
     let s = p .before .before .before .before in
     let a = s .args in
-    label-kept (systemOf (planOf (now (a .b)))) (a .x) (a .v) _ _ (p .put .ensures) (a .supported)
+    label-kept (systemAt (now (a .b))) (a .x) (a .v) _ _ (p .put .ensures) (a .supported)
     (not-false _ (c .if1 .left))
 
 pub list-label-spec : {M : Type 1} → statement M

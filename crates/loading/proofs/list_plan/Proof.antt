@@ -2,8 +2,7 @@
 use Prim.Native.Nat.{_-_}
 use native.Mathlib.Omega.{arith}
 use denote.Ref.{now}
-use Rattle.disac4.specs.System.{systemOf}
-use Rattle.plan.specs.Decode.{planOf}
+use Rattle.disac4.specs.System.{systemAt}
 use Rattle.cells.proofs.Done.{Done, done-none, done-more, done-all}
 use Rattle.index.proofs.Kept.{ready-done}
 use Rattle.loading.proofs.Kept.{list-variable-kept}
@@ -13,7 +12,7 @@ use Rattle.loading.proofs.list_plan.Statement.{statement}
 use Rattle.loading.proofs.list_plan.Tie as tie
 
 abbrev Inv-loop : tie.InvT-loop
-Inv-loop b cells₀ n x₀ cells x = Done (listVariableM (systemOf (planOf b))) n cells₀ x cells
+Inv-loop b cells₀ n x₀ cells x = Done (listVariableM (systemAt b)) n cells₀ x cells
 
 abbrev μ-loop : tie.MeasureT-loop
 μ-loop b cells₀ n x₀ cells x = n - x

@@ -4,8 +4,7 @@ use mathlib.Core.Bool.{Bool}
 use mathlib.Core.Path.{_∙_, ap}
 use native.Mathlib.Omega.{arith}
 use denote.Ref.{now}
-use Rattle.disac4.specs.System.{systemOf}
-use Rattle.plan.specs.Decode.{planOf}
+use Rattle.disac4.specs.System.{systemAt}
 use Rattle.cells.proofs.Done.{Done, done-none, done-more, done-all}
 use Rattle.cells.specs.Memory.{memOf}
 use Rattle.index.proofs.Kept.{ready-done}
@@ -16,7 +15,7 @@ use Rattle.loading.proofs.list_values.Statement.{statement}
 use Rattle.loading.proofs.list_values.Tie as tie
 
 abbrev Inv-loop : tie.InvT-loop
-Inv-loop b cells₀ x row n v₀ cells v = Done (listValueM (systemOf (planOf b)) x row) n cells₀ v cells
+Inv-loop b cells₀ x row n v₀ cells v = Done (listValueM (systemAt b) x row) n cells₀ v cells
 
 abbrev μ-loop : tie.MeasureT-loop
 μ-loop b cells₀ x row n v₀ cells v = n - v
@@ -54,7 +53,7 @@ loop-again c =
     let a = l .before .before .before .before .before .args in
     done-more (l .loop .inv) (omega arith) (p .list-label .kept .1 .0)
     (p .list-label .ensures
-    ∙ ap (λ (t : Bool). listLabelM (systemOf (planOf (now (a .b)))) (a .x) (l .loop .v) t (memOf (l .loop .cells))) (h .row-holds .ensures))
+    ∙ ap (λ (t : Bool). listLabelM (systemAt (now (a .b))) (a .x) (l .loop .v) t (memOf (l .loop .cells))) (h .row-holds .ensures))
 
 same-length : tie.Need-same-length Inv-loop μ-loop
 same-length c = omega arith

@@ -3,9 +3,8 @@ use Prim.Native.Nat.{ℕ}
 use borrow.Author.Needs.{needs}
 use denote.Ref.{now}
 use mathlib.Core.Path.{_∙_, ap}
-use Rattle.disac4.specs.System.{systemOf}
+use Rattle.disac4.specs.System.{systemAt}
 use Rattle.cells.specs.Memory.{memOf}
-use Rattle.plan.specs.Decode.{planOf}
 use Rattle.loading.specs.Load.{listValuesM, listVariableM}
 use Rattle.loading.proofs.list_variable.Statement.{statement}
 use Rattle.loading.proofs.list_variable.Tie as tie
@@ -26,7 +25,7 @@ returns c =
     let r = l .before .before in
     let a = r .before .before .before .before .args in
     l .list-values .ensures
-    ∙ ap (λ (row : ℕ). listValuesM (systemOf (planOf (now (a .b)))) (a .x) row (memOf (now (a .cells)))) (r .supported-row .ensures)
+    ∙ ap (λ (row : ℕ). listValuesM (systemAt (now (a .b))) (a .x) row (memOf (now (a .cells)))) (r .supported-row .ensures)
 
 pub list-variable-spec : {M : Type 1} → statement M
 list-variable-spec = tie.close (tie.spec supported-row-requires list-values-requires same-length returns)

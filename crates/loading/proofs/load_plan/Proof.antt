@@ -3,12 +3,11 @@ use borrow.Author.Needs.{needs}
 use denote.Ref.{now}
 use mathlib.Core.Path.{_∙_, ap}
 use Rattle.counting.proofs.Kept.{counters-alone, count-else}
-use Rattle.disac4.specs.System.{systemOf}
+use Rattle.disac4.specs.System.{systemAt}
 use Rattle.index.proofs.Kept.{ready-kept}
 use Rattle.loading.proofs.load_plan.Statement.{statement}
 use Rattle.loading.proofs.load_plan.Tie as tie
 use Rattle.loading.specs.Load.{listM, loadM}
-use Rattle.plan.specs.Decode.{planOf}
 
 count-supports-requires : tie.Need-count-supports-requires
 count-supports-requires c κs = search needs
@@ -29,7 +28,7 @@ returns c =
     let l = c .before .before in
     let k = l .before .before .before .before in
     let a = k .before .before .before .before .args in
-    l .list-plan .ensures ∙ ap (listM (systemOf (planOf (now (a .b))))) (k .count-supports .ensures)
+    l .list-plan .ensures ∙ ap (listM (systemAt (now (a .b)))) (k .count-supports .ensures)
 
 pub load-plan-spec : {M : Type 1} → statement M
 load-plan-spec = tie.close (tie.spec count-supports-requires list-plan-requires same-length returns)

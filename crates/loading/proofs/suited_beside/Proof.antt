@@ -4,12 +4,11 @@ use denote.Ref.{now}
 use mathlib.Core.Path.{sym, _∙_}
 use native.Mathlib.Omega.{arith}
 use Rattle.cells.specs.Memory.{memOf}
-use Rattle.disac4.specs.System.{systemOf}
+use Rattle.disac4.specs.System.{systemOf, systemAt}
 use Rattle.index.proofs.Places.{few-sections}
 use Rattle.loading.proofs.LoadLaws.{suited-apart, suited-linked}
 use Rattle.loading.proofs.suited_beside.Statement.{statement}
 use Rattle.loading.proofs.suited_beside.Tie as tie
-use Rattle.plan.specs.Decode.{planOf}
 use Rattle.plan.specs.Network.{networkOf}
 
 linked-requires : tie.Need-linked-requires
@@ -22,7 +21,7 @@ unfolding systemOf networkOf
 returns c =
     let s = c .before .before .before .before in
     let a = s .args in
-    suited-apart (systemOf (planOf (now (a .b)))) (memOf (now (a .cells))) (a .x) (a .y) (a .row)
+    suited-apart (systemAt (now (a .b))) (memOf (now (a .cells))) (a .x) (a .y) (a .row)
     (sym (c .before .linked .ensures (now (a .b)) (s .pre .0 .index)) ∙ not-true _ (c .if1 .taken))
     (s .pre .3)
 
@@ -37,7 +36,7 @@ returns-2 c =
     let t = c .before in
     let s = t .before .before .before .before in
     let a = s .args in
-    suited-linked (systemOf (planOf (now (a .b)))) (memOf (now (a .cells))) (a .x) (a .y) (a .row) (c .counted-row .result)
+    suited-linked (systemAt (now (a .b))) (memOf (now (a .cells))) (a .x) (a .y) (a .row) (c .counted-row .result)
     (sym (t .before .linked .ensures (now (a .b)) (s .pre .0 .index)) ∙ not-false _ (t .if1 .left))
     (s .pre .3) (c .counted-row .ensures)
 

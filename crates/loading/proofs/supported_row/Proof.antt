@@ -6,16 +6,15 @@ use mathlib.Core.Path.{_≡_, _∙_}
 use native.Mathlib.Omega.{arith}
 use lib.Pow.{pow-pos}
 use Rattle.cells.specs.Memory.{memOf}
-use Rattle.disac4.specs.System.{systemOf}
+use Rattle.disac4.specs.System.{systemAt}
 use Rattle.index.proofs.Labels.{variables-are, size-is}
 use Rattle.loading.proofs.LoadLaws.{suited-all}
 use Rattle.loading.proofs.supported_row.Statement.{statement}
 use Rattle.loading.proofs.supported_row.Tie as tie
 use Rattle.loading.specs.Load.{suitedRow}
-use Rattle.plan.specs.Decode.{planOf}
 
 abbrev Inv-loop : tie.InvT-loop
-Inv-loop b cells x n row₀ y₀ row y = (y ≤ n) × (row ≡ suitedRow (systemOf (planOf b)) (memOf cells) x y)
+Inv-loop b cells x n row₀ y₀ row y = (y ≤ n) × (row ≡ suitedRow (systemAt b) (memOf cells) x y)
 
 abbrev μ-loop : tie.MeasureT-loop
 μ-loop b cells x n row₀ y₀ row y = n - y
@@ -37,7 +36,7 @@ loop-holds c =
     let z = c .before in
     let a = z .before .before .before .before .args in (
       omega arith,
-      suited-all (systemOf (planOf (now (a .b)))) (memOf (now (a .cells))) (a .x) (c .power .result) (z .size .result)
+      suited-all (systemAt (now (a .b))) (memOf (now (a .cells))) (a .x) (c .power .result) (z .size .result)
           (z .size .ensures .0 ∙ size-is (now (a .b)) (a .x)) (c .power .ensures),
     )
 
@@ -61,7 +60,7 @@ returns : tie.Need-returns Inv-loop μ-loop
 returns c =
     let k = c .before .before .before .before in
     let b = now (k .before .before .before .args .b) in
-    let e : c .before .loop .y ≡ systemOf (planOf b) .net .variables =
+    let e : c .before .loop .y ≡ systemAt b .net .variables =
     omega (arith, c .loop-test .left, c .before .loop .inv .0, k .variable-count .ensures .0, variables-are b) in
     rw e at (c .before .loop .inv .1)
 

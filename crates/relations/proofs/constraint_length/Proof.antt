@@ -13,8 +13,8 @@ kind-requires c κs = search needs
 first-requires : tie.Need-first-requires
 first-requires c κs = search needs
 
-size-at-requires : tie.Need-size-at-requires
-size-at-requires c κs =
+numbered-size-requires : tie.Need-numbered-size-requires
+numbered-size-requires c κs =
     let s = c .before .before .before .before in
     let o = ordered (s .args .b .now) (s .args .at) (s .pre .2) in
     (s .pre .0, omega (arith, o, c .first .ensures .0), omega (arith, o, c .first .ensures .0))
@@ -28,7 +28,7 @@ add-result c = search needs
 returns : tie.Need-returns
 unfolding constraintLength
 returns c =
-    rw (← c .before .before .before .kind .ensures .0, eq-eqb _ 0 (c .before .before .if1 .taken), ← c .before .first .ensures .0, ← c .size-at .ensures .0)
+    rw (← c .before .before .before .kind .ensures .0, eq-eqb _ 0 (c .before .before .if1 .taken), ← c .before .first .ensures .0, ← c .numbered-size .ensures .0)
 
 returns-2 : tie.Need-returns-2
 unfolding constraintLength
@@ -40,7 +40,7 @@ constraint-length-spec =
     (tie.spec
     kind-requires
     first-requires
-    size-at-requires
+    numbered-size-requires
     mul-result
     add-result
     returns

@@ -17,8 +17,8 @@ returns c = rw (← c .before .kind .ensures .0, ne-eqb _ 0 (c .if1 .taken))
 first-requires : tie.Need-first-requires
 first-requires c κs = search needs
 
-size-at-requires : tie.Need-size-at-requires
-size-at-requires c κs =
+numbered-size-requires : tie.Need-numbered-size-requires
+numbered-size-requires c κs =
     let s = c .before .before .before .before in
     let o = ordered (s .args .b .now) (s .args .at) (s .pre .2) in
     (s .pre .0, omega (arith, o, c .first .ensures .0), omega (arith, o, c .first .ensures .0))
@@ -26,8 +26,8 @@ size-at-requires c κs =
 second-requires : tie.Need-second-requires
 second-requires c κs = search needs
 
-size-at-requires-2 : tie.Need-size-at-requires-2
-size-at-requires-2 c κs =
+numbered-size-requires-2 : tie.Need-numbered-size-requires-2
+numbered-size-requires-2 c κs =
     let s = c .before .before .before .before .before .before in
     let o = ordered (s .args .b .now) (s .args .at) (s .pre .2) in
     (s .pre .0, omega (arith, o, c .second .ensures .0), omega (arith, o, c .second .ensures .0))
@@ -43,9 +43,9 @@ returns-2 c =
       ← f .before .before .before .kind .ensures .0,
       eq-eqb _ 0 (f .before .before .if1 .left),
       ← f .before .first .ensures .0,
-      ← f .size-at .ensures .0,
+      ← f .numbered-size .ensures .0,
       ← c .before .before .second .ensures .0,
-      ← c .before .size-at2 .ensures .0,
+      ← c .before .numbered-size2 .ensures .0,
     )
     (c .rows-fit .ensures)
 
@@ -56,8 +56,8 @@ table-fits-spec =
     kind-requires
     returns
     first-requires
-    size-at-requires
+    numbered-size-requires
     second-requires
-    size-at-requires-2
+    numbered-size-requires-2
     rows-fit-requires
     returns-2)

@@ -2,10 +2,10 @@
 -- the whole run. The measure is the potential, which every round lowers. Assumes nothing.
 use borrow.Author.Tests.{not-true, not-false}
 use Rattle.disac4.proofs.Potential.{potential}
-use Rattle.disac4.specs.Outcome.{systemAt}
 use Rattle.rounds.proofs.Rounding.{Rounding, stateAt, no-round, rounding-goes, rounds-done, round-falls, round-more}
 use Rattle.rounds.proofs.play_rounds.Statement.{statement}
 use Rattle.rounds.proofs.play_rounds.Tie as tie
+use Rattle.disac4.specs.System.{systemAt}
 
 abbrev Inv-loop : tie.InvT-loop
 Inv-loop b cells₀ p at₀ cells at = Rounding b cells₀ at₀ cells at

@@ -7,7 +7,7 @@ use mathlib.Core.Path.{_≡_, sym, _∙_}
 use native.Mathlib.Omega.{arith}
 use denote.Ref.{now}
 use Rattle.base.proofs.Bools.{and-left, and-right}
-use Rattle.disac4.specs.System.{systemOf}
+use Rattle.disac4.specs.System.{systemOf, systemAt}
 use Rattle.format.specs.Format.{variableCount}
 use Rattle.plan.proofs.Links.{linked-symmetric}
 use Rattle.plan.specs.Decode.{planOf}
@@ -76,7 +76,7 @@ returns c =
     let z = r .before .before in
     let s = z .before .before .before .before in
     let a = s .args in
-    let sys = systemOf (planOf (b s)) in
+    let sys = systemAt (b s) in
     variable-touched sys (a .i) (a .y) (a .w) (a .x) _ _ (z .size .result) (owned s) (linked s)
     (z .size .ensures .0 ∙ size-is (b s) (a .x))
     (c .before .before .touch-values .ensures sys (a .y) (a .w)

@@ -8,9 +8,8 @@ use native.Mathlib.Omega.{arith}
 use denote.Ref.{now}
 use lib.ListN.{length}
 use Rattle.base.specs.Below.{loop}
-use Rattle.disac4.specs.System.{systemOf}
+use Rattle.disac4.specs.System.{systemAt}
 use Rattle.format.specs.Format.{variableCount}
-use Rattle.plan.specs.Decode.{planOf}
 use Rattle.index.proofs.Labels.{variables-are}
 use Rattle.index.proofs.Places.{few-sections}
 use Rattle.index.specs.Index.{ownLinked, nextOwn, Ready}
@@ -92,7 +91,7 @@ module _ (v : tie.After-touch-variable Inv-loop μ-loop) where
   ready =
       let a = s t .args in
       ready-kept (b t) (l t .loop .cells) _ (l t .loop .inv .0) same-size (v .touch-variable .ensures)
-      (touch-variable-kept (systemOf (planOf (b t))) (a .i) (a .y) (a .w) (x t) _)
+      (touch-variable-kept (systemAt (b t)) (a .i) (a .y) (a .w) (x t) _)
 
 get-requires-2 : tie.Need-get-requires-2 Inv-loop μ-loop
 get-requires-2 c κs =
@@ -145,7 +144,7 @@ returns c =
     let a = l .before .before .before .before .before .args in
     let b = now (a .b) in
     l .loop .inv .2 .done (omega (arith, c .loop-test .left))
-    ∙ ap (λ (n : ℕ). loop n (touchVariableM (systemOf (planOf b)) (a .i) (a .y) (a .w)) (memOf (now (a .cells)))) (sym (variables-are b))
+    ∙ ap (λ (n : ℕ). loop n (touchVariableM (systemAt b) (a .i) (a .y) (a .w)) (memOf (now (a .cells)))) (sym (variables-are b))
 
 pub touch-variables-spec : {M : Type 1} → statement M
 touch-variables-spec =

@@ -3,8 +3,7 @@ use borrow.Author.Needs.{needs}
 use mathlib.Core.Path.{_∙_, ap}
 use native.Mathlib.Omega.{arith}
 use denote.Ref.{now}
-use Rattle.disac4.specs.System.{systemOf}
-use Rattle.plan.specs.Decode.{planOf}
+use Rattle.disac4.specs.System.{systemAt}
 use Rattle.cells.proofs.RegionsKept.{same, stored}
 use Rattle.index.proofs.Kept.{ready-kept}
 use Rattle.cells.proofs.Acting.{idle, acts}
@@ -69,7 +68,7 @@ returns-3 c =
     let g2 = t .before in
     let g = g2 .before .before in
     let a = g .before .before .before .before .args in
-    let sys = systemOf (planOf (now (a .b))) in
+    let sys = systemAt (now (a .b)) in
     acts _ _ _ _
     (treat-goes sys (a .i) _ (g .get .ensures .0) (g3 .get3 .ensures .0) (record {
       untreated = omega (arith, g .get .ensures .0, g2 .get2 .ensures .0, t .if1 .left);

@@ -5,12 +5,12 @@ use mathlib.Core.Path.{_≡_, refl, sym, _∙_, subst}
 use native.Mathlib.Omega.{arith}
 use denote.Ref.{now}
 use Rattle.cells.proofs.Acting.{idle, acts-as}
-use Rattle.disac4.specs.Outcome.{systemAt}
 use Rattle.disac4.specs.Turn.{allowed, turn}
 use Rattle.engine.proofs.RunLaws.{turn-closed, turn-polls, turn-hears, may-hear, workers-are}
 use borrow.Author.Needs.{needs}
 use Rattle.engine.proofs.run.control_turn.Statement.{statement}
 use Rattle.engine.proofs.run.control_turn.Tie as tie
+use Rattle.disac4.specs.System.{systemAt}
 
 few-at : (s : tie.Start) → s .args .p ≤ 8
 few-at s = omega (arith, s .pre .0 .workers, s .pre .1)

@@ -1,6 +1,5 @@
 -- `engine::run::work` plays a worker's action. Assumes nothing.
 use native.Mathlib.Omega.{arith}
-use Rattle.disac4.specs.Outcome.{systemAt}
 use Rattle.cells.proofs.Acting.{acts-as}
 use Rattle.engine.proofs.RunLaws.{worker-treats, worker-sends, worker-answers, worker-reads}
 use borrow.Author.Needs.{needs}
@@ -16,7 +15,6 @@ same-length : tie.Need-same-length
 same-length c = search needs
 
 returns : tie.Need-returns
-unfolding systemAt
 returns c =
     acts-as (worker-treats _ _ _ _ _ (c .before .before .before .before .if1 .taken)) (c .before .before .treat .ensures)
 
@@ -27,7 +25,6 @@ same-length-2 : tie.Need-same-length-2
 same-length-2 c = search needs
 
 returns-2 : tie.Need-returns-2
-unfolding systemAt
 returns-2 c =
     acts-as (worker-sends _ _ _ _ _ (c .before .before .before .before .before .if1 .left) (c .before .before .before .before .if2 .taken))
     (c .before .before .send .ensures)
@@ -39,7 +36,6 @@ same-length-3 : tie.Need-same-length-3
 same-length-3 c = search needs
 
 returns-3 : tie.Need-returns-3
-unfolding systemAt
 returns-3 c =
     acts-as (worker-answers _ _ _ _ _ (c .before .before .before .before .before .before .if1 .left) (c .before .before .before .before .before .if2 .left)
     (c .before .before .before .before .if3 .taken)) (c .before .before .answer .ensures)
@@ -57,7 +53,6 @@ same-length-4 : tie.Need-same-length-4
 same-length-4 c = search needs
 
 returns-4 : tie.Need-returns-4
-unfolding systemAt
 returns-4 c =
     let r = c .before .before in
     let e = r .before .before in

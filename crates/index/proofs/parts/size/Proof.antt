@@ -9,7 +9,7 @@ use Rattle.index.proofs.Places.{few-sections, few-values}
 use Rattle.index.proofs.parts.size.Statement.{statement}
 use Rattle.index.proofs.parts.size.Tie as tie
 use Rattle.plan.proofs.Parts.{size-read}
-use Rattle.format.specs.Format.{valueCountAt, sizeAt}
+use Rattle.format.specs.Format.{sizeAt, numberedSize}
 
 add-place : tie.Need-add-place
 add-place c = omega (arith, few-sections (now (c .before .before .args .b)) (c .before .before .pre .0 .sound))
@@ -27,8 +27,8 @@ returns c =
     let p = c .before in
     let s = p .before .before .before in
     let b = now (s .args .b) in
-    let e : c .size .result ≡ sizeAt b (suc (s .args .x)) =
-    c .size .ensures .0 ∙ ap (valueCountAt b) (p .place .ensures .start) ∙ ap (sizeAt b) (add-one (s .args .x)) in (
+    let e : c .size .result ≡ numberedSize b (suc (s .args .x)) =
+    c .size .ensures .0 ∙ ap (sizeAt b) (p .place .ensures .start) ∙ ap (numberedSize b) (add-one (s .args .x)) in (
       e ∙ sym (size-read b (s .args .x) (s .pre .1)),
       omega (arith, few-values b (s .pre .0 .sound) (s .args .x) (s .pre .1)),
     )

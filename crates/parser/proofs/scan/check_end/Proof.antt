@@ -1,8 +1,8 @@
--- `parser::scan::check_end` gives 8 for bytes behind the last section, and else the plan's figures. Assumes nothing.
+-- `parser::scan::check_end` gives 8 for bytes behind the last section, and else the plan's counts. Assumes nothing.
 use borrow.Author.Tests.{lt-ltb, le-ltb}
 use mathlib.Core.Path.{ap}
 use lib.ListN.{length}
-use Rattle.plan.proofs.Answer.{figures-built}
+use Rattle.plan.proofs.Answer.{counts-built}
 use Rattle.plan.specs.Decode.{trailingFault}
 use Rattle.plan.specs.Answer.{checkOf}
 use Rattle.plan.specs.declared.Checked.the-variants.{Accepted}
@@ -39,7 +39,7 @@ returns-2 c =
     let b = s .args .b .now in
     rw (← s .pre .1, le-ltb (s .args .at) (length b) (e .if1 .left))
     (ap Accepted
-    (figures-built b _ (c .before .before .before .worker-count .ensures .0)
+    (counts-built b _ (c .before .before .before .worker-count .ensures .0)
     (c .before .before .variable-count .ensures .0) (c .before .constraint-count .ensures .0) (c .count-labels .ensures)))
 
 pub check-end-spec : {M : Type 1} → statement M

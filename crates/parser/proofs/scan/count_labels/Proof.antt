@@ -6,14 +6,14 @@ use native.Mathlib.Numerals.{add-one}
 use native.Mathlib.Omega.{arith}
 use Rattle.base.proofs.Sums.{sum-more}
 use Rattle.base.specs.Below.{sumBelow}
-use Rattle.format.specs.Format.{variableCount, sizeAt}
+use Rattle.format.specs.Format.{variableCount, numberedSize}
 use Rattle.plan.proofs.Answer.{labels-read}
 use Rattle.parser.proofs.scan.count_labels.Statement.{statement}
 use Rattle.parser.proofs.scan.count_labels.Tie as tie
 
 abbrev Inv-loop : tie.InvT-loop
 Inv-loop b starts count labels₀ x₀ labels x =
-    (x ≤ count) × (labels ≡ sumBelow x (λ y. sizeAt b (suc y))) × (labels ≤ 16 * x)
+    (x ≤ count) × (labels ≡ sumBelow x (λ y. numberedSize b (suc y))) × (labels ≤ 16 * x)
 
 abbrev μ-loop : tie.MeasureT-loop
 μ-loop b starts count labels₀ x₀ labels x = count - x
@@ -24,11 +24,11 @@ variable-count-requires c κs = search needs
 loop-holds : tie.Need-loop-holds Inv-loop μ-loop
 loop-holds c = (search needs, refl, search needs)
 
-add-size-at : tie.Need-add-size-at Inv-loop μ-loop
-add-size-at c = omega arith
+add-numbered-size : tie.Need-add-numbered-size Inv-loop μ-loop
+add-numbered-size c = omega arith
 
-size-at-requires : tie.Need-size-at-requires Inv-loop μ-loop
-size-at-requires c κs = (c .before .before .before .before .pre, omega arith, omega arith)
+numbered-size-requires : tie.Need-numbered-size-requires Inv-loop μ-loop
+numbered-size-requires c κs = (c .before .before .before .before .pre, omega arith, omega arith)
 
 add-labels : tie.Need-add-labels Inv-loop μ-loop
 add-labels c = omega arith
@@ -44,8 +44,8 @@ loop-again c =
     let l = c .before .before in
     let b = l .before .before .before .args .b .now in (
       omega arith,
-      sum-more (l .loop .labels) (c .size-at .result) (l .loop .x) (λ y. sizeAt b (suc y)) (l .loop .inv .1)
-          (c .size-at .ensures .0 ∙ ap (sizeAt b) (add-one (l .loop .x))),
+      sum-more (l .loop .labels) (c .numbered-size .result) (l .loop .x) (λ y. numberedSize b (suc y)) (l .loop .inv .1)
+          (c .numbered-size .ensures .0 ∙ ap (numberedSize b) (add-one (l .loop .x))),
       omega arith,
     )
 
@@ -54,7 +54,7 @@ returns c =
     let l = c .before in
     let b = l .before .before .before .args .b .now in
     let n : l .loop .x ≡ variableCount b = omega (arith, l .before .variable-count .ensures .0) in
-    l .loop .inv .1 ∙ ap (λ (k : ℕ). sumBelow k (λ y. sizeAt b (suc y))) n ∙ sym (labels-read b)
+    l .loop .inv .1 ∙ ap (λ (k : ℕ). sumBelow k (λ y. numberedSize b (suc y))) n ∙ sym (labels-read b)
 
 pub count-labels-spec : {M : Type 1} → statement M
 count-labels-spec =
@@ -64,8 +64,8 @@ count-labels-spec =
     μ-loop
     variable-count-requires
     loop-holds
-    add-size-at
-    size-at-requires
+    add-numbered-size
+    numbered-size-requires
     add-labels
     add-x
     loop-less

@@ -5,12 +5,12 @@ use mathlib.Core.Path.{_≡_, refl, _∙_}
 use native.Mathlib.Omega.{arith}
 use borrow.Author.Needs.{needs}
 use denote.Ref.{now}
-use Rattle.disac4.specs.Outcome.{systemAt}
 use Rattle.playing.proofs.Idling.{noted, work-idle}
 use Rattle.engine.proofs.RunLaws.{worker-treats, worker-sends, worker-answers, worker-reads}
 use Rattle.playing.specs.Known.{KnownIdle}
 use Rattle.playing.proofs.settle.settle.Statement.{statement}
 use Rattle.playing.proofs.settle.settle.Tie as tie
+use Rattle.disac4.specs.System.{systemAt}
 
 -- the arguments, from the third note on
 abbrev start : tie.After-note3 → tie.Start

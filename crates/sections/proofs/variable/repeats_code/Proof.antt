@@ -10,7 +10,7 @@ use native.Mathlib.Omega.{arith}
 use lib.Dec.{eqb}
 use Rattle.base.proofs.Below.{any-below, any-more}
 use Rattle.base.specs.Below.{anyBelow}
-use Rattle.format.specs.Format.{valueCountAt, codeAt}
+use Rattle.format.specs.Format.{sizeAt, codeAt}
 use Rattle.plan.specs.Check.{repeatsCode}
 use Rattle.sections.proofs.variable.repeats_code.Statement.{statement}
 use Rattle.sections.proofs.variable.repeats_code.Tie as tie
@@ -41,7 +41,7 @@ module _ (b : List ℕ) (at : ℕ) where
       any-below n (repeats b at) v h
       (any-below v (same b at v) u l (eq-eqb (codeAt b at u) (codeAt b at v) (sym p ∙ e ∙ q)))
 
-  code-repeats : (n : ℕ) (r : Bool) → n ≡ valueCountAt b at → anyBelow n (repeats b at) ≡ r → r ≡ repeatsCode b at
+  code-repeats : (n : ℕ) (r : Bool) → n ≡ sizeAt b at → anyBelow n (repeats b at) ≡ r → r ≡ repeatsCode b at
   unfolding repeatsCode repeats same
   code-repeats n r p e = sym e ∙ ap (λ (k : ℕ). anyBelow k (repeats b at)) p
 
@@ -107,7 +107,7 @@ returns : tie.Need-returns Inv-loop μ-loop Inv-scan μ-scan
 returns c =
     let s = c .before in
     let a = s .before .before .before .args in
-    let n : s .scan .v ≡ valueCountAt (a .b .now) (a .at) = omega (arith, s .before .size .ensures .0) in
+    let n : s .scan .v ≡ sizeAt (a .b .now) (a .at) = omega (arith, s .before .size .ensures .0) in
     s .scan .inv .0 ∙ code-repeats (a .b .now) (a .at) (s .scan .v) false n (s .scan .inv .2)
 
 returns-2 : tie.Need-returns-2 Inv-loop μ-loop Inv-scan μ-scan

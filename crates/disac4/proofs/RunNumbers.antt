@@ -1,4 +1,4 @@
--- The figures of a run: the timestamp is the number of polls that changed something, no count of lists is above the number
+-- The numbers of a run: the timestamp is the number of polls that changed something, no count of lists is above the number
 -- of such sends, and the lowest empty slot is one of the plan's, or 0.
 use Prim.Native.Nat.{ℕ, suc, _+_, _≤_}
 use mathlib.Core.Bool.{Bool, true, false, cond, _&&_}
@@ -27,7 +27,7 @@ use Rattle.disac4.specs.Loading.{load}
 use Rattle.disac4.specs.Report.{lowestEmpty, isSend, isPoll}
 use Rattle.disac4.specs.State.{State, Message, list, poll, reply}
 use Rattle.disac4.specs.System.{System, Worker, Sound}
-use Rattle.disac4.specs.Turn.{Turn, turn, treatNumber, sendNumber, answerNumber, pollNumber, step, after, play, changes, changesWhere}
+use Rattle.disac4.specs.Turn.{Turn, turn, treatAction, sendAction, answerAction, pollAction, step, after, play, changes, changesWhere}
 
 -- ---- sends
 
@@ -89,22 +89,22 @@ list-counter-bound sound ts k b = omega (arith, lists-of-run sound ts k b)
 module _ (sys : System) (few : sys .workers ≤ 8) where
   -- a worker's turn is no poll
   of-worker : (k d : ℕ) → Worker sys k → one (isPoll (turn k d)) ≡ 0
-  of-worker k d w = ap (λ (b : Bool). one (b && eqb d pollNumber)) (ne-eqb k 0 (λ e. omega (arith, w .above)))
+  of-worker k d w = ap (λ (b : Bool). one (b && eqb d pollAction)) (ne-eqb k 0 (λ e. omega (arith, w .above)))
 
   -- nor is the controller's read
   from-worker : (k : ℕ) → Worker sys k → one (isPoll (turn 0 k)) ≡ 0
-  from-worker k w = ap one (ne-eqb k pollNumber (λ e. omega (arith, w .within)))
+  from-worker k w = ap one (ne-eqb k pollAction (λ e. omega (arith, w .within)))
 
   -- a poll adds one to the timestamp, and no other move does
   move-adds : {st s : State} {es : List Event} (m : Moves sys st s es)
       → s .controller .timestamp ≡ st .controller .timestamp + one (isPoll (turnOf m))
   unfolding afterTreat afterSend afterList afterPoll afterDrop afterAnswer afterAsk afterCount afterMark
-  move-adds (treats k a rest w e) = omega (arith, of-worker k treatNumber w)
-  move-adds (sends k w e) = omega (arith, of-worker k sendNumber w)
+  move-adds (treats k a rest w e) = omega (arith, of-worker k treatAction w)
+  move-adds (sends k w e) = omega (arith, of-worker k sendAction w)
   move-adds (reads j k labels rest w h n e) = omega (arith, of-worker k j w)
   move-adds (takes-poll j k q rest w h n e) = omega (arith, of-worker k j w)
   move-adds (ignores j k i rest w h n e) = omega (arith, of-worker k j w)
-  move-adds (answers k q w e r) = omega (arith, of-worker k answerNumber w)
+  move-adds (answers k q w e r) = omega (arith, of-worker k answerAction w)
   move-adds (asks e) = omega arith
   move-adds (tallies k labels rest w e) = omega (arith, from-worker k w)
   move-adds (marks k n rest w e c) = omega (arith, from-worker k w)

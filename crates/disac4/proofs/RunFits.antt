@@ -1,4 +1,4 @@
--- The figures of an accepted plan's run, in numbers: all of them are below 65,536.
+-- The numbers of an accepted plan's run: all of them are below 65,536.
 use Prim.Native.Nat.{ℕ, _*_, _≤_}
 use mathlib.Core.Bool.{true}
 use mathlib.Core.List.{List}
@@ -12,7 +12,7 @@ use Rattle.plan.specs.Network.{networkOf}
 use Rattle.plan.specs.Plan.{Plan}
 use Rattle.disac4.proofs.Bound.{changes-bounded}
 use Rattle.disac4.proofs.Demands.{plan-sound}
-use Rattle.disac4.proofs.Figures.{list-counter-bound, timestamp-of-run, lowest-empty-bound}
+use Rattle.disac4.proofs.RunNumbers.{list-counter-bound, timestamp-of-run, lowest-empty-bound}
 use Rattle.disac4.proofs.PollBound.{polls-bound}
 use Rattle.disac4.proofs.QueueLengths.{QueueLengths, queue-lengths, queues-within}
 use Rattle.disac4.proofs.SendBound.{sends-bound}
@@ -22,7 +22,7 @@ use Rattle.disac4.specs.System.{System, systemOf, turnBound, boundOf, So
 use Rattle.disac4.specs.Turn.{Turn, play, changesWhere}
 
 -- the numbers of the report, the counts of lists, the timestamp and the queues, after a list of turns
-pub record FiguresFit (sys : System) (ts : List Turn) : Type 0 where
+pub record RunFits (sys : System) (ts : List Turn) : Type 0 where
   pub turns : changesWhere sys (λ t. true) (load sys) ts ≤ boundOf sys
   pub bound : boundOf sys ≤ 21529
   pub sends : changesWhere sys isSend (load sys) ts ≤ 512
@@ -39,10 +39,10 @@ turn-bound p l few labels =
     let five : 5 * p ≤ 40 = omega arith in
     omega (arith, mul-le-mul five labels)
 
-figures-of : {sys : System} → Sound sys → sys .net .variables ≤ 32 → labelCount (sys .net) ≤ 512 → (ts : List Turn)
-    → FiguresFit sys ts
+fits-of : {sys : System} → Sound sys → sys .net .variables ≤ 32 → labelCount (sys .net) ≤ 512 → (ts : List Turn)
+    → RunFits sys ts
 unfolding final boundOf
-figures-of {sys} sound few-variables labels ts = record {
+fits-of {sys} sound few-variables labels ts = record {
   turns = changes-bounded sys sound ts;
   bound = turn-bound (sys .workers) (labelCount (sys .net)) (sound .few) labels;
   sends = omega (arith, sends-bound sound ts);
@@ -53,8 +53,8 @@ figures-of {sys} sound few-variables labels ts = record {
   queues = queues-within labels (queue-lengths sound ts);
 }
 
--- every figure of every run of an accepted plan fits
-pub figures-fit : (b : List ℕ) (plan : Plan) → decode b ≡ accepted plan → (ts : List Turn) → FiguresFit (systemOf plan) ts
+-- every number of every run of an accepted plan fits
+pub run-fits : (b : List ℕ) (plan : Plan) → decode b ≡ accepted plan → (ts : List Turn) → RunFits (systemOf plan) ts
 unfolding systemOf networkOf
-figures-fit b plan e ts =
-    let w = well-formed b plan e in figures-of (plan-sound plan w) (w .variables-high) (few-labels plan w) ts
+run-fits b plan e ts =
+    let w = well-formed b plan e in fits-of (plan-sound plan w) (w .variables-high) (few-labels plan w) ts
