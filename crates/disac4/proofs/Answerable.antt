@@ -9,9 +9,10 @@ use Rattle.base.proofs.Choice.{update-same, update-other, update₂-same, updat
 use Rattle.base.proofs.Weight.{weigh, weigh-append}
 use Rattle.base.specs.Below.{one}
 use Rattle.base.specs.Choice.{update₂}
+use Rattle.disac4.proofs.ByKind.{pollMessage, replyMessage}
 use Rattle.disac4.proofs.Channels.{Channels, broadcast-to, broadcast-self, broadcast-each}
-use Rattle.disac4.proofs.RunNumbers.{timestamp-of-run}
 use Rattle.disac4.proofs.Moves.{Moves, treats, sends, reads, takes-poll, ignores, answers, asks, tallies, marks, drops, discards, kept}
+use Rattle.disac4.proofs.RunNumbers.{timestamp-of-run}
 use Rattle.disac4.proofs.Typed.{Typed, typed-move, typed-load, not-controller}
 use Rattle.disac4.specs.Action.{broadcast, nextPoll, afterTreat, afterSend, afterList, afterPoll, afterDrop, afterAnswer, afterAsk, afterCount, afterMark}
 use Rattle.disac4.specs.Event.{Event}
@@ -22,18 +23,6 @@ use Rattle.disac4.specs.State.{State, Message, list, poll, reply}
 use Rattle.disac4.specs.System.{System, Worker, Sound}
 use Rattle.disac4.specs.Turn.{Turn, play, changesWhere}
 use Rattle.disac4.specs.declared.Poll.{Poll}
-
--- 1 for a poll
-abbrev pub pollMessage : Message → ℕ
-pollMessage (list labels) = 0
-pollMessage (poll q) = 1
-pollMessage (reply n) = 0
-
--- 1 for a reply
-abbrev pub replyMessage : Message → ℕ
-replyMessage (list labels) = 0
-replyMessage (poll q) = 0
-replyMessage (reply n) = 1
 
 -- the polls on their way to worker `i`, the one that it holds, and its replies on their way
 abbrev pub answerable : State → ℕ → ℕ

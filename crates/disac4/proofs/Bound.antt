@@ -8,11 +8,11 @@ use native.Mathlib.Nat.{mul-add, add-mul}
 use native.Mathlib.Omega.{arith}
 use Rattle.base.proofs.Sums.{sum-zero}
 use Rattle.base.specs.Below.{one}
-use Rattle.disac4.proofs.Channels.{into}
+use Rattle.disac4.proofs.Channels.{into, into-none}
 use Rattle.disac4.proofs.DomainSize.{load-size, deletions-loaded}
 use Rattle.disac4.proofs.Fold.{count-keeps}
 use Rattle.disac4.proofs.Moves.{Effect, idle, acts, effect}
-use Rattle.disac4.proofs.Potential.{workerWeight, potential, potential-falls}
+use Rattle.disac4.proofs.Potential.{controllerWeight, workerWeight, potential, potential-falls}
 use Rattle.disac4.specs.Loading.{unsupported, load}
 use Rattle.disac4.specs.State.{State}
 use Rattle.disac4.specs.System.{System, turnBound, boundOf, Sound}
@@ -67,8 +67,8 @@ potential-loaded sys sound =
       deletions-loaded sys (sound .owned),
       ap (λ x. (5 * p + 1) * x) (deletions-loaded sys (sound .owned)),
       sum-zero p (λ i. 0) (λ i h. refl),
-      sum-zero (suc p) (λ j. 0) (λ j h. refl),
-      sum-zero p (λ i. into workerWeight p (λ j k. []) (suc i)) (λ i h. sum-zero (suc p) (λ j. 0) (λ j h. refl)),
+      into-none (controllerWeight p) p 0,
+      sum-zero p (λ i. into workerWeight p (λ j k. []) (suc i)) (λ i h. into-none workerWeight p (suc i)),
     ) in
     summands ∙ (loaded-weight p listed gone ∙ ap (turnBound p) (load-size sys))
 

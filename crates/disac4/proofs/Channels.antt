@@ -8,8 +8,8 @@ use native.Mathlib.Omega.{arith}
 use borrow.Author.Tests.{leb-true, eqb-true, eqb-false, le-leb, eq-eqb, ne-eqb}
 use lib.Dec.{leb, eqb}
 use Rattle.base.proofs.Bools.{clash, and-intro, and-false-left, and-false-right, not-of, not-of-true}
-use Rattle.base.proofs.Choice.{cond-true, cond-false, update₂-same, update₂-first, update₂-second}
-use Rattle.base.proofs.Sums.{sum-ext, sum-change}
+use Rattle.base.proofs.Choice.{cond-true, cond-false, update₂-same, update₂-first, update₂-second, update₂-each}
+use Rattle.base.proofs.Sums.{sum-ext, sum-change, sum-zero}
 use Rattle.base.proofs.Weight.{weigh, weigh-append}
 use Rattle.base.specs.Below.{sumBelow}
 use Rattle.base.specs.Choice.{update₂}
@@ -58,6 +58,19 @@ broadcast-each P p k m c own other j i = go (eqb j k) refl (leb i p) refl (eqb i
     go true x true y true z = other j i (λ e h. eqb-true i k z)
     go true x true y false z = rw (eqb-true j k x) (own i (leb-true i p y) (eqb-false i k z))
 
+-- ---- what a channel keeps
+
+-- a claim that the changed channel keeps is kept by every channel
+pub keeps-put : (P : List Message → Type 0) (c : Channels) (j k : ℕ) (l : List Message) → (P (c j k) → P l)
+    → (h i : ℕ) → P (c h i) → P (update₂ c j k l h i)
+keeps-put P c j k l keeps = update₂-each (λ h i m. P (c h i) → P m) c j k l keeps (λ h i n x. x)
+
+-- and so is, in a broadcast, a claim that a message behind the others leaves true
+pub keeps-broadcast : (P : List Message → Type 0) (p k : ℕ) (m : Message) (c : Channels)
+    → ((l : List Message) → P l → P (l ++ (m ∷ []))) → (h i : ℕ) → P (c h i) → P (broadcast p k m c h i)
+keeps-broadcast P p k m c keeps =
+    broadcast-each (λ h i l. P (c h i) → P l) p k m c (λ i b n. keeps (c k i)) (λ h i n x. x)
+
 -- ---- all messages to an actor
 
 module _ (w : Message → ℕ) (p : ℕ) where
@@ -65,8 +78,12 @@ module _ (w : Message → ℕ) (p : ℕ) where
   abbrev pub into : Channels → ℕ → ℕ
   into c i = sumBelow (suc p) (λ j. weigh w (c j i))
 
+  -- with empty channels there is none
+  pub into-none : (i : ℕ) → into (λ j k. []) i ≡ 0
+  into-none i = sum-zero (suc p) (λ j. 0) (λ j h. refl)
+
   -- one channel to `i` changes
-  pub into-change : (c d : Channels) (i j : ℕ) → j ≤ p → ((k : ℕ) → (k ≡ j → ⊥) → d k i ≡ c k i)
+  into-change : (c d : Channels) (i j : ℕ) → j ≤ p → ((k : ℕ) → (k ≡ j → ⊥) → d k i ≡ c k i)
       → into d i + weigh w (c j i) ≡ into c i + weigh w (d j i)
   into-change c d i j h e =
       sum-change (suc p) (λ k. weigh w (c k i)) (λ k. weigh w (d k i)) j (omega arith) (λ k b n. ap (weigh w) (sym (e k n)))

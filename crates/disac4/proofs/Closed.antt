@@ -9,11 +9,12 @@ use Rattle.base.proofs.Below.{all-below}
 use Rattle.base.proofs.Bools.{clash, refuted, and-left}
 use Rattle.base.proofs.Sums.{sum-none}
 use Rattle.base.proofs.Weight.{weigh}
+use Rattle.disac4.proofs.ByKind.{listMessage}
 use Rattle.disac4.proofs.Channels.{into}
 use Rattle.disac4.proofs.Closing.{Agreed, AtRest, Closing}
 use Rattle.disac4.proofs.Conservation.{Conserved}
 use Rattle.disac4.proofs.Moves.{Moves, treats, sends, reads, takes-poll, ignores, answers, asks, tallies, marks, drops, discards}
-use Rattle.disac4.proofs.Sound.{isList, Quiet}
+use Rattle.disac4.proofs.Quiet.{Quiet}
 use Rattle.disac4.specs.Action.{current, allMarked, afterTreat, afterSend, afterList, afterPoll, afterDrop, afterAnswer, afterAsk, afterCount, afterMark}
 use Rattle.disac4.specs.Event.{Event}
 use Rattle.disac4.specs.State.{State, Controller}
@@ -61,13 +62,13 @@ all-marked-quiet {sys} {st} es conserved g o all =
     quiet x = record {
       no-work = λ k w. rests k w .no-work;
       no-send = λ k w. rests k w .no-send;
-      no-list = λ j k h b. sum-none (suc (sys .workers)) (λ j. weigh isList (st .channel j k)) (none-to k b) j (omega arith);
+      no-list = λ j k h b. sum-none (suc (sys .workers)) (λ j. weigh listMessage (st .channel j k)) (none-to k b) j (omega arith);
     }
       where
         rests : (k : ℕ) → Worker sys k → AtRest (st .listCounter) (st .workList) (st .toSend) k
         rests k w = ⊎-elim (λ y. clash (is-marked k w) (y .unmarked)) (λ y. y) (x .each k w)
 
-        none-to : (k : ℕ) → k ≤ sys .workers → into isList (sys .workers) (st .channel) k ≡ 0
+        none-to : (k : ℕ) → k ≤ sys .workers → into listMessage (sys .workers) (st .channel) k ≡ 0
         none-to zero b = x .all-read
         none-to (suc k) b =
             omega (

@@ -11,17 +11,17 @@ use native.Mathlib.Omega.{arith}
 use borrow.Author.Tests.{eqb-true}
 use lib.Dec.{eqb}
 use Rattle.base.proofs.Bools.{decided, clash, and-left, and-right, or-left, or-false-right}
-use Rattle.base.proofs.Choice.{update-other, update₂-first, update₂-second, update₂-each}
+use Rattle.base.proofs.Choice.{update-other, update₂-first, update₂-second}
 use Rattle.base.proofs.Sums.{sum-some}
 use Rattle.base.proofs.Weight.{weigh}
 use Rattle.base.specs.Choice.{update, update₂}
 use Rattle.network.specs.Network.{Label}
-use Rattle.disac4.proofs.Channels.{Channels, into, into-take, into-put, into-same, broadcast-to, broadcast-self, broadcast-each}
+use Rattle.disac4.proofs.ByKind.{listMessage}
+use Rattle.disac4.proofs.Channels.{Channels, into, into-take, into-put, into-same, broadcast-to, broadcast-self, keeps-put, keeps-broadcast}
 use Rattle.disac4.proofs.Conservation.{Conserved}
 use Rattle.disac4.proofs.Empty.{empty}
 use Rattle.disac4.proofs.Moves.{Moves, treats, sends, reads, takes-poll, ignores, answers, asks, tallies, marks, drops, discards}
 use Rattle.disac4.proofs.Replies.{isReply, replied, listFirst, first-append, first-some, first-sent, first-pass, replied-append, reply-first, none-replied, not-current}
-use Rattle.disac4.proofs.Sound.{isList}
 use Rattle.disac4.proofs.Typed.{Typed, no-self, not-controller, controller-count}
 use Rattle.disac4.specs.Action.{isEmpty, ready, current, broadcast, afterTreat, afterSend, afterList, afterPoll, afterDrop, afterAnswer, afterAsk, afterCount, afterMark}
 use Rattle.disac4.specs.Event.{Event}
@@ -32,31 +32,32 @@ use Rattle.disac4.specs.declared.Poll.{Poll}
 -- ---- over the timestamp `n`, the marks, the channels, the counts of lists, the work lists and the to-send lists
 
 -- a worker that is not marked will end poll `n`: the controller reads a list message before its reply
-pub record Doomed (sys : System) (n : ℕ) (marked : ℕ → Bool) (c : Channels) : Type 0 where
+pub record Doomed (sys : System) (n : ℕ) (marked : ℕ → Bool) (channel : Channels) : Type 0 where
   pub worker : ℕ
   pub is-worker : Worker sys worker
   pub unmarked : marked worker ≡ false
-  pub first : listFirst n (c worker 0) ≡ true
+  pub first : listFirst n (channel worker 0) ≡ true
 
 -- worker `k` has not replied
-pub record Waiting (n : ℕ) (marked : ℕ → Bool) (c : Channels) (k : ℕ) : Type 0 where
+pub record Waiting (n : ℕ) (marked : ℕ → Bool) (channel : Channels) (k : ℕ) : Type 0 where
   pub unmarked : marked k ≡ false
-  pub no-reply : replied n (c k 0) ≡ false
+  pub no-reply : replied n (channel k 0) ≡ false
 
 -- worker `k` has nothing to do, and counts as many lists as the controller
-pub record AtRest (C : ℕ → ℕ) (W O : ℕ → List Label) (k : ℕ) : Type 0 where
-  pub no-work : W k ≡ []
-  pub no-send : O k ≡ []
-  pub counts : C k ≡ C 0
+pub record AtRest (count : ℕ → ℕ) (work out : ℕ → List Label) (k : ℕ) : Type 0 where
+  pub no-work : work k ≡ []
+  pub no-send : out k ≡ []
+  pub counts : count k ≡ count 0
 
 -- the controller has read every list message, and whoever replied is at rest
-pub record Agreed (sys : System) (n : ℕ) (marked : ℕ → Bool) (c : Channels) (C : ℕ → ℕ) (W O : ℕ → List Label) : Type 0 where
-  pub all-read : into isList (sys .workers) c 0 ≡ 0
-  pub each : (k : ℕ) → Worker sys k → Waiting n marked c k ⊎ AtRest C W O k
+pub record Agreed (sys : System) (n : ℕ) (marked : ℕ → Bool) (channel : Channels) (count : ℕ → ℕ) (work out : ℕ → List Label)
+    : Type 0 where
+  pub all-read : into listMessage (sys .workers) channel 0 ≡ 0
+  pub each : (k : ℕ) → Worker sys k → Waiting n marked channel k ⊎ AtRest count work out k
 
 -- what holds of an open poll
 abbrev pub Poised : System → ℕ → (ℕ → Bool) → Channels → (ℕ → ℕ) → (ℕ → List Label) → (ℕ → List Label) → Type 0
-Poised sys n marked c C W O = Doomed sys n marked c ⊎ Agreed sys n marked c C W O
+Poised sys n marked channel count work out = Doomed sys n marked channel ⊎ Agreed sys n marked channel count work out
 
 -- the invariant
 abbrev pub Closing : System → State → Type 0
@@ -64,30 +65,33 @@ Closing sys st =
     st .controller .pollOpen ≡ true
     → Poised sys (st .controller .timestamp) (st .controller .marked) (st .channel) (st .listCounter) (st .workList) (st .toSend)
 
-module _ {sys : System} {n : ℕ} {marked marked′ : ℕ → Bool} {c d : Channels} where
+module _ {sys : System} {n : ℕ} {marked marked′ : ℕ → Bool} {channel channel′ : Channels} where
   -- a poll stays doomed while no worker without a mark gets one, nor loses the list message in front
-  doomed-map : ((k : ℕ) → Worker sys k → marked k ≡ false → listFirst n (c k 0) ≡ true
-      → (marked′ k ≡ false) × (listFirst n (d k 0) ≡ true))
-      → Doomed sys n marked c → Doomed sys n marked′ d
+  doomed-map : ((k : ℕ) → Worker sys k → marked k ≡ false → listFirst n (channel k 0) ≡ true
+      → (marked′ k ≡ false) × (listFirst n (channel′ k 0) ≡ true))
+      → Doomed sys n marked channel → Doomed sys n marked′ channel′
   doomed-map f x =
       let r = f (x .worker) (x .is-worker) (x .unmarked) (x .first) in
       record { worker = x .worker; is-worker = x .is-worker; unmarked = r .0; first = r .1 }
 
-  agreed-map : {C C′ : ℕ → ℕ} {W W′ O O′ : ℕ → List Label}
-      → into isList (sys .workers) d 0 ≡ into isList (sys .workers) c 0
-      → ((k : ℕ) → Worker sys k → Waiting n marked c k ⊎ AtRest C W O k → Waiting n marked′ d k ⊎ AtRest C′ W′ O′ k)
-      → Agreed sys n marked c C W O → Agreed sys n marked′ d C′ W′ O′
+  agreed-map : {count count′ : ℕ → ℕ} {work work′ out out′ : ℕ → List Label}
+      → into listMessage (sys .workers) channel′ 0 ≡ into listMessage (sys .workers) channel 0
+      → ((k : ℕ) → Worker sys k → Waiting n marked channel k ⊎ AtRest count work out k
+      → Waiting n marked′ channel′ k ⊎ AtRest count′ work′ out′ k)
+      → Agreed sys n marked channel count work out → Agreed sys n marked′ channel′ count′ work′ out′
   agreed-map e f x = record { all-read = e ∙ x .all-read; each = λ k w. f k w (x .each k w) }
 
 -- no channel to the controller changes, and no worker that is at rest gets something to do
-still : {sys : System} {n : ℕ} {marked : ℕ → Bool} {c d : Channels} {C C′ : ℕ → ℕ} {W W′ O O′ : ℕ → List Label}
-    → ((k : ℕ) → d k 0 ≡ c k 0)
-    → (into isList (sys .workers) c 0 ≡ 0 → (k : ℕ) → Worker sys k → AtRest C W O k → AtRest C′ W′ O′ k)
-    → Poised sys n marked c C W O → Poised sys n marked d C′ W′ O′
-still {sys} {n} {marked} {c} {d} same f (inl x) = inl (doomed-map (λ k w u e. (u, rw (same k) e)) x)
-still {sys} {n} {marked} {c} {d} same f (inr x) =
+still : {sys : System} {n : ℕ} {marked : ℕ → Bool} {channel channel′ : Channels} {count count′ : ℕ → ℕ}
+    {work work′ out out′ : ℕ → List Label}
+    → ((k : ℕ) → channel′ k 0 ≡ channel k 0)
+    → (into listMessage (sys .workers) channel 0 ≡ 0 → (k : ℕ) → Worker sys k → AtRest count work out k
+    → AtRest count′ work′ out′ k)
+    → Poised sys n marked channel count work out → Poised sys n marked channel′ count′ work′ out′
+still {sys} {n} {marked} {channel} {channel′} same f (inl x) = inl (doomed-map (λ k w u e. (u, rw (same k) e)) x)
+still {sys} {n} {marked} {channel} {channel′} same f (inr x) =
     inr
-    (agreed-map (into-same isList (sys .workers) c d 0 same)
+    (agreed-map (into-same listMessage (sys .workers) channel channel′ 0 same)
     (λ k w. ⊎-elim (λ y. inl (record { unmarked = y .unmarked; no-reply = rw (same k) (y .no-reply) }))
     (λ y. inr (f (x .all-read) k w y)))
     x)
@@ -103,7 +107,7 @@ module _ (sys : System) (st : State) where
 
   -- what holds of an open poll with other marks, channels, counts and lists
   abbrev With : (ℕ → Bool) → Channels → (ℕ → ℕ) → (ℕ → List Label) → (ℕ → List Label) → Type 0
-  With marked′ d C W O = Poised sys n marked′ d C W O
+  With marked′ channel count work out = Poised sys n marked′ channel count work out
 
   -- as it stands
   abbrev Now : Type 0
@@ -114,26 +118,26 @@ module _ (sys : System) (st : State) where
   aside j k l w i = update₂-second (st .channel) j k l i 0 (not-controller w)
 
   -- worker `k` treats a label: it was not at rest
-  treating : (k : ℕ) (a : Label) (rest W O : List Label) → st .workList k ≡ a ∷ rest → Now
-      → With marked (st .channel) (st .listCounter) (update (st .workList) k W) (update (st .toSend) k O)
-  treating k a rest W O e =
+  treating : (k : ℕ) (a : Label) (rest work out : List Label) → st .workList k ≡ a ∷ rest → Now
+      → With marked (st .channel) (st .listCounter) (update (st .workList) k work) (update (st .toSend) k out)
+  treating k a rest work out e =
       still (λ i. refl)
       (λ r i v x.
       elim (ℕ-discrete i k) [
         | yes same ↦ absurd (let z : _≡_ {A = ℕ} 0 1 = cc (ap (st .workList) same, x .no-work) in omega arith)
         | no other ↦ record {
-          no-work = update-other (st .workList) k W i other ∙ x .no-work;
-          no-send = update-other (st .toSend) k O i other ∙ x .no-send;
+          no-work = update-other (st .workList) k work i other ∙ x .no-work;
+          no-send = update-other (st .toSend) k out i other ∙ x .no-send;
           counts = x .counts;
         }
       ])
 
   -- worker `k` reads a list message: with all read by the controller, it was not at rest
   reading : (es : List Event) → Conserved sys st es
-      → (j k m : ℕ) (labels : List Label) (rest : List Message) (W : List Label) → Worker sys k → j ≤ sys .workers
+      → (j k m : ℕ) (labels : List Label) (rest : List Message) (work : List Label) → Worker sys k → j ≤ sys .workers
       → st .channel j k ≡ list labels ∷ rest → Now
-      → With marked (update₂ (st .channel) j k rest) (update (st .listCounter) k m) (update (st .workList) k W) (st .toSend)
-  reading es conserved j k m labels rest W w h e =
+      → With marked (update₂ (st .channel) j k rest) (update (st .listCounter) k m) (update (st .workList) k work) (st .toSend)
+  reading es conserved j k m labels rest work w h e =
       still (aside j k rest w)
       (λ r i v x.
       elim (ℕ-discrete i k) [
@@ -146,10 +150,10 @@ module _ (sys : System) (st : State) where
               r,
               ap (st .listCounter) same,
               x .counts,
-              into-take isList (sys .workers) (st .channel) j k (list labels) rest h e,
+              into-take listMessage (sys .workers) (st .channel) j k (list labels) rest h e,
             ))
         | no other ↦ record {
-          no-work = update-other (st .workList) k W i other ∙ x .no-work;
+          no-work = update-other (st .workList) k work i other ∙ x .no-work;
           no-send = x .no-send;
           counts =
               update-other (st .listCounter) k m i other
@@ -163,16 +167,15 @@ module _ (sys : System) (st : State) where
   doomed-still d keeps = doomed-map (λ i v u f. (u, keeps i 0 f))
 
   -- worker `k` sends: it was not at rest, so it had not replied, and its list message dooms the poll
-  sending : (k : ℕ) (C : ℕ → ℕ) (O : ℕ → List Label) → Worker sys k → isEmpty (st .toSend k) ≡ false → Now
-      → With marked (broadcast (sys .workers) k (list (st .toSend k)) (st .channel)) C (st .workList) O
-  sending k C O w e (inl x) =
+  sending : (k : ℕ) (count : ℕ → ℕ) (out : ℕ → List Label) → Worker sys k → isEmpty (st .toSend k) ≡ false → Now
+      → With marked (broadcast (sys .workers) k (list (st .toSend k)) (st .channel)) count (st .workList) out
+  sending k count out w e (inl x) =
       inl
       (doomed-still _
-      (broadcast-each (λ j i l. listFirst n (st .channel j i) ≡ true → listFirst n l ≡ true) (sys .workers) k
-      (list (st .toSend k)) (st .channel) (λ i b d. first-append n (st .channel k i) (list (st .toSend k) ∷ []))
-      (λ j i n y. y))
+      (keeps-broadcast (λ l. listFirst n l ≡ true) (sys .workers) k (list (st .toSend k)) (st .channel)
+      (λ l. first-append n l (list (st .toSend k) ∷ [])))
       x)
-  sending k C O w e (inr x) =
+  sending k count out w e (inr x) =
       ⊎-elim
       (λ y.
       inl
@@ -188,19 +191,19 @@ module _ (sys : System) (st : State) where
       (x .each k w)
 
   -- the controller takes a message of no account to the poll
-  passing : (k : ℕ) (m : Message) (rest : List Message) → Worker sys k → st .channel k 0 ≡ m ∷ rest → isList m ≡ 0
+  passing : (k : ℕ) (m : Message) (rest : List Message) → Worker sys k → st .channel k 0 ≡ m ∷ rest → listMessage m ≡ 0
       → isReply n m ≡ false → Now
       → With marked (update₂ (st .channel) k 0 rest) (st .listCounter) (st .workList) (st .toSend)
   passing k m rest w e no-list no-reply (inl x) =
       inl
       (doomed-still _
-      (update₂-each (λ j i l. listFirst n (st .channel j i) ≡ true → listFirst n l ≡ true) (st .channel) k 0 rest
-      (λ y. first-pass n m rest no-list no-reply (rw e at y)) (λ j i n y. y))
+      (keeps-put (λ l. listFirst n l ≡ true) (st .channel) k 0 rest
+      (λ y. first-pass n m rest no-list no-reply (rw e at y)))
       x)
   passing k m rest w e no-list no-reply (inr x) =
       inr
       (agreed-map
-      (omega (arith, into-take isList (sys .workers) (st .channel) k 0 m rest (w .within) e))
+      (omega (arith, into-take listMessage (sys .workers) (st .channel) k 0 m rest (w .within) e))
       (λ i v.
       ⊎-elim
       (λ y.
@@ -208,25 +211,24 @@ module _ (sys : System) (st : State) where
       (record {
         unmarked = y .unmarked;
         no-reply =
-            update₂-each (λ j i l. replied n (st .channel j i) ≡ false → replied n l ≡ false) (st .channel) k 0 rest
-            (λ z. or-false-right (isReply n m) (replied n rest) (rw e at z)) (λ j i n z. z) i 0 (y .no-reply);
+            keeps-put (λ l. replied n l ≡ false) (st .channel) k 0 rest
+            (λ z. or-false-right (isReply n m) (replied n rest) (rw e at z)) i 0 (y .no-reply);
       }))
       inr)
       x)
 
   -- worker `k`, which is at rest if this is the open poll, replies to it
-  answering : (k : ℕ) (m : Message) → Worker sys k → isList m ≡ 0
+  answering : (k : ℕ) (m : Message) → Worker sys k → listMessage m ≡ 0
       → (isReply n m ≡ true → AtRest (st .listCounter) (st .workList) (st .toSend) k) → Now
       → With marked (update₂ (st .channel) k 0 (st .channel k 0 ++ (m ∷ []))) (st .listCounter) (st .workList) (st .toSend)
   answering k m w no-list rests (inl x) =
       inl
       (doomed-still _
-      (update₂-each (λ j i l. listFirst n (st .channel j i) ≡ true → listFirst n l ≡ true) (st .channel) k 0 _
-      (first-append n (st .channel k 0) (m ∷ [])) (λ j i n y. y))
+      (keeps-put (λ l. listFirst n l ≡ true) (st .channel) k 0 _ (first-append n (st .channel k 0) (m ∷ [])))
       x)
   answering k m w no-list rests (inr x) =
       inr
-      (agreed-map (omega (arith, into-put isList (sys .workers) (st .channel) k 0 m (w .within)))
+      (agreed-map (omega (arith, into-put listMessage (sys .workers) (st .channel) k 0 m (w .within)))
       (λ i v. ⊎-elim (λ y. waiting i y (decided (isReply n m))) inr) x)
     where
       grown : Channels
@@ -239,8 +241,8 @@ module _ (sys : System) (st : State) where
           (record {
             unmarked = y .unmarked;
             no-reply =
-                update₂-each (λ j i l. replied n (st .channel j i) ≡ false → replied n l ≡ false) (st .channel) k 0 _
-                (λ z. replied-append n (st .channel k 0) m z r) (λ j i n z. z) i 0 (y .no-reply);
+                keeps-put (λ l. replied n l ≡ false) (st .channel) k 0 _
+                (λ z. replied-append n (st .channel k 0) m z r) i 0 (y .no-reply);
           })
       waiting i y (inl r) =
           elim (ℕ-discrete i k) [
@@ -252,7 +254,7 @@ module _ (sys : System) (st : State) where
           ]
 
   -- the controller takes a reply to the poll
-  marking : (k : ℕ) (m : Message) (rest : List Message) → Worker sys k → st .channel k 0 ≡ m ∷ rest → isList m ≡ 0
+  marking : (k : ℕ) (m : Message) (rest : List Message) → Worker sys k → st .channel k 0 ≡ m ∷ rest → listMessage m ≡ 0
       → isReply n m ≡ true → Now
       → With (update marked k true) (update₂ (st .channel) k 0 rest) (st .listCounter) (st .workList) (st .toSend)
   marking k m rest w e no-list is-reply (inl x) =
@@ -270,7 +272,7 @@ module _ (sys : System) (st : State) where
   marking k m rest w e no-list is-reply (inr x) =
       inr
       (agreed-map
-      (omega (arith, into-take isList (sys .workers) (st .channel) k 0 m rest (w .within) e))
+      (omega (arith, into-take listMessage (sys .workers) (st .channel) k 0 m rest (w .within) e))
       (λ i v.
       ⊎-elim
       (λ y.
@@ -287,28 +289,28 @@ module _ (sys : System) (st : State) where
   -- the controller asks a poll: it is doomed exactly if a list message is on its way to the controller
   asking : Typed sys st → (d : Channels) → ((i : ℕ) → d i 0 ≡ st .channel i 0)
       → Poised sys (suc n) (λ k. false) d (st .listCounter) (st .workList) (st .toSend)
-  asking t d same = go (into isList (sys .workers) (st .channel) 0) refl
+  asking t d same = go (into listMessage (sys .workers) (st .channel) 0) refl
     where
       none-yet : (i : ℕ) → replied (suc n) (st .channel i 0) ≡ false
       none-yet i = none-replied t (suc n) (omega arith) i 0
 
-      from-worker : (j : ℕ) → 0 < weigh isList (st .channel j 0) → 0 < j
+      from-worker : (j : ℕ) → 0 < weigh listMessage (st .channel j 0) → 0 < j
       from-worker j h =
           elim (ℕ-discrete j 0) [
-            | yes same ↦ absurd (omega (arith, rw same at h, ap (weigh isList) (no-self t 0)))
+            | yes same ↦ absurd (omega (arith, rw same at h, ap (weigh listMessage) (no-self t 0)))
             | no other ↦ omega arith
           ]
 
-      go : (l : ℕ) → into isList (sys .workers) (st .channel) 0 ≡ l
+      go : (l : ℕ) → into listMessage (sys .workers) (st .channel) 0 ≡ l
           → Poised sys (suc n) (λ k. false) d (st .listCounter) (st .workList) (st .toSend)
       go zero e =
           inr
           (record {
-            all-read = into-same isList (sys .workers) (st .channel) d 0 same ∙ e;
+            all-read = into-same listMessage (sys .workers) (st .channel) d 0 same ∙ e;
             each = λ k w. inl (record { unmarked = refl; no-reply = rw (same k) (none-yet k) });
           })
       go (suc l) e =
-          let r = sum-some (suc (sys .workers)) (λ j. weigh isList (st .channel j 0)) (omega arith) in
+          let r = sum-some (suc (sys .workers)) (λ j. weigh listMessage (st .channel j 0)) (omega arith) in
           inl
           (record {
             worker = r .0;

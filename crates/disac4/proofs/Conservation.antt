@@ -5,54 +5,47 @@ use mathlib.Core.Path.{_≡_, refl, _∙_}
 use native.Mathlib.Decide.{ℕ-discrete}
 use native.Mathlib.Omega.{arith}
 use Rattle.base.proofs.Choice.{update-same, update-other}
-use Rattle.base.proofs.Sums.{sum-zero}
 use Rattle.base.proofs.Weight.{weigh, weigh-append}
 use Rattle.base.specs.Choice.{update, update₂}
 use Rattle.network.specs.Network.{Label}
-use Rattle.disac4.proofs.Channels.{Channels, into, into-take, into-put, into-other, into-broadcast, into-broadcast-self}
+use Rattle.disac4.proofs.ByKind.{listMessage, sendEvent}
+use Rattle.disac4.proofs.Channels.{Channels, into, into-none, into-take, into-put, into-other, into-broadcast, into-broadcast-self}
 use Rattle.disac4.proofs.Moves.{Moves, treats, sends, reads, takes-poll, ignores, answers, asks, tallies, marks, drops, discards}
-use Rattle.disac4.proofs.Sound.{isList}
 use Rattle.disac4.specs.Action.{broadcast, afterTreat, afterSend, afterList, afterPoll, afterDrop, afterAnswer, afterAsk, afterCount, afterMark}
-use Rattle.disac4.specs.Event.{Event, sent, taken, treated}
+use Rattle.disac4.specs.Event.{Event}
 use Rattle.disac4.specs.Loading.{load}
 use Rattle.disac4.specs.State.{State, Message, list, poll, reply}
 use Rattle.disac4.specs.System.{System}
 
--- 1 for a send
-abbrev pub isSent : Event → ℕ
-isSent (sent k labels) = 1
-isSent (taken i j labels) = 0
-isSent (treated k a) = 0
-
 -- every actor has read or sent, or has on its way to it, each of the list messages sent so far
 abbrev pub Conserved : System → State → List Event → Type 0
 Conserved sys st es =
-    (i : ℕ) → i ≤ sys .workers → st .listCounter i + into isList (sys .workers) (st .channel) i ≡ weigh isSent es
+    (i : ℕ) → i ≤ sys .workers → st .listCounter i + into listMessage (sys .workers) (st .channel) i ≡ weigh sendEvent es
 
 -- actor `k` takes or broadcasts a message: its count goes up exactly by the list messages among them
-module _ (p : ℕ) (C D : ℕ → ℕ) (c : Channels) (k : ℕ) (m : Message)
-    (counts : D k ≡ C k + isList m) (others : (i : ℕ) → (i ≡ k → ⊥) → D i ≡ C i) where
+module _ (p : ℕ) (count count′ : ℕ → ℕ) (c : Channels) (k : ℕ) (m : Message)
+    (counts : count′ k ≡ count k + listMessage m) (others : (i : ℕ) → (i ≡ k → ⊥) → count′ i ≡ count i) where
   take-conserves : (j : ℕ) (rest : List Message) → j ≤ p → c j k ≡ m ∷ rest → (i : ℕ)
-      → D i + into isList p (update₂ c j k rest) i ≡ C i + into isList p c i + 0
+      → count′ i + into listMessage p (update₂ c j k rest) i ≡ count i + into listMessage p c i + 0
   take-conserves j rest h e i =
       elim (ℕ-discrete i k) [
-        | yes same ↦ rw same (omega (arith, counts, into-take isList p c j k m rest h e))
-        | no other ↦ omega (arith, others i other, into-other isList p c j k rest i other)
+        | yes same ↦ rw same (omega (arith, counts, into-take listMessage p c j k m rest h e))
+        | no other ↦ omega (arith, others i other, into-other listMessage p c j k rest i other)
       ]
 
   broadcast-conserves : k ≤ p → (i : ℕ) → i ≤ p
-      → D i + into isList p (broadcast p k m c) i ≡ C i + into isList p c i + isList m
+      → count′ i + into listMessage p (broadcast p k m c) i ≡ count i + into listMessage p c i + listMessage m
   broadcast-conserves h i b =
       elim (ℕ-discrete i k) [
-        | yes same ↦ rw same (omega (arith, counts, into-broadcast-self isList p c k m))
-        | no other ↦ omega (arith, others i other, into-broadcast isList p c k m i h b other)
+        | yes same ↦ rw same (omega (arith, counts, into-broadcast-self listMessage p c k m))
+        | no other ↦ omega (arith, others i other, into-broadcast listMessage p c k m i h b other)
       ]
 
 module _ (sys : System) (st : State) (i : ℕ) (b : i ≤ sys .workers) where
-  -- actor `i` then has counts `D` and channels `d`, after `n` more list messages were sent
+  -- actor `i` then has these counts and channels, after `n` more list messages were sent
   abbrev Conserves : (ℕ → ℕ) → Channels → ℕ → Type 0
-  Conserves D d n =
-      D i + into isList (sys .workers) d i ≡ st .listCounter i + into isList (sys .workers) (st .channel) i + n
+  Conserves count channel n =
+      count i + into listMessage (sys .workers) channel i ≡ st .listCounter i + into listMessage (sys .workers) (st .channel) i + n
 
   abbrev counted : ℕ → ℕ → ℕ
   counted k = update (st .listCounter) k (suc (st .listCounter k))
@@ -72,14 +65,14 @@ module _ (sys : System) (st : State) (i : ℕ) (b : i ≤ sys .workers) where
 
   -- another message is read
   passing : (j k : ℕ) (m : Message) (rest : List Message) → j ≤ sys .workers → st .channel j k ≡ m ∷ rest
-      → isList m ≡ 0 → Conserves (st .listCounter) (update₂ (st .channel) j k rest) 0
+      → listMessage m ≡ 0 → Conserves (st .listCounter) (update₂ (st .channel) j k rest) 0
   passing j k m rest h e o =
       take-conserves (sys .workers) (st .listCounter) (st .listCounter) (st .channel) k m
       (omega arith) (λ n d. refl) j rest h e i
 
   -- only a send adds a list message to what an actor has counted or has on its way to it
   conserves : {s : State} {new : List Event} → Moves sys st s new
-      → Conserves (s .listCounter) (s .channel) (weigh isSent new)
+      → Conserves (s .listCounter) (s .channel) (weigh sendEvent new)
   unfolding afterTreat afterSend afterList afterPoll afterDrop afterAnswer afterAsk afterCount afterMark
   conserves (treats k a rest w e) = omega arith
   conserves (sends k w e) =
@@ -91,9 +84,9 @@ module _ (sys : System) (st : State) (i : ℕ) (b : i ≤ sys .workers) where
   conserves (answers k q w e r) =
       elim (ℕ-discrete i 0) [
         | yes same ↦
-            rw same (omega (arith, into-put isList (sys .workers) (st .channel) k 0 (reply (q .number)) (w .within)))
+            rw same (omega (arith, into-put listMessage (sys .workers) (st .channel) k 0 (reply (q .number)) (w .within)))
         | no other ↦
-            omega (arith, into-other isList (sys .workers) (st .channel) k 0 (st .channel k 0 ++ (reply (q .number) ∷ [])) i other)
+            omega (arith, into-other listMessage (sys .workers) (st .channel) k 0 (st .channel k 0 ++ (reply (q .number) ∷ [])) i other)
       ]
   conserves (asks e) =
       broadcast-conserves (sys .workers) (st .listCounter) (st .listCounter) (st .channel) 0 _
@@ -107,9 +100,9 @@ module _ (sys : System) (st : State) (i : ℕ) (b : i ≤ sys .workers) where
 pub conserved-move : {sys : System} {st s : State} (es : List Event) {new : List Event} → Moves sys st s new
     → Conserved sys st es → Conserved sys s (es ++ new)
 conserved-move {sys} {st} es {new} move h i b =
-    omega (arith, conserves sys st i b move, h i b, weigh-append isSent es new)
+    omega (arith, conserves sys st i b move, h i b, weigh-append sendEvent es new)
 
 -- conservation holds at loading
 pub conserved-load : (sys : System) → Conserved sys (load sys) []
 unfolding load
-conserved-load sys i b = omega (arith, sum-zero (suc (sys .workers)) (λ j. 0) (λ j h. refl))
+conserved-load sys i b = omega (arith, into-none listMessage (sys .workers) i)

@@ -17,7 +17,7 @@ use Rattle.network.proofs.Loaded.{loaded-variable}
 use Rattle.network.specs.Network.{Label, isLabel, loaded}
 use Rattle.disac4.proofs.Flow.{Flow, flows}
 use Rattle.disac4.proofs.Occurrences.{occurs, sentBy, readBy}
-use Rattle.disac4.proofs.Sound.{Quiet}
+use Rattle.disac4.proofs.Quiet.{Quiet}
 use Rattle.disac4.proofs.Treated.{sent-exactly, read-exactly, treated-exactly}
 use Rattle.disac4.specs.Event.{Event, sent, taken, treated, events, holds, isSentWith, isReadWith, isTreatOf, unsent, unread, untreated, deleted}
 use Rattle.disac4.specs.Loading.{load}

@@ -21,7 +21,7 @@ use Rattle.disac4.specs.State.{State}
 use Rattle.disac4.specs.System.{System, Worker}
 
 -- only labels in the domains are deleted
-pub deletes-listed : (sys : System) (k : ℕ) (a : Label) (st : State) (x v : ℕ) → deletes sys k a st x v ≡ true
+deletes-listed : (sys : System) (k : ℕ) (a : Label) (st : State) (x v : ℕ) → deletes sys k a st x v ≡ true
     → st .domain x v ≡ true
 unfolding deletes loses
 deletes-listed sys k a st x v e =
@@ -49,7 +49,7 @@ one-owner p (suc k) b a h =
     ∙ ap (λ x. one (x && b)) (eq-eqb (suc k) (suc k) refl)
 
 -- each label is counted at its owner alone
-pub size-by-owner : (sys : System) → ((x : ℕ) → x < sys .net .variables → Worker sys (sys .owner x)) → (t : Domains)
+size-by-owner : (sys : System) → ((x : ℕ) → x < sys .net .variables → Worker sys (sys .owner x)) → (t : Domains)
     → overWorkers (sys .workers) (λ k. domainSize (sys .net) (λ x v. eqb (sys .owner x) k && t x v))
     ≡ domainSize (sys .net) t
 unfolding domainSize

@@ -1,5 +1,5 @@
 -- While a poll is open, every worker is marked, has its reply on the way, or will hold that poll.
-use Prim.Native.Nat.{ℕ, suc}
+use Prim.Native.Nat.{ℕ}
 use mathlib.Core.Bool.{Bool, true, false, false≢true}
 use mathlib.Core.List.{List, [], _∷_, _++_}
 use mathlib.Core.Logic.{_⊎_, inl, inr, ⊎-elim}
@@ -8,13 +8,13 @@ use mathlib.Core.Path.{_≡_, refl, sym, _∙_, ap}
 use native.Mathlib.Decide.{ℕ-discrete}
 use borrow.Author.Tests.{eq-eqb}
 use Rattle.base.proofs.Bools.{clash, or-cases, or-left}
-use Rattle.base.proofs.Choice.{update-same, update-other, update₂-same, update₂-first, update₂-second, update₂-each}
+use Rattle.base.proofs.Choice.{update-same, update-other, update₂-same, update₂-first, update₂-second}
 use Rattle.base.proofs.Members.{anyOf-left, anyOf-right}
 use Rattle.base.specs.Choice.{update, update₂}
-use Rattle.disac4.proofs.Channels.{Channels, broadcast-to, broadcast-sender, broadcast-each}
+use Rattle.disac4.proofs.Channels.{Channels, broadcast-to, broadcast-sender, keeps-put, keeps-broadcast}
 use Rattle.disac4.proofs.Moves.{Moves, treats, sends, reads, takes-poll, ignores, answers, asks, tallies, marks, drops, discards}
 use Rattle.disac4.proofs.Replies.{isReply, replied, not-current}
-use Rattle.disac4.proofs.Typed.{Typed, not-controller, controller-count}
+use Rattle.disac4.proofs.Typed.{Typed, not-controller, counts-on}
 use Rattle.disac4.specs.Action.{current, nextPoll, listsRead, broadcast, afterTreat, afterSend, afterList, afterPoll, afterDrop, afterAnswer, afterAsk, afterCount, afterMark}
 use Rattle.disac4.specs.Event.{Event}
 use Rattle.disac4.specs.State.{State, Message, list, poll, reply}
@@ -42,11 +42,11 @@ held-from q r (list labels ∷ l) e = held-from q r l e
 held-from q r (poll s ∷ l) e = inr e
 held-from q r (reply n ∷ l) e = held-from q r l e
 
--- worker `k` is marked, has its reply to poll `q` on the way, or will hold that poll
-pub data Answered (q : Poll) (marked : ℕ → Bool) (held : ℕ → Option Poll) (c : Channels) (k : ℕ) : Type 0 where
-  has-mark : marked k ≡ true → Answered q marked held c k
-  has-replied : replied (q .number .0) (c k 0) ≡ true → Answered q marked held c k
-  will-hold : heldAfter (held k) (c 0 k) ≡ some q → Answered q marked held c k
+-- poll `q` accounts for worker `k`: it is marked, has its reply on the way, or will hold that poll
+pub data Accounted (q : Poll) (marked : ℕ → Bool) (held : ℕ → Option Poll) (c : Channels) (k : ℕ) : Type 0 where
+  has-mark : marked k ≡ true → Accounted q marked held c k
+  has-replied : replied (q .number .0) (c k 0) ≡ true → Accounted q marked held c k
+  will-hold : heldAfter (held k) (c 0 k) ≡ some q → Accounted q marked held c k
 
 -- the open poll
 abbrev pub openPoll : State → Poll
@@ -56,16 +56,16 @@ openPoll st = record { number = record { 0 = st .controller .timestamp }; wanted
 abbrev pub Expected : System → State → Type 0
 Expected sys st =
     st .controller .pollOpen ≡ true → (k : ℕ) → Worker sys k
-    → Answered (openPoll st) (st .controller .marked) (st .held) (st .channel) k
+    → Accounted (openPoll st) (st .controller .marked) (st .held) (st .channel) k
 
-answered-map : {q : Poll} {marked marked′ : ℕ → Bool} {held held′ : ℕ → Option Poll} {c d : Channels} {k : ℕ}
+accounted-map : {q : Poll} {marked marked′ : ℕ → Bool} {held held′ : ℕ → Option Poll} {c d : Channels} {k : ℕ}
     → (marked k ≡ true → marked′ k ≡ true)
     → (replied (q .number .0) (c k 0) ≡ true → replied (q .number .0) (d k 0) ≡ true)
-    → (heldAfter (held k) (c 0 k) ≡ some q → Answered q marked′ held′ d k)
-    → Answered q marked held c k → Answered q marked′ held′ d k
-answered-map f g h (has-mark x) = has-mark (f x)
-answered-map f g h (has-replied x) = has-replied (g x)
-answered-map f g h (will-hold x) = h x
+    → (heldAfter (held k) (c 0 k) ≡ some q → Accounted q marked′ held′ d k)
+    → Accounted q marked held c k → Accounted q marked′ held′ d k
+accounted-map f g h (has-mark x) = has-mark (f x)
+accounted-map f g h (has-replied x) = has-replied (g x)
+accounted-map f g h (will-hold x) = h x
 
 -- ---- every move keeps it
 
@@ -74,7 +74,7 @@ module _ (sys : System) (st : State) where
   now = openPoll st
 
   abbrev With : (ℕ → Bool) → (ℕ → Option Poll) → Channels → Type 0
-  With marked held d = (k : ℕ) → Worker sys k → Answered now marked held d k
+  With marked held d = (k : ℕ) → Worker sys k → Accounted now marked held d k
 
   abbrev Now : Type 0
   Now = With (st .controller .marked) (st .held) (st .channel)
@@ -84,11 +84,11 @@ module _ (sys : System) (st : State) where
       → ((o : Option Poll) → heldAfter o (m ∷ rest) ≡ heldAfter o rest) → Now
       → With (st .controller .marked) (st .held) (update₂ (st .channel) j k rest)
   worker-takes j k m rest w e no-poll g i v =
-      answered-map (λ x. x) (λ x. rw (update₂-second (st .channel) j k rest i 0 (not-controller w)) x)
+      accounted-map (λ x. x) (λ x. rw (update₂-second (st .channel) j k rest i 0 (not-controller w)) x)
       (λ x.
       will-hold
-      (update₂-each (λ j k l. (o : Option Poll) → heldAfter o l ≡ heldAfter o (st .channel j k)) (st .channel) j k rest
-      (λ o. sym (no-poll o) ∙ ap (heldAfter o) (sym e)) (λ j k n o. refl) 0 i (st .held i) ∙ x))
+      (keeps-put (λ l. heldAfter (st .held i) l ≡ some now) (st .channel) j k rest
+      (λ y. sym (no-poll (st .held i)) ∙ (rw e at y)) 0 i x))
       (g i v)
 
   -- the controller takes a message that is no reply to the poll
@@ -96,11 +96,9 @@ module _ (sys : System) (st : State) where
       → isReply (now .number .0) m ≡ false → Now
       → With (st .controller .marked) (st .held) (update₂ (st .channel) k 0 rest)
   controller-takes k m rest w e no-reply g i v =
-      answered-map (λ x. x)
-      (update₂-each (λ j i l. replied (now .number .0) (st .channel j i) ≡ true → replied (now .number .0) l ≡ true)
-      (st .channel) k 0 rest
-      (λ x. ⊎-elim (λ y. clash y no-reply) (λ y. y) (or-cases (isReply (now .number .0) m) _ (rw e at x)))
-      (λ j i n x. x) i 0)
+      accounted-map (λ x. x)
+      (keeps-put (λ l. replied (now .number .0) l ≡ true) (st .channel) k 0 rest
+      (λ x. ⊎-elim (λ y. clash y no-reply) (λ y. y) (or-cases (isReply (now .number .0) m) _ (rw e at x))) i 0)
       (λ x. will-hold (rw (update₂-first (st .channel) k 0 rest 0 i (not-controller w)) x))
       (g i v)
 
@@ -108,7 +106,7 @@ module _ (sys : System) (st : State) where
   hearing : (k : ℕ) (q : Poll) (rest : List Message) → Worker sys k → st .channel 0 k ≡ poll q ∷ rest → Now
       → With (st .controller .marked) (update (st .held) k (some q)) (update₂ (st .channel) 0 k rest)
   hearing k q rest w e g i v =
-      answered-map (λ x. x) (λ x. rw (update₂-second (st .channel) 0 k rest i 0 (not-controller w)) x)
+      accounted-map (λ x. x) (λ x. rw (update₂-second (st .channel) 0 k rest i 0 (not-controller w)) x)
       (λ x.
       elim (ℕ-discrete i k) [
         | yes same ↦
@@ -125,10 +123,9 @@ module _ (sys : System) (st : State) where
       → With (st .controller .marked) (update (st .held) k none)
       (update₂ (st .channel) k 0 (st .channel k 0 ++ (reply (q .number) ∷ [])))
   answering k q w e g i v =
-      answered-map (λ x. x)
-      (update₂-each (λ j i l. replied (now .number .0) (st .channel j i) ≡ true → replied (now .number .0) l ≡ true)
-      (st .channel) k 0 box (anyOf-left (isReply (now .number .0)) (st .channel k 0) (reply (q .number) ∷ []))
-      (λ j i n x. x) i 0)
+      accounted-map (λ x. x)
+      (keeps-put (λ l. replied (now .number .0) l ≡ true) (st .channel) k 0 box
+      (anyOf-left (isReply (now .number .0)) (st .channel k 0) (reply (q .number) ∷ [])) i 0)
       (λ x.
       elim (ℕ-discrete i k) [
         | yes same ↦ rw same (here (rw (same, e) at x))
@@ -143,7 +140,7 @@ module _ (sys : System) (st : State) where
       aside i = update₂-first (st .channel) k 0 box 0 i (not-controller w)
 
       here : heldAfter (some q) (st .channel 0 k) ≡ some now
-          → Answered now (st .controller .marked) (update (st .held) k none) (update₂ (st .channel) k 0 box) k
+          → Accounted now (st .controller .marked) (update (st .held) k none) (update₂ (st .channel) k 0 box) k
       here x =
           ⊎-elim
           (λ y.
@@ -161,7 +158,7 @@ module _ (sys : System) (st : State) where
       elim (ℕ-discrete i k) [
         | yes same ↦ has-mark (rw same (update-same (st .controller .marked) k true))
         | no other ↦
-            answered-map (λ x. update-other (st .controller .marked) k true i other ∙ x)
+            accounted-map (λ x. update-other (st .controller .marked) k true i other ∙ x)
             (λ x. rw (update₂-first (st .channel) k 0 rest i 0 other) x)
             (λ x. will-hold (rw (update₂-first (st .channel) k 0 rest 0 i (not-controller w)) x)) (g i v)
       ]
@@ -170,16 +167,15 @@ module _ (sys : System) (st : State) where
   sending : (k : ℕ) (m : Message) → Worker sys k → Now
       → With (st .controller .marked) (st .held) (broadcast (sys .workers) k m (st .channel))
   sending k m w g i v =
-      answered-map (λ x. x)
-      (broadcast-each (λ j i l. replied (now .number .0) (st .channel j i) ≡ true → replied (now .number .0) l ≡ true)
-      (sys .workers) k m (st .channel)
-      (λ i b d. anyOf-left (isReply (now .number .0)) (st .channel k i) (m ∷ [])) (λ j i n x. x) i 0)
+      accounted-map (λ x. x)
+      (keeps-broadcast (λ l. replied (now .number .0) l ≡ true) (sys .workers) k m (st .channel)
+      (λ l. anyOf-left (isReply (now .number .0)) l (m ∷ [])) i 0)
       (λ x. will-hold (rw (broadcast-sender (sys .workers) k m (st .channel) 0 i (not-controller w)) x))
       (g i v)
 
   -- every worker will hold a poll that is asked
   asking : (q : Poll) (i : ℕ) → Worker sys i
-      → Answered q (λ k. false) (st .held) (broadcast (sys .workers) 0 (poll q) (st .channel)) i
+      → Accounted q (λ k. false) (st .held) (broadcast (sys .workers) 0 (poll q) (st .channel)) i
   asking q i v =
       will-hold
       (rw (broadcast-to (sys .workers) 0 (poll q) (st .channel) i (v .within) (λ x. not-controller v (sym x)))
@@ -190,10 +186,9 @@ module _ (sys : System) (st : State) where
   unfolding nextPoll current afterTreat afterSend afterList afterPoll afterDrop afterAnswer afterAsk afterCount afterMark
   expected-move t g (treats k a rest w e) o = g o
   expected-move t g (sends k w e) o =
-      rw (controller-count (st .listCounter) k (suc (st .listCounter k)) w) (sending k (list (st .toSend k)) w (g o))
+      rw (counts-on (st .listCounter) w) (sending k (list (st .toSend k)) w (g o))
   expected-move t g (reads j k labels rest w h d e) o =
-      rw (controller-count (st .listCounter) k (suc (st .listCounter k)) w)
-      (worker-takes j k (list labels) rest w e (λ x. refl) (g o))
+      rw (counts-on (st .listCounter) w) (worker-takes j k (list labels) rest w e (λ x. refl) (g o))
   expected-move t g (takes-poll j k q rest w h d e) o =
       let from-controller : j ≡ 0 = (rw e at (t .messages j k)) .0 .kind .0 in
       rw from-controller (hearing k q rest w (rw from-controller at e) (g o))
@@ -203,6 +198,5 @@ module _ (sys : System) (st : State) where
   expected-move t g (tallies k labels rest w e) o = absurd (false≢true o)
   expected-move t g (marks k i rest w e r) o = marking k rest w (g o)
   expected-move t g (drops k i rest w e r) o =
-      controller-takes k (reply i) rest w e
-      (not-current st i o r) (g o)
+      controller-takes k (reply i) rest w e (not-current st i o r) (g o)
   expected-move t g (discards k q rest w e) o = controller-takes k (poll q) rest w e refl (g o)

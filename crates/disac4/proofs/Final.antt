@@ -16,7 +16,7 @@ use Rattle.disac4.specs.System.{System}
 use Rattle.disac4.specs.Turn.{Turn, step, play}
 
 -- in a closed plan every turn is idle
-pub closed-idle : (sys : System) (st : State) → st .controller .closed ≡ true → (t : Turn) → step sys st t ≡ none
+closed-idle : (sys : System) (st : State) → st .controller .closed ≡ true → (t : Turn) → step sys st t ≡ none
 unfolding step
 closed-idle sys st e t = rw e
 
@@ -25,7 +25,7 @@ pub closed-stays : (sys : System) (st : State) → st .controller .closed ≡ tr
 closed-stays sys st e = idle-stays (step sys) st (closed-idle sys st e)
 
 -- a turn puts no label back
-pub move-shrinks : {sys : System} {st s : State} {es : List Event} → Moves sys st s es → Within (s .domain) (st .domain)
+move-shrinks : {sys : System} {st s : State} {es : List Event} → Moves sys st s es → Within (s .domain) (st .domain)
 unfolding Within afterTreat
 move-shrinks {sys} {st} {s} {es} =
     by-treat sys st (λ s es. Within (s .domain) (st .domain))

@@ -47,7 +47,7 @@ module _ {S T : Type 0} (step : S → T → Option S) where
   play-append [] us s = refl
   play-append (t ∷ ts) us s = play-append ts us (afterBy step s t)
 
-  pub count-append : (test : T → Bool) (ts us : List T) (s : S)
+  count-append : (test : T → Bool) (ts us : List T) (s : S)
       → countBy step test s (ts ++ us) ≡ countBy step test s ts + countBy step test (playBy step s ts) us
   unfolding playBy countBy gatherBy
   count-append test [] us s = omega arith

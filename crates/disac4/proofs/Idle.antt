@@ -13,8 +13,8 @@ use Rattle.base.proofs.Choice.{cond-true, cond-false, update₂-first, update�
 use Rattle.base.specs.Choice.{update₂}
 use Rattle.network.specs.Network.{Label}
 use Rattle.disac4.proofs.Channels.{broadcast-sender}
+use Rattle.disac4.proofs.IdleAction.{none-chosen, some-refused, none-taken, read-takes, hear-takes}
 use Rattle.disac4.proofs.Moves.{Moves, treats, sends, reads, takes-poll, ignores, answers, asks, tallies, marks, drops, discards, turnOf, moves}
-use Rattle.disac4.proofs.Progress.{none-chosen, some-refused, none-taken, read-takes, hear-takes}
 use Rattle.disac4.specs.Action.{isEmpty, treatFrom, treat, afterTreat, send, afterSend, readFrom, readWorker, afterList, afterPoll, afterDrop, answerTo, answer, ready, afterAnswer, ask, afterAsk, controllerFrom, readController, afterCount, afterMark}
 use Rattle.disac4.specs.Event.{Event}
 use Rattle.disac4.specs.Fold.{isSome}
@@ -24,17 +24,17 @@ use Rattle.disac4.specs.System.{System}
 use Rattle.disac4.specs.Turn.{Turn, treatAction, sendAction, answerAction, pollAction, allowed, workerStep, controllerStep, step}
 
 -- what an actor keeps for itself: its work list, its labels to send, the poll that it holds, its count of lists
-abbrev pub ownOf : State → ℕ → List Label × List Label × Option Poll × ℕ
+abbrev ownOf : State → ℕ → List Label × List Label × Option Poll × ℕ
 ownOf st k = (st .workList k, st .toSend k, st .held k, st .listCounter k)
 
 -- ---- what a turn leaves alone
 
 -- action `d` of actor `k` leaves what other actors keep; every channel but the one that it reads and, where it sends, answers
 -- or polls, those from `k`; and the controller, if `k` is a worker
-pub record Leaves (k d : ℕ) (st s : State) : Type 0 where
-  pub own : (i : ℕ) → (i ≡ k → ⊥) → ownOf s i ≡ ownOf st i
-  pub channel : (j i : ℕ) → (treatAction < d → j ≡ k → ⊥) → (j ≡ d → i ≡ k → ⊥) → s .channel j i ≡ st .channel j i
-  pub controller : 0 < k → s .controller ≡ st .controller
+record Leaves (k d : ℕ) (st s : State) : Type 0 where
+  own : (i : ℕ) → (i ≡ k → ⊥) → ownOf s i ≡ ownOf st i
+  channel : (j i : ℕ) → (treatAction < d → j ≡ k → ⊥) → (j ≡ d → i ≡ k → ⊥) → s .channel j i ≡ st .channel j i
+  controller : 0 < k → s .controller ≡ st .controller
 
 module _ (sys : System) (st : State) where
   -- part by part

@@ -19,8 +19,8 @@ use Rattle.disac4.proofs.ByTreat.{by-treat}
 use Rattle.disac4.proofs.Counters.{Accounts, loaded-counts, load-accounts, move-accounts, accounts}
 use Rattle.disac4.proofs.Moves.{Moves, kept}
 use Rattle.disac4.proofs.Occurrences.{treatedBy}
+use Rattle.disac4.proofs.Quiet.{Quiet}
 use Rattle.disac4.proofs.Remaining.{support-remains, remains-support, loses-owner, loses-support, now-deleted, head-loaded, lowered-counts}
-use Rattle.disac4.proofs.Sound.{Quiet}
 use Rattle.disac4.proofs.Treated.{treated-exactly}
 use Rattle.disac4.specs.Action.{loses, lowered, deletes, afterTreat}
 use Rattle.disac4.specs.Event.{Event, treated, events, deleted}
@@ -129,7 +129,7 @@ never-lost sys sound ts e c =
     .inner
 
 -- in a quiet state each worker has treated every deleted label, so a support that it has not treated is in the domain
-pub quiet-consistent : (sys : System) → Sound sys → (st : State) (es : List Event) → Accounts sys st es → Quiet sys st
+quiet-consistent : (sys : System) → Sound sys → (st : State) (es : List Event) → Accounts sys st es → Quiet sys st
     → ArcConsistent (sys .net) (st .domain)
 unfolding Supported ArcConsistent supports deleted
 quiet-consistent sys sound st es b q x v d y h l =

@@ -183,32 +183,21 @@ module _ (sys : System) (st : State) where
     pub moves : (t : Turn) (s : State) → step sys st t ≡ some s
         → (st .controller .closed ≡ false) × (allowed (sys .workers) t ≡ true) × By t (eventsAt sys st t) s
     unfolding step
-    moves t s e = go (st .controller .closed || not (allowed (sys .workers) t)) refl e
-      where
-        changed : changes sys st t ≡ true
-        changed = ap isSome e
-
-        acts : (b : Bool) → eqb (t .actor) 0 ≡ b → allowed (sys .workers) t ≡ true
-            → cond b (controllerStep sys (t .action) st) (workerStep sys (t .actor) (t .action) st) ≡ some s
-            → By t (eventsAt sys st t) s
-        acts true p ok f =
-            let z : t ≡ turn 0 (t .action) = λ i. record { actor = eqb-true (t .actor) 0 p i; action = t .action } in
-            subst (λ (u : Turn). By u (eventsAt sys st u) s) (sym z)
-            (controller-turn (t .action) s
-            (subst (λ (u : Turn). allowed (sys .workers) u ≡ true) z ok)
-            (subst (λ (u : Turn). changes sys st u ≡ true) z changed)
-            f)
-        acts false p ok f = worker-turn t s p ok changed f
-
-        go : (b : Bool) → (st .controller .closed || not (allowed (sys .workers) t)) ≡ b
-            → cond b none
-            (cond (eqb (t .actor) 0) (controllerStep sys (t .action) st) (workerStep sys (t .actor) (t .action) st))
-            ≡ some s
-            → (st .controller .closed ≡ false) × (allowed (sys .workers) t ≡ true) × By t (eventsAt sys st t) s
-        go true p f = none≢some f
-        go false p f =
-            let ok = not-false (allowed (sys .workers) t) (or-false-right (st .controller .closed) _ p) in
-            (or-false-left (st .controller .closed) _ p, ok, acts (eqb (t .actor) 0) refl ok f)
+    moves t s e =
+        let passes = unless-some (st .controller .closed || not (allowed (sys .workers) t)) e in
+        let ok = not-false (allowed (sys .workers) t) (or-false-right (st .controller .closed) _ (passes .0)) in (
+          or-false-left (st .controller .closed) _ (passes .0),
+          ok,
+          by-test (eqb (t .actor) 0) (passes .1)
+              (λ p f.
+              let z : t ≡ turn 0 (t .action) = λ i. record { actor = eqb-true (t .actor) 0 p i; action = t .action } in
+              subst (λ (u : Turn). By u (eventsAt sys st u) s) (sym z)
+              (controller-turn (t .action) s
+              (subst (λ (u : Turn). allowed (sys .workers) u ≡ true) z ok)
+              (subst (λ (u : Turn). changes sys st u ≡ true) z (ap isSome e))
+              f))
+              (λ p f. worker-turn t s p ok (ap isSome e) f),
+        )
 
 -- ---- invariants of a run
 

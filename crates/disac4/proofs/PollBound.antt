@@ -1,15 +1,15 @@
 -- How many polls a run asks: at most one more than the loaded labels, as between two polls the controller reads a list.
-use Prim.Native.Nat.{suc, _+_, _≤_}
+use Prim.Native.Nat.{_+_, _≤_}
 use mathlib.Core.List.{List}
 use mathlib.Core.Path.{ap}
 use native.Mathlib.Omega.{arith}
 use Rattle.base.proofs.Sums.{one-le}
 use Rattle.base.specs.Below.{one}
 use Rattle.network.specs.Network.{labelCount}
-use Rattle.disac4.proofs.RunNumbers.{list-counter-bound, timestamp-of-run}
 use Rattle.disac4.proofs.Moves.{Moves, treats, sends, reads, takes-poll, ignores, answers, asks, tallies, marks, drops, discards, kept}
+use Rattle.disac4.proofs.RunNumbers.{list-counter-bound, timestamp-of-run}
 use Rattle.disac4.proofs.SendBound.{sends-bound}
-use Rattle.disac4.proofs.Typed.{controller-count}
+use Rattle.disac4.proofs.Typed.{counts-on}
 use Rattle.disac4.specs.Action.{afterTreat, afterSend, afterList, afterPoll, afterDrop, afterAnswer, afterAsk, afterCount, afterMark}
 use Rattle.disac4.specs.Event.{Event}
 use Rattle.disac4.specs.Loading.{load}
@@ -25,9 +25,8 @@ Ended st = st .controller .timestamp ≤ st .listCounter 0 + one (st .controller
 ended-move : {sys : System} {st s : State} {new : List Event} → Ended st → Moves sys st s new → Ended s
 unfolding afterTreat afterSend afterList afterPoll afterDrop afterAnswer afterAsk afterCount afterMark
 ended-move h (treats k a rest w e) = h
-ended-move {sys} {st} h (sends k w e) = omega (arith, controller-count (st .listCounter) k (suc (st .listCounter k)) w)
-ended-move {sys} {st} h (reads j k labels rest w b n e) =
-    omega (arith, controller-count (st .listCounter) k (suc (st .listCounter k)) w)
+ended-move {sys} {st} h (sends k w e) = omega (arith, counts-on (st .listCounter) w)
+ended-move {sys} {st} h (reads j k labels rest w b n e) = omega (arith, counts-on (st .listCounter) w)
 ended-move h (takes-poll j k q rest w b n e) = h
 ended-move h (ignores j k i rest w b n e) = h
 ended-move h (answers k q w e r) = h
@@ -38,7 +37,7 @@ ended-move h (drops k n rest w e c) = h
 ended-move h (discards k q rest w e) = h
 
 -- the timestamp is at most one above the lists that the controller has read
-pub timestamp-bound : {sys : System} → Sound sys → (ts : List Turn)
+timestamp-bound : {sys : System} → Sound sys → (ts : List Turn)
     → play sys (load sys) ts .controller .timestamp ≤ play sys (load sys) ts .listCounter 0 + 1
 timestamp-bound {sys} sound ts =
     let st = play sys (load sys) ts in

@@ -13,7 +13,7 @@ use Rattle.network.specs.Network.{Label, domainSize}
 use Rattle.disac4.proofs.Channels.{Channels, into, into-take, into-put, into-other, into-broadcast, into-broadcast-self}
 use Rattle.disac4.proofs.DomainSize.{treat-size}
 use Rattle.disac4.proofs.Moves.{Moves, treats, sends, reads, takes-poll, ignores, answers, asks, tallies, marks, drops, discards}
-use Rattle.disac4.proofs.Workers.{overWorkers, over-update, over-append, workers-take, workers-apart, workers-broadcast, workers-poll}
+use Rattle.disac4.proofs.Workers.{overWorkers, over-update, over-append, toWorkers, workers-take, workers-apart, workers-broadcast, workers-poll}
 use Rattle.disac4.specs.Action.{isEmpty, deletes, deletions, afterTreat, afterSend, afterList, afterPoll, afterDrop, afterAnswer, nextPoll, afterAsk, afterCount, afterMark}
 use Rattle.disac4.specs.Event.{Event}
 use Rattle.disac4.specs.Fold.{isSome}
@@ -35,7 +35,7 @@ controllerWeight p (reply n) = 1
 
 -- all messages, to workers and to the controller
 abbrev pub traffic : ℕ → Channels → ℕ
-traffic p c = overWorkers p (into workerWeight p c) + into (controllerWeight p) p c 0
+traffic p c = toWorkers p workerWeight c + into (controllerWeight p) p c 0
 
 -- labels to treat; polls held; messages; labels to send; labels in the domains; a poll that may be opened
 unfoldable pub potential : System → State → ℕ

@@ -1,7 +1,7 @@
 -- Progress: while the plan is open, some allowed turn changes something.
 use Prim.Native.Nat.{ℕ, zero, suc, _≤_}
 use mathlib.Core.Bool.{Bool, true, false, cond, _&&_, false≢true}
-use mathlib.Core.List.{List, [], _∷_}
+use mathlib.Core.List.{List, []}
 use mathlib.Core.Logic.{⊎-elim}
 use mathlib.Core.Option.{Option, none, some}
 use mathlib.Core.Path.{_≡_, refl, sym, _∙_, ap, subst}
@@ -17,52 +17,25 @@ use Rattle.base.proofs.Weight.{weigh}
 use Rattle.base.specs.Below.{anyBelow}
 use Rattle.base.specs.Choice.{between}
 use Rattle.disac4.proofs.Allowed.{allowed-bounds, may-read, may-work, may-hear, may-poll}
+use Rattle.disac4.proofs.ByKind.{listMessage}
 use Rattle.disac4.proofs.Channels.{into}
 use Rattle.disac4.proofs.Empty.{empty}
-use Rattle.disac4.proofs.Expected.{openPoll, Answered, has-mark, has-replied, will-hold}
+use Rattle.disac4.proofs.Expected.{openPoll, Accounted, has-mark, has-replied, will-hold}
+use Rattle.disac4.proofs.IdleAction.{none-chosen, some-refused, none-taken, read-takes, hear-takes}
 use Rattle.disac4.proofs.Safety.{Safe, safe-run}
-use Rattle.disac4.proofs.Sound.{isList}
 use Rattle.disac4.proofs.Typed.{no-self, not-controller}
 use Rattle.disac4.specs.Action.{isEmpty, treat, treatFrom, send, readFrom, readWorker, ready, answer, answerTo, ask, allMarked, controllerFrom, readController}
 use Rattle.disac4.specs.Event.{Event, events}
 use Rattle.disac4.specs.Fold.{isSome}
 use Rattle.disac4.specs.Loading.{load}
-use Rattle.disac4.specs.State.{State, Message, list, poll, reply}
+use Rattle.disac4.specs.State.{State}
 use Rattle.disac4.specs.System.{System, Worker, Sound}
 use Rattle.disac4.specs.Turn.{Turn, turn, treatAction, sendAction, answerAction, pollAction, allowed, workerStep, controllerStep, step, play, changes}
 use Rattle.disac4.specs.declared.Poll.{Poll}
 
 -- a state in which no allowed turn changes anything
-abbrev pub Stuck : System → State → Type 0
+abbrev Stuck : System → State → Type 0
 Stuck sys st = (t : Turn) → allowed (sys .workers) t ≡ true → changes sys st t ≡ false
-
--- a choice with one idle outcome that is idle
-pub none-chosen : (b : Bool) (s : State) → isSome (cond b none (some s)) ≡ false → b ≡ true
-none-chosen true s e = refl
-none-chosen false s e = absurd (false≢true (sym e))
-
-pub some-refused : (b : Bool) (s : State) → isSome (cond b (some s) none) ≡ false → b ≡ false
-some-refused true s e = absurd (false≢true (sym e))
-some-refused false s e = refl
-
--- an action that takes the oldest member of a list is idle only where the list is empty
-pub none-taken {ℓ} : {A : Type ℓ} (act : List A → Option State) → ((a : A) (l : List A) → isSome (act (a ∷ l)) ≡ true)
-    → (l : List A) → isSome (act l) ≡ false → l ≡ []
-none-taken act takes [] e = refl
-none-taken act takes (a ∷ l) e = clash (takes a l) e
-
--- a worker takes a message of any kind
-pub read-takes : (j k : ℕ) (st : State) (m : Message) (l : List Message) → isSome (readFrom j k st (m ∷ l)) ≡ true
-read-takes j k st (list labels) l = refl
-read-takes j k st (poll q) l = refl
-read-takes j k st (reply n) l = refl
-
--- and so does the controller
-pub hear-takes : (sys : System) (k : ℕ) (st : State) (m : Message) (l : List Message)
-    → isSome (controllerFrom sys k st (m ∷ l)) ≡ true
-hear-takes sys k st (list labels) l = refl
-hear-takes sys k st (poll q) l = refl
-hear-takes sys k st (reply n) l = refl
 
 module _ (sys : System) (st : State) (few : sys .workers ≤ 8) (running : st .controller .closed ≡ false)
     (stuck : Stuck sys st) where
@@ -134,10 +107,10 @@ module _ (sys : System) (st : State) (few : sys .workers ≤ 8) (running : st .c
         go zero b d = nothing-to-count j (record { above = omega arith; within = h })
         go (suc k) b d = nothing-to-read j (suc k) (record { above = omega arith; within = b }) h d
 
-    no-lists : (k : ℕ) → k ≤ sys .workers → into isList (sys .workers) (st .channel) k ≡ 0
+    no-lists : (k : ℕ) → k ≤ sys .workers → into listMessage (sys .workers) (st .channel) k ≡ 0
     no-lists k b =
-        sum-zero (suc (sys .workers)) (λ j. weigh isList (st .channel j k))
-        (λ j h. ap (weigh isList) (no-messages j k (omega arith) b))
+        sum-zero (suc (sys .workers)) (λ j. weigh listMessage (st .channel j k))
+        (λ j h. ap (weigh listMessage) (no-messages j k (omega arith) b))
 
     is-ready : (k : ℕ) → Worker sys k → ready k (openPoll st) st ≡ true
     unfolding ready
@@ -157,7 +130,7 @@ module _ (sys : System) (st : State) (few : sys .workers ≤ 8) (running : st .c
     all-answered : (k : ℕ) → Worker sys k → st .controller .marked k ≡ true
     all-answered k w = go (g .expected poll-open k w)
       where
-        go : Answered (openPoll st) (st .controller .marked) (st .held) (st .channel) k
+        go : Accounted (openPoll st) (st .controller .marked) (st .held) (st .channel) k
             → st .controller .marked k ≡ true
         go (has-mark x) = x
         go (has-replied x) = absurd (false≢true (rw (no-messages k 0 (w .within) (omega arith)) at x))
@@ -177,7 +150,7 @@ module _ (sys : System) (st : State) (few : sys .workers ≤ 8) (running : st .c
         (λ i h. all-answered (suc i) (record { above = omega arith; within = h }))))
 
 -- a reached state in which no allowed turn changes anything is closed
-pub stuck-closed : {sys : System} → Sound sys → (ts : List Turn) → Stuck sys (play sys (load sys) ts)
+stuck-closed : {sys : System} → Sound sys → (ts : List Turn) → Stuck sys (play sys (load sys) ts)
     → play sys (load sys) ts .controller .closed ≡ true
 stuck-closed {sys} sound ts stuck =
     ⊎-elim (λ e. e)

@@ -8,12 +8,12 @@ use Rattle.base.proofs.Each.{each-mono}
 use Rattle.base.proofs.Sums.{sum-part}
 use Rattle.base.proofs.Weight.{weigh, weigh-zero}
 use Rattle.network.specs.Network.{labelCount}
-use Rattle.disac4.proofs.Answerable.{pollMessage, replyMessage, answerable-bound}
-use Rattle.disac4.proofs.RunNumbers.{lists-of-run}
+use Rattle.disac4.proofs.Answerable.{answerable-bound}
+use Rattle.disac4.proofs.ByKind.{listMessage, pollMessage, replyMessage}
 use Rattle.disac4.proofs.PollBound.{polls-bound}
+use Rattle.disac4.proofs.RunNumbers.{lists-of-run}
 use Rattle.disac4.proofs.Safety.{safe-run}
 use Rattle.disac4.proofs.SendBound.{sends-bound}
-use Rattle.disac4.proofs.Sound.{isList}
 use Rattle.disac4.proofs.Typed.{Kind, Fits, Typed}
 use Rattle.disac4.proofs.WorkBound.{work-bound, to-send-bound}
 use Rattle.disac4.specs.Loading.{load}
@@ -34,7 +34,7 @@ pub record QueueLengths (sys : System) (st : State) (labels : ℕ) : Type 0 wher
   pub to-controller : (k : ℕ) → Worker sys k → length (st .channel k 0) ≤ 2 * labels + 1
 
 -- every message is a list, a poll or a reply
-by-kind : (l : List Message) → length l ≡ weigh isList l + weigh pollMessage l + weigh replyMessage l
+by-kind : (l : List Message) → length l ≡ weigh listMessage l + weigh pollMessage l + weigh replyMessage l
 by-kind [] = refl
 by-kind (list labels ∷ l) = omega (arith, by-kind l)
 by-kind (poll q ∷ l) = omega (arith, by-kind l)
@@ -52,10 +52,10 @@ module _ {sys : System} {st : State} (t : Typed sys st) (j k : ℕ) where
       (λ m. w m ≡ 0) (λ m h. f m (h .kind)) (st .channel j k) (t .messages j k))
 
   -- the controller sends no lists
-  no-lists : j ≡ 0 → weigh isList (st .channel j k) ≡ 0
-  no-lists e = weightless isList go
+  no-lists : j ≡ 0 → weigh listMessage (st .channel j k) ≡ 0
+  no-lists e = weightless listMessage go
     where
-      go : (m : Message) → Sent m → isList m ≡ 0
+      go : (m : Message) → Sent m → listMessage m ≡ 0
       go (list labels) h = absurd (omega arith)
       go (poll q) h = refl
       go (reply n) h = refl
@@ -83,13 +83,13 @@ module _ {sys : System} (sound : Sound sys) (ts : List Turn) where
   now = play sys (load sys) ts
 
   -- a channel has at most as many list messages as were sent
-  lists-bound : (j k : ℕ) → j ≤ sys .workers → k ≤ sys .workers → weigh isList (now .channel j k) ≤ labelCount (sys .net)
+  lists-bound : (j k : ℕ) → j ≤ sys .workers → k ≤ sys .workers → weigh listMessage (now .channel j k) ≤ labelCount (sys .net)
   lists-bound j k h b =
       omega (
         arith,
         lists-of-run sound ts k b,
         sends-bound sound ts,
-        sum-part (suc (sys .workers)) (λ i. weigh isList (now .channel i k)) j (omega arith),
+        sum-part (suc (sys .workers)) (λ i. weigh listMessage (now .channel i k)) j (omega arith),
       )
 
   -- the queues of a run are no longer than these

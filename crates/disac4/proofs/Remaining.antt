@@ -1,15 +1,15 @@
 -- The supports of a label that its owner has not treated: what a treat does to their number, it does to the counter.
 use Prim.Native.Nat.{ℕ, _+_, _-_, _<_, _≤_}
-use mathlib.Core.Bool.{Bool, true, false, cond, _&&_, not}
+use mathlib.Core.Bool.{true, false, cond, _&&_, not}
 use mathlib.Core.List.{List, [], _∷_, _++_}
-use mathlib.Core.Logic.{_⊎_, inl, inr}
+use mathlib.Core.Logic.{⊎-elim}
 use mathlib.Core.Path.{_≡_, refl, sym, _∙_, ap}
 use native.Mathlib.Omega.{arith}
 use borrow.Author.Tests.{eqb-true, eq-eqb}
 use lib.Dec.{eqb}
 use Rattle.base.proofs.Bools.{decided, clash, and-left, and-right, and-intro, and-false-right, refuted}
-use Rattle.base.proofs.Choice.{cond-true, cond-false}
-use Rattle.base.proofs.Sums.{sum-ext, sum-change, sum-part, sum-some, one-le, one-mono}
+use Rattle.base.proofs.Choice.{cond-true, cond-false, cond-ext}
+use Rattle.base.proofs.Sums.{sum-ext, sum-change, sum-part, sum-some, one-le, one-mono, one-passes}
 use Rattle.base.proofs.Weight.{weigh, weigh-append}
 use Rattle.base.specs.Below.{sumBelow, one}
 use Rattle.network.proofs.Labels.{isLabel-same, isLabel-other, isLabel-eq}
@@ -36,12 +36,7 @@ pub support-ext : (sys : System) (es now : List Event) (x v y w : ℕ)
     → (supports (sys .net) x v y w ≡ true
     → weigh (treatedBy y w (sys .owner x)) now ≡ weigh (treatedBy y w (sys .owner x)) es)
     → untreatedSupport sys now x v y w ≡ untreatedSupport sys es x v y w
-support-ext sys es now x v y w h = go (supports (sys .net) x v y w) refl
-  where
-    go : (b : Bool) → supports (sys .net) x v y w ≡ b
-        → cond b (1 - weigh (treatedBy y w (sys .owner x)) now) 0 ≡ cond b (1 - weigh (treatedBy y w (sys .owner x)) es) 0
-    go true p = ap (λ (n : ℕ). 1 - n) (h p)
-    go false p = refl
+support-ext sys es now x v y w h = cond-ext (supports (sys .net) x v y w) _ _ 0 0 (λ p. ap (λ (n : ℕ). 1 - n) (h p)) (λ p. refl)
 
 -- a support that was not treated remains
 pub support-remains : (sys : System) (es : List Event) (x v y w : ℕ) → w < sys .net .size y
@@ -59,14 +54,10 @@ pub remains-support : (sys : System) (es : List Event) (x v y : ℕ) → 0 < rem
     × (weigh (treatedBy y w (sys .owner x)) es ≡ 0)
 remains-support sys es x v y h =
     let (w, i, p) = sum-some (sys .net .size y) (untreatedSupport sys es x v y) h in
-    go w i (supports (sys .net) x v y w) refl p
-  where
-    go : (w : ℕ) → w < sys .net .size y → (b : Bool) → supports (sys .net) x v y w ≡ b
-        → 0 < cond b (1 - weigh (treatedBy y w (sys .owner x)) es) 0
-        → (w : ℕ) × (w < sys .net .size y) × (supports (sys .net) x v y w ≡ true)
-        × (weigh (treatedBy y w (sys .owner x)) es ≡ 0)
-    go w i true s p = (w, i, s, omega arith)
-    go w i false s p = absurd (omega arith)
+    ⊎-elim
+    (λ s. (w, i, s, omega (arith, cond-true (1 - weigh (treatedBy y w (sys .owner x)) es) 0 s)))
+    (λ s. absurd (omega (arith, cond-false (1 - weigh (treatedBy y w (sys .owner x)) es) 0 s)))
+    (decided (supports (sys .net) x v y w))
 
 -- ---- worker `k` treats `a`
 
@@ -119,13 +110,9 @@ module _ (sys : System) (st : State) (es : List Event) (flow : (x v : ℕ) → F
   -- and it was loaded
   pub head-loaded : loaded (sys .net) (a .variable) (a .value) ≡ true
   unfolding deleted
-  head-loaded = go (loaded (sys .net) (a .variable) (a .value)) head
-    where
-      go : (b : Bool)
-          → weigh (treatedBy (a .variable) (a .value) k) es + 1 ≤ one (b && not (st .domain (a .variable) (a .value)))
-          → b ≡ true
-      go true h = refl
-      go false h = absurd (omega arith)
+  head-loaded =
+      and-left (loaded (sys .net) (a .variable) (a .value)) (not (st .domain (a .variable) (a .value)))
+      (one-passes (deleted sys st (a .variable) (a .value)) (omega (arith, head)))
 
   -- a label of `k` that had `a` as a support has one support less
   one-less-support : (x v : ℕ) → loses sys k a st x v ≡ true
@@ -190,18 +177,16 @@ module _ (sys : System) (st : State) (es : List Event) (flow : (x v : ℕ) → F
   pub lowered-counts : (x v y : ℕ) → st .domain x v ≡ true → st .counter x v y ≡ remaining sys es x v y
       → lowered sys k a st x v y ≡ remaining sys now x v y
   unfolding lowered
-  lowered-counts x v y d h = go (decided (loses sys k a st x v && eqb y (a .variable)))
-    where
-      go : ((loses sys k a st x v && eqb y (a .variable)) ≡ true) ⊎ ((loses sys k a st x v && eqb y (a .variable)) ≡ false)
-          → lowered sys k a st x v y ≡ remaining sys now x v y
-      go (inl p) =
-          let e : y ≡ a .variable = eqb-true y (a .variable) (and-right (loses sys k a st x v) (eqb y (a .variable)) p) in
-          omega (
-            arith,
-            cond-true (st .counter x v y - 1) (st .counter x v y) p,
-            one-less-support x v (and-left (loses sys k a st x v) (eqb y (a .variable)) p),
-            ap (remaining sys es x v) e,
-            ap (remaining sys now x v) e,
-          )
-      go (inr p) =
-          omega (arith, cond-false (st .counter x v y - 1) (st .counter x v y) p, same-supports x v y d p)
+  lowered-counts x v y d h =
+      ⊎-elim
+      (λ p.
+      let e : y ≡ a .variable = eqb-true y (a .variable) (and-right (loses sys k a st x v) (eqb y (a .variable)) p) in
+      omega (
+        arith,
+        cond-true (st .counter x v y - 1) (st .counter x v y) p,
+        one-less-support x v (and-left (loses sys k a st x v) (eqb y (a .variable)) p),
+        ap (remaining sys es x v) e,
+        ap (remaining sys now x v) e,
+      ))
+      (λ p. omega (arith, cond-false (st .counter x v y - 1) (st .counter x v y) p, same-supports x v y d p))
+      (decided (loses sys k a st x v && eqb y (a .variable)))

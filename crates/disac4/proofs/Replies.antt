@@ -15,7 +15,7 @@ use Rattle.base.proofs.Members.{anyOf-split}
 use Rattle.base.proofs.Weight.{weigh, weigh-append}
 use Rattle.base.specs.Choice.{anyOf}
 use Rattle.network.specs.Network.{Label}
-use Rattle.disac4.proofs.Sound.{isList}
+use Rattle.disac4.proofs.ByKind.{listMessage}
 use Rattle.disac4.proofs.Typed.{Typed, Fits}
 use Rattle.disac4.specs.Action.{current}
 use Rattle.disac4.specs.State.{State, Message, list, poll, reply}
@@ -49,7 +49,7 @@ module _ (n : ℕ) where
       and-intro (and-left (not (eqb (i .0) n)) _ e) (first-append l m (and-right (not (eqb (i .0) n)) _ e))
 
   -- without a reply, a list message comes first as soon as there is one
-  pub first-some : (l : List Message) → replied n l ≡ false → 0 < weigh isList l → listFirst n l ≡ true
+  pub first-some : (l : List Message) → replied n l ≡ false → 0 < weigh listMessage l → listFirst n l ≡ true
   first-some [] r h = absurd (not-suc-le-zero h)
   first-some (list labels ∷ l) r h = refl
   first-some (poll q ∷ l) r h = first-some l r (omega arith)
@@ -67,10 +67,10 @@ module _ (n : ℕ) where
       → listFirst n (l ++ (list labels ∷ [])) ≡ true
   first-sent l labels r =
       first-some (l ++ (list labels ∷ [])) (replied-append l (list labels) r refl)
-      (omega (arith, weigh-append isList l (list labels ∷ [])))
+      (omega (arith, weigh-append listMessage l (list labels ∷ [])))
 
   -- a message that is neither a list message nor a reply to the poll is of no account
-  pub first-pass : (m : Message) (l : List Message) → isList m ≡ 0 → isReply n m ≡ false
+  pub first-pass : (m : Message) (l : List Message) → listMessage m ≡ 0 → isReply n m ≡ false
       → listFirst n (m ∷ l) ≡ true → listFirst n l ≡ true
   first-pass (list labels) l i r e = absurd (omega arith)
   first-pass (poll q) l i r e = e

@@ -12,9 +12,9 @@ use Rattle.plan.specs.Network.{networkOf}
 use Rattle.plan.specs.Plan.{Plan}
 use Rattle.disac4.proofs.Bound.{changes-bounded}
 use Rattle.disac4.proofs.Demands.{plan-sound}
-use Rattle.disac4.proofs.RunNumbers.{list-counter-bound, timestamp-of-run, lowest-empty-bound}
 use Rattle.disac4.proofs.PollBound.{polls-bound}
 use Rattle.disac4.proofs.QueueLengths.{QueueLengths, queue-lengths, queues-within}
+use Rattle.disac4.proofs.RunNumbers.{list-counter-bound, timestamp-of-run, lowest-empty-bound}
 use Rattle.disac4.proofs.SendBound.{sends-bound}
 use Rattle.disac4.specs.Loading.{load}
 use Rattle.disac4.specs.Report.{lowestEmpty, isSend, isPoll, final}
@@ -33,7 +33,7 @@ pub record RunFits (sys : System) (ts : List Turn) : Type 0 where
   pub queues : QueueLengths sys (final sys ts) 512
 
 -- the bound of turns, for at most eight workers and 512 labels
-pub turn-bound : (p l : ℕ) → p ≤ 8 → l ≤ 512 → turnBound p l ≤ 21529
+turn-bound : (p l : ℕ) → p ≤ 8 → l ≤ 512 → turnBound p l ≤ 21529
 unfolding turnBound
 turn-bound p l few labels =
     let five : 5 * p ≤ 40 = omega arith in

@@ -14,12 +14,11 @@ use Rattle.base.proofs.Choice.{unless-some, some-same}
 use Rattle.base.proofs.Weight.{weigh, weigh-append}
 use Rattle.base.specs.Below.{one, anyBelow, firstBelow}
 use Rattle.network.specs.Network.{Label}
+use Rattle.disac4.proofs.ByKind.{listMessage, sendEvent}
 use Rattle.disac4.proofs.Channels.{into}
-use Rattle.disac4.proofs.Conservation.{isSent}
 use Rattle.disac4.proofs.Fold.{count-keeps}
 use Rattle.disac4.proofs.Moves.{Moves, treats, sends, reads, takes-poll, ignores, answers, asks, tallies, marks, drops, discards, turnOf, Effect, idle, acts, effect}
 use Rattle.disac4.proofs.Safety.{safe-run}
-use Rattle.disac4.proofs.Sound.{isList}
 use Rattle.disac4.specs.Action.{afterTreat, afterSend, afterList, afterPoll, afterDrop, afterAnswer, afterAsk, afterCount, afterMark}
 use Rattle.disac4.specs.Event.{Event, sent, eventsAt, events, treatEvent, readEvent, isTreat, isRead}
 use Rattle.disac4.specs.Fold.{gatherBy, countBy}
@@ -33,22 +32,22 @@ use Rattle.disac4.specs.Turn.{Turn, turn, treatAction, sendAction, answe
 
 module _ (sys : System) where
   -- a turn's events hold a send exactly if it is a send that changed something
-  sent-at : (st : State) (t : Turn) → weigh isSent (eventsAt sys st t) ≡ one (isSend t && changes sys st t)
+  sent-at : (st : State) (t : Turn) → weigh sendEvent (eventsAt sys st t) ≡ one (isSend t && changes sys st t)
   unfolding eventsAt
   sent-at st t = go (changes sys st t) (isSend t) (isTreat t) (isRead (sys .workers) t)
     where
-      no-treat : (l : List Label) → weigh isSent (treatEvent (t .actor) l) ≡ 0
+      no-treat : (l : List Label) → weigh sendEvent (treatEvent (t .actor) l) ≡ 0
       no-treat [] = refl
       no-treat (a ∷ l) = refl
 
-      no-read : (l : List Message) → weigh isSent (readEvent (t .actor) (t .action) l) ≡ 0
+      no-read : (l : List Message) → weigh sendEvent (readEvent (t .actor) (t .action) l) ≡ 0
       no-read [] = refl
       no-read (list labels ∷ l) = refl
       no-read (poll q ∷ l) = refl
       no-read (reply n ∷ l) = refl
 
       go : (a b c d : Bool)
-          → weigh isSent
+          → weigh sendEvent
           (cond a
           (cond b (sent (t .actor) (st .toSend (t .actor)) ∷ [])
           (cond c (treatEvent (t .actor) (st .workList (t .actor)))
@@ -62,20 +61,20 @@ module _ (sys : System) where
       go true false false false = refl
 
   -- the sends among the events are those that the report counts
-  pub sent-count : (ts : List Turn) (st : State) → weigh isSent (events sys st ts) ≡ changesWhere sys isSend st ts
+  pub sent-count : (ts : List Turn) (st : State) → weigh sendEvent (events sys st ts) ≡ changesWhere sys isSend st ts
   unfolding gatherBy countBy
   sent-count [] st = refl
   sent-count (t ∷ ts) st =
       omega (
         arith,
-        weigh-append isSent (eventsAt sys st t) (events sys (after sys st t) ts),
+        weigh-append sendEvent (eventsAt sys st t) (events sys (after sys st t) ts),
         sent-at st t,
         sent-count ts (after sys st t),
       )
 
 -- an actor's count of lists and the list messages on their way to it make up the sends of the run
 pub lists-of-run : {sys : System} → Sound sys → (ts : List Turn) (k : ℕ) → k ≤ sys .workers
-    → play sys (load sys) ts .listCounter k + into isList (sys .workers) (play sys (load sys) ts .channel) k
+    → play sys (load sys) ts .listCounter k + into listMessage (sys .workers) (play sys (load sys) ts .channel) k
     ≡ changesWhere sys isSend (load sys) ts
 lists-of-run {sys} sound ts k b = safe-run sound ts .conserved k b ∙ sent-count sys ts (load sys)
 

@@ -7,7 +7,7 @@ use Rattle.disac4.proofs.Closing.{Closing, closing-move}
 use Rattle.disac4.proofs.Conservation.{Conserved, conserved-move, conserved-load}
 use Rattle.disac4.proofs.Expected.{Expected, expected-move}
 use Rattle.disac4.proofs.Moves.{kept}
-use Rattle.disac4.proofs.Sound.{Quiet}
+use Rattle.disac4.proofs.Quiet.{Quiet}
 use Rattle.disac4.proofs.Typed.{Typed, typed-move, typed-load}
 use Rattle.disac4.specs.Event.{Event, events}
 use Rattle.disac4.specs.Loading.{load}

@@ -6,11 +6,11 @@ use native.Mathlib.Omega.{arith}
 use lib.ListN.{length}
 use Rattle.base.proofs.Weight.{weigh, weigh-append}
 use Rattle.network.specs.Network.{Label, labelCount, domainSize}
-use Rattle.disac4.proofs.Conservation.{isSent}
+use Rattle.disac4.proofs.ByKind.{sendEvent}
 use Rattle.disac4.proofs.DomainSize.{treat-size, load-size, deletions-loaded}
 use Rattle.disac4.proofs.Empty.{not-empty}
-use Rattle.disac4.proofs.RunNumbers.{sent-count}
 use Rattle.disac4.proofs.Moves.{Moves, treats, sends, reads, takes-poll, ignores, answers, asks, tallies, marks, drops, discards, kept}
+use Rattle.disac4.proofs.RunNumbers.{sent-count}
 use Rattle.disac4.proofs.Workers.{overWorkers, over-part, over-update, over-append}
 use Rattle.disac4.specs.Action.{deletions, afterTreat, afterSend, afterList, afterPoll, afterDrop, afterAnswer, afterAsk, afterCount, afterMark}
 use Rattle.disac4.specs.Event.{Event}
@@ -52,7 +52,7 @@ load-sendable sys sound = omega (arith, deletions-loaded sys (sound .owned), loa
 
 -- each send takes one label or more from those that may still be sent, and no other move adds one
 move-sendable : {sys : System} {st s : State} {new : List Event} → Moves sys st s new
-    → weigh isSent new + sendable sys s ≤ sendable sys st
+    → weigh sendEvent new + sendable sys s ≤ sendable sys st
 unfolding sendable afterTreat afterSend afterList afterPoll afterDrop afterAnswer afterAsk afterCount afterMark
 move-sendable {sys} {st} (treats k a rest w e) = omega (arith, treat-sendable sys st k w a rest)
 move-sendable {sys} {st} (sends k w e) = omega (arith, send-sendable sys st k w, not-empty (st .toSend k) e)
@@ -73,8 +73,8 @@ sends-and-sendable {sys} sound ts =
     omega (
       arith,
       sent-count sys ts (load sys),
-      kept sys (sound .few) (λ st es. weigh isSent es + sendable sys st ≤ labelCount (sys .net))
-          (λ st es s new o h move. omega (arith, weigh-append isSent es new, move-sendable move))
+      kept sys (sound .few) (λ st es. weigh sendEvent es + sendable sys st ≤ labelCount (sys .net))
+          (λ st es s new o h move. omega (arith, weigh-append sendEvent es new, move-sendable move))
           ts (load sys) (omega (arith, load-sendable sys sound)),
     )
 

@@ -12,10 +12,11 @@ use Rattle.base.proofs.Choice.{cond-true, cond-false}
 use Rattle.base.proofs.Sums.{one-le}
 use Rattle.base.proofs.Weight.{weigh}
 use Rattle.base.specs.Below.{one}
+use Rattle.disac4.proofs.ByKind.{listMessage}
 use Rattle.disac4.proofs.Deleted.{deletedBy}
 use Rattle.disac4.proofs.Flow.{Flow, flows}
 use Rattle.disac4.proofs.Occurrences.{occurs, carried, sentBy, readBy, treatedBy}
-use Rattle.disac4.proofs.Sound.{Quiet, isList}
+use Rattle.disac4.proofs.Quiet.{Quiet}
 use Rattle.disac4.specs.Event.{Event, events, deleted}
 use Rattle.disac4.specs.Loading.{load}
 use Rattle.disac4.specs.State.{State, Message, list, poll, reply}
@@ -23,7 +24,7 @@ use Rattle.disac4.specs.System.{System, Worker, Sound}
 use Rattle.disac4.specs.Turn.{Turn, play}
 
 -- a channel without list messages carries no label
-no-list-carries : (x v : ℕ) (l : List Message) → weigh isList l ≡ 0 → weigh (carried x v) l ≡ 0
+no-list-carries : (x v : ℕ) (l : List Message) → weigh listMessage l ≡ 0 → weigh (carried x v) l ≡ 0
 no-list-carries x v [] e = refl
 no-list-carries x v (list labels ∷ l) e = omega arith
 no-list-carries x v (poll q ∷ l) e = omega (arith, no-list-carries x v l (omega arith))

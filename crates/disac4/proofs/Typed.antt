@@ -24,37 +24,41 @@ pub not-controller : {sys : System} {k : ℕ} → Worker sys k → 0 ≡ k → �
 not-controller w e = omega (arith, w .above)
 
 -- nor is its count the controller's
-pub controller-count : {sys : System} (C : ℕ → ℕ) (k n : ℕ) → Worker sys k → update C k n 0 ≡ C 0
-controller-count C k n w = update-other C k n 0 (not-controller w)
+pub controller-count : {sys : System} (counts : ℕ → ℕ) (k n : ℕ) → Worker sys k → update counts k n 0 ≡ counts 0
+controller-count counts k n w = update-other counts k n 0 (not-controller w)
 
--- ---- over what the controller counts: its timestamp `N`, whether a poll is `asked`, and its count of lists `D`
+-- a worker counts one list more; the controller's count stays
+pub counts-on : {sys : System} (counts : ℕ → ℕ) {k : ℕ} → Worker sys k → update counts k (suc (counts k)) 0 ≡ counts 0
+counts-on counts {k} w = controller-count counts k (suc (counts k)) w
+
+-- ---- over what the controller counts: its timestamp, whether a poll is `asked`, and its count of lists
 
 -- a poll that the controller asked: it wants no more lists than the controller has read, and exactly those if it is open
-pub record Timely (N : ℕ) (asked : Bool) (D : ℕ) (q : Poll) : Type 0 where
-  pub bound : q .number .0 ≤ N
-  pub within : q .wanted .0 ≤ D
-  pub wants : asked ≡ true → q .number .0 ≡ N → q .wanted .0 ≡ D
+pub record Timely (timestamp : ℕ) (asked : Bool) (count : ℕ) (q : Poll) : Type 0 where
+  pub bound : q .number .0 ≤ timestamp
+  pub within : q .wanted .0 ≤ count
+  pub wants : asked ≡ true → q .number .0 ≡ timestamp → q .wanted .0 ≡ count
 
 -- list messages come from workers, polls from the controller, replies go to the controller
 abbrev pub Kind : ℕ → Bool → ℕ → ℕ → ℕ → Message → Type 0
-Kind N asked D j k (list labels) = 0 < j
-Kind N asked D j k (poll q) = (j ≡ 0) × Timely N asked D q
-Kind N asked D j k (reply n) = (k ≡ 0) × (n .0 ≤ N)
+Kind timestamp asked count j k (list labels) = 0 < j
+Kind timestamp asked count j k (poll q) = (j ≡ 0) × Timely timestamp asked count q
+Kind timestamp asked count j k (reply n) = (k ≡ 0) × (n .0 ≤ timestamp)
 
 -- a message in the channel from `j` to `k`
-pub record Fits (p N : ℕ) (asked : Bool) (D j k : ℕ) (m : Message) : Type 0 where
+pub record Fits (p timestamp : ℕ) (asked : Bool) (count j k : ℕ) (m : Message) : Type 0 where
   pub sender : j ≤ p
   pub receiver : k ≤ p
   pub other : j ≡ k → ⊥
-  pub kind : Kind N asked D j k m
+  pub kind : Kind timestamp asked count j k m
 
 -- every message in every channel
 abbrev pub Messages : ℕ → ℕ → Bool → ℕ → Channels → Type 0
-Messages p N asked D c = (j k : ℕ) → Each (Fits p N asked D j k) (c j k)
+Messages p timestamp asked count c = (j k : ℕ) → Each (Fits p timestamp asked count j k) (c j k)
 
 -- every poll that is held
 abbrev pub HeldPolls : ℕ → Bool → ℕ → (ℕ → Option Poll) → Type 0
-HeldPolls N asked D held = (k : ℕ) (q : Poll) → held k ≡ some q → Timely N asked D q
+HeldPolls timestamp asked count held = (k : ℕ) (q : Poll) → held k ≡ some q → Timely timestamp asked count q
 
 -- the invariant
 pub record Typed (sys : System) (st : State) : Type 0 where
@@ -62,60 +66,62 @@ pub record Typed (sys : System) (st : State) : Type 0 where
       Messages (sys .workers) (st .controller .timestamp) (st .controller .pollOpen) (st .listCounter 0) (st .channel)
   pub polls : HeldPolls (st .controller .timestamp) (st .controller .pollOpen) (st .listCounter 0) (st .held)
 
-module _ (p N : ℕ) (asked : Bool) (D : ℕ) where
+module _ (p timestamp : ℕ) (asked : Bool) (count : ℕ) where
   take-typed : (c : Channels) (j k : ℕ) (m : Message) (rest : List Message) → c j k ≡ m ∷ rest
-      → Messages p N asked D c → Messages p N asked D (update₂ c j k rest)
+      → Messages p timestamp asked count c → Messages p timestamp asked count (update₂ c j k rest)
   take-typed c j k m rest e h =
-      update₂-each (λ j k l. Each (Fits p N asked D j k) l) c j k rest ((rw e at (h j k)) .1) (λ j k n. h j k)
+      update₂-each (λ j k l. Each (Fits p timestamp asked count j k) l) c j k rest ((rw e at (h j k)) .1) (λ j k n. h j k)
 
-  put-typed : (c : Channels) (j k : ℕ) (m : Message) → Fits p N asked D j k m
-      → Messages p N asked D c → Messages p N asked D (update₂ c j k (c j k ++ (m ∷ [])))
+  put-typed : (c : Channels) (j k : ℕ) (m : Message) → Fits p timestamp asked count j k m
+      → Messages p timestamp asked count c → Messages p timestamp asked count (update₂ c j k (c j k ++ (m ∷ [])))
   put-typed c j k m f h =
-      update₂-each (λ j k l. Each (Fits p N asked D j k) l) c j k (c j k ++ (m ∷ []))
-      (each-append (Fits p N asked D j k) (c j k) (m ∷ []) (h j k) (f, tt)) (λ j k n. h j k)
+      update₂-each (λ j k l. Each (Fits p timestamp asked count j k) l) c j k (c j k ++ (m ∷ []))
+      (each-append (Fits p timestamp asked count j k) (c j k) (m ∷ []) (h j k) (f, tt)) (λ j k n. h j k)
 
-  broadcast-typed : (c : Channels) (k : ℕ) (m : Message) → k ≤ p → ((i : ℕ) → Kind N asked D k i m)
-      → Messages p N asked D c → Messages p N asked D (broadcast p k m c)
+  broadcast-typed : (c : Channels) (k : ℕ) (m : Message) → k ≤ p → ((i : ℕ) → Kind timestamp asked count k i m)
+      → Messages p timestamp asked count c → Messages p timestamp asked count (broadcast p k m c)
   broadcast-typed c k m b f h =
-      broadcast-each (λ j i l. Each (Fits p N asked D j i) l) p k m c
+      broadcast-each (λ j i l. Each (Fits p timestamp asked count j i) l) p k m c
       (λ i w o.
-      each-append (Fits p N asked D k i) (c k i) (m ∷ []) (h k i)
+      each-append (Fits p timestamp asked count k i) (c k i) (m ∷ []) (h k i)
       (record { sender = b; receiver = w; other = λ e. o (sym e); kind = f i }, tt))
       (λ j i n. h j i)
 
-  hold-typed : (held : ℕ → Option Poll) (k : ℕ) (o : Option Poll) → ((q : Poll) → o ≡ some q → Timely N asked D q)
-      → HeldPolls N asked D held → HeldPolls N asked D (update held k o)
+  hold-typed : (held : ℕ → Option Poll) (k : ℕ) (o : Option Poll) → ((q : Poll) → o ≡ some q → Timely timestamp asked count q)
+      → HeldPolls timestamp asked count held → HeldPolls timestamp asked count (update held k o)
   hold-typed held k o new h =
-      update-each (λ i o. (q : Poll) → o ≡ some q → Timely N asked D q) held k o new (λ i d. h i)
+      update-each (λ i o. (q : Poll) → o ≡ some q → Timely timestamp asked count q) held k o new (λ i d. h i)
 
   -- what the controller counts changes, and the open poll, if it is the same, wants the same count
-  module _ (N′ : ℕ) (asked′ : Bool) (D′ : ℕ) (rises : N ≤ N′) (reads-on : D ≤ D′)
-      (same : asked′ ≡ true → N ≡ N′ → (asked ≡ true) × (D ≡ D′)) where
-    timely-later : (q : Poll) → Timely N asked D q → Timely N′ asked′ D′ q
+  module _ (timestamp′ : ℕ) (asked′ : Bool) (count′ : ℕ) (rises : timestamp ≤ timestamp′) (reads-on : count ≤ count′)
+      (same : asked′ ≡ true → timestamp ≡ timestamp′ → (asked ≡ true) × (count ≡ count′)) where
+    timely-later : (q : Poll) → Timely timestamp asked count q → Timely timestamp′ asked′ count′ q
     timely-later q t = record {
       bound = omega arith;
       within = omega arith;
       wants = λ o e. let s = same o (omega (arith, t .bound)) in t .wants (s .0) (omega (arith, t .bound)) ∙ s .1;
     }
 
-    kind-later : (j k : ℕ) (m : Message) → Kind N asked D j k m → Kind N′ asked′ D′ j k m
+    kind-later : (j k : ℕ) (m : Message) → Kind timestamp asked count j k m → Kind timestamp′ asked′ count′ j k m
     kind-later j k (list labels) h = h
     kind-later j k (poll q) h = (h .0, timely-later q (h .1))
     kind-later j k (reply n) h = (h .0, omega (arith, h .1))
 
-    messages-later : (c : Channels) → Messages p N asked D c → Messages p N′ asked′ D′ c
-    messages-later c h j k =
-        each-mono (Fits p N asked D j k) (Fits p N′ asked′ D′ j k)
-        (λ m f.
-        record { sender = f .sender; receiver = f .receiver; other = f .other; kind = kind-later j k m (f .kind) })
-        (c j k) (h j k)
-
-    polls-later : (held : ℕ → Option Poll) → HeldPolls N asked D held → HeldPolls N′ asked′ D′ held
-    polls-later held h k q e = timely-later q (h k q e)
+    -- every message and every held poll fits what the controller counts then
+    later : (c : Channels) (held : ℕ → Option Poll) → Messages p timestamp asked count c → HeldPolls timestamp asked count held
+        → Messages p timestamp′ asked′ count′ c × HeldPolls timestamp′ asked′ count′ held
+    later c held h polls = (
+      λ j k.
+          each-mono (Fits p timestamp asked count j k) (Fits p timestamp′ asked′ count′ j k)
+          (λ m f.
+          record { sender = f .sender; receiver = f .receiver; other = f .other; kind = kind-later j k m (f .kind) })
+          (c j k) (h j k),
+      λ k q e. timely-later q (polls k q e),
+    )
 
 module _ {sys : System} {st : State} (t : Typed sys st) where
   -- a channel that no message fits is empty
-  pub no-message : (j k : ℕ) → (j ≤ sys .workers → k ≤ sys .workers → (j ≡ k → ⊥) → ⊥) → st .channel j k ≡ []
+  no-message : (j k : ℕ) → (j ≤ sys .workers → k ≤ sys .workers → (j ≡ k → ⊥) → ⊥) → st .channel j k ≡ []
   no-message j k unfit = go (st .channel j k) (t .messages j k)
     where
       go : (l : List Message)
@@ -131,36 +137,31 @@ module _ {sys : System} {st : State} (t : Typed sys st) where
 -- ---- every move keeps it
 
 module _ {sys : System} {st : State} (t : Typed sys st) where
-  abbrev N : ℕ
-  N = st .controller .timestamp
+  abbrev timestamp : ℕ
+  timestamp = st .controller .timestamp
 
   abbrev asked : Bool
   asked = st .controller .pollOpen
 
-  abbrev D : ℕ
-  D = st .listCounter 0
+  abbrev count : ℕ
+  count = st .listCounter 0
 
   -- a message is taken from a channel
   taking : (j k : ℕ) (m : Message) (rest : List Message) → st .channel j k ≡ m ∷ rest
-      → Messages (sys .workers) N asked D (update₂ (st .channel) j k rest)
-  taking j k m rest e = take-typed (sys .workers) N asked D (st .channel) j k m rest e (t .messages)
+      → Messages (sys .workers) timestamp asked count (update₂ (st .channel) j k rest)
+  taking j k m rest e = take-typed (sys .workers) timestamp asked count (st .channel) j k m rest e (t .messages)
 
-  -- a worker sends its list; the controller's count stays
-  sending : (k : ℕ) → Worker sys k → Typed sys (afterSend sys k st)
-  unfolding afterSend
-  sending k w = record {
-    messages =
-        rw (controller-count (st .listCounter) k (suc (st .listCounter k)) w)
-        (broadcast-typed (sys .workers) N asked D (st .channel) k (list (st .toSend k)) (w .within) (λ i. w .above) (t .messages));
-    polls = rw (controller-count (st .listCounter) k (suc (st .listCounter k)) w) (t .polls);
-  }
+  -- the controller's part and its count stay as they were
+  uncounted : (s : State) → s .controller ≡ st .controller → s .listCounter 0 ≡ count
+      → Messages (sys .workers) timestamp asked count (s .channel) → HeldPolls timestamp asked count (s .held) → Typed sys s
+  uncounted s same kept messages polls = record { messages = rw (same, kept) messages; polls = rw (same, kept) polls }
 
   -- a worker replies to the poll that it holds
   answering : (k : ℕ) (q : Poll) → Worker sys k → st .held k ≡ some q → Typed sys (afterAnswer k q st)
   unfolding afterAnswer
   answering k q w e = record {
     messages =
-        put-typed (sys .workers) N asked D (st .channel) k 0 (reply (q .number))
+        put-typed (sys .workers) timestamp asked count (st .channel) k 0 (reply (q .number))
         (record {
           sender = w .within;
           receiver = omega arith;
@@ -168,52 +169,49 @@ module _ {sys : System} {st : State} (t : Typed sys st) where
           kind = (refl, t .polls k q e .bound);
         })
         (t .messages);
-    polls = hold-typed (sys .workers) N asked D (st .held) k none (λ q′ x. none≢some x) (t .polls);
+    polls = hold-typed (sys .workers) timestamp asked count (st .held) k none (λ q′ x. none≢some x) (t .polls);
   }
 
   -- the controller asks: no earlier poll has the new number
   asking : Typed sys (afterAsk sys st)
   unfolding nextPoll afterAsk
-  asking = record {
-    messages =
-        broadcast-typed (sys .workers) (suc N) true D (st .channel) 0 (poll (nextPoll st)) (omega arith)
-        (λ i. (refl, record { bound = le-refl (suc N); within = le-refl D; wants = λ o x. refl }))
-        (messages-later (sys .workers) N asked D (suc N) true D (omega arith) (omega arith)
-        (λ o x. absurd (omega arith))
-        (st .channel) (t .messages));
-    polls =
-        polls-later (sys .workers) N asked D (suc N) true D (omega arith) (omega arith)
-        (λ o x. absurd (omega arith)) (st .held) (t .polls);
-  }
+  asking =
+      let earlier =
+      later (sys .workers) timestamp asked count (suc timestamp) true count (omega arith) (omega arith)
+      (λ o x. absurd (omega arith)) (st .channel) (st .held) (t .messages) (t .polls) in
+      record {
+        messages =
+            broadcast-typed (sys .workers) (suc timestamp) true count (st .channel) 0 (poll (nextPoll st)) (omega arith)
+            (λ i. (refl, record { bound = le-refl (suc timestamp); within = le-refl count; wants = λ o x. refl })) (earlier .0);
+        polls = earlier .1;
+      }
 
   -- the controller counts a list: no poll is open after it
   counting : (k : ℕ) (labels : List Label) (rest : List Message) → st .channel k 0 ≡ list labels ∷ rest
       → Typed sys (afterCount k rest st)
   unfolding afterCount
-  counting k labels rest e = record {
-    messages =
-        messages-later (sys .workers) N asked D N false (suc D) (omega arith) (omega arith)
-        (λ o x. absurd (false≢true o))
-        (update₂ (st .channel) k 0 rest) (taking k 0 (list labels) rest e);
-    polls =
-        polls-later (sys .workers) N asked D N false (suc D) (omega arith) (omega arith)
-        (λ o x. absurd (false≢true o))
-        (st .held) (t .polls);
-  }
+  counting k labels rest e =
+      let ended =
+      later (sys .workers) timestamp asked count timestamp false (suc count) (omega arith) (omega arith)
+      (λ o x. absurd (false≢true o)) (update₂ (st .channel) k 0 rest) (st .held) (taking k 0 (list labels) rest e) (t .polls) in
+      record { messages = ended .0; polls = ended .1 }
 
   -- every move keeps the channels typed
   pub typed-move : {s : State} {new : List Event} → Moves sys st s new → Typed sys s
-  unfolding afterTreat afterList afterPoll afterDrop afterMark
+  unfolding afterTreat afterSend afterList afterPoll afterDrop afterMark
   typed-move (treats k a rest w e) = record { messages = t .messages; polls = t .polls }
-  typed-move (sends k w e) = sending k w
-  typed-move (reads j k labels rest w h n e) = record {
-    messages = rw (controller-count (st .listCounter) k (suc (st .listCounter k)) w) (taking j k (list labels) rest e);
-    polls = rw (controller-count (st .listCounter) k (suc (st .listCounter k)) w) (t .polls);
-  }
+  typed-move (sends k w e) =
+      uncounted (afterSend sys k st) refl (counts-on (st .listCounter) w)
+      (broadcast-typed (sys .workers) timestamp asked count (st .channel) k (list (st .toSend k)) (w .within) (λ i. w .above)
+      (t .messages))
+      (t .polls)
+  typed-move (reads j k labels rest w h n e) =
+      uncounted (afterList j k labels rest st) refl (counts-on (st .listCounter) w) (taking j k (list labels) rest e) (t .polls)
   typed-move (takes-poll j k q rest w h n e) = record {
     messages = taking j k (poll q) rest e;
-    polls = hold-typed (sys .workers) N asked D (st .held) k (some q)
-        (λ q′ same. subst (Timely N asked D) (let z : q ≡ q′ = cc in z) ((rw e at (t .messages j k)) .0 .kind .1)) (t .polls);
+    polls = hold-typed (sys .workers) timestamp asked count (st .held) k (some q)
+        (λ q′ same. subst (Timely timestamp asked count) (let z : q ≡ q′ = cc in z) ((rw e at (t .messages j k)) .0 .kind .1))
+        (t .polls);
   }
   typed-move (ignores j k n rest w h d e) = record { messages = taking j k (reply n) rest e; polls = t .polls }
   typed-move (answers k q w e r) = answering k q w e

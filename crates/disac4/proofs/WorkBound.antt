@@ -1,14 +1,13 @@
 -- How long a worker's lists get: never longer than the loaded labels, as no label comes to a worker twice.
-use Prim.Native.Nat.{ℕ, suc, _+_, _≤_}
+use Prim.Native.Nat.{ℕ, _+_, _≤_}
 use mathlib.Core.List.{List, [], _∷_, _++_}
-use mathlib.Core.Path.{_≡_, refl, sym, ap}
+use mathlib.Core.Path.{_≡_, sym, ap}
 use native.Mathlib.Decide.{ℕ-discrete}
 use native.Mathlib.Omega.{arith}
 use lib.ListN.{length, length-append}
 use Rattle.base.proofs.Choice.{update-same, update-other}
-use Rattle.base.proofs.Sums.{sum-zero}
 use Rattle.network.specs.Network.{Label, labelCount}
-use Rattle.disac4.proofs.Channels.{into, into-take, into-other, into-falls, into-broadcast, into-broadcast-self}
+use Rattle.disac4.proofs.Channels.{into, into-none, into-take, into-other, into-falls, into-broadcast, into-broadcast-self}
 use Rattle.disac4.proofs.Moves.{Moves, treats, sends, reads, takes-poll, ignores, answers, asks, tallies, marks, drops, discards, kept}
 use Rattle.disac4.proofs.SendBound.{sendable, treat-sendable, send-sendable, load-sendable, sendable-part, sends-and-sendable}
 use Rattle.disac4.proofs.Typed.{not-controller}
@@ -139,7 +138,7 @@ module _ (sys : System) where
   -- at loading only the labels of others are to come besides its own
   coming-load : Sound sys → (i : ℕ) → coming (load sys) i ≤ labelCount (sys .net) + length (load sys .toSend i)
   unfolding load
-  coming-load sound i = omega (arith, load-sendable sys sound, sum-zero (suc p) (λ j. 0) (λ j h. refl))
+  coming-load sound i = omega (arith, load-sendable sys sound, into-none labelsIn p i)
 
 -- the labels that a worker has to treat, and those on their way to it, are at most the loaded labels
 pub work-bound : {sys : System} → Sound sys → (ts : List Turn) (k : ℕ) → Worker sys k

@@ -19,7 +19,7 @@ module _ (p : ℕ) where
   overWorkers f = sumBelow p (λ i. f (suc i))
 
   -- the summand of worker `k` alone changes
-  pub over-change : (f g : ℕ → ℕ) (k : ℕ) → 0 < k → k ≤ p → ((j : ℕ) → j ≤ p → (j ≡ k → ⊥) → f j ≡ g j)
+  over-change : (f g : ℕ → ℕ) (k : ℕ) → 0 < k → k ≤ p → ((j : ℕ) → j ≤ p → (j ≡ k → ⊥) → f j ≡ g j)
       → overWorkers g + f k ≡ overWorkers f + g k
   over-change f g zero a b e = absurd (not-suc-le-zero a)
   over-change f g (suc i) a b e =

@@ -18,6 +18,7 @@ unfoldable pub broadcast : ℕ → ℕ → Message → (ℕ → ℕ → List Mes
 broadcast p k m channel j i =
     cond (eqb j k && leb i p && not (eqb i k)) (channel j i ++ (m ∷ [])) (channel j i)
 
+-- the list has no member
 abbrev pub isEmpty {ℓ} : {A : Type ℓ} → List A → Bool
 isEmpty [] = true
 isEmpty (a ∷ l) = false
@@ -38,6 +39,7 @@ lowered sys k a st x v y =
 unfoldable pub deletes : System → ℕ → Label → State → ℕ → ℕ → Bool
 deletes sys k a st x v = loses sys k a st x v && eqb (lowered sys k a st x v (a .variable)) 0
 
+-- the labels that treating `a` deletes, variables and values ascending
 unfoldable pub deletions : System → ℕ → Label → State → List Label
 deletions sys k a st = labelsWhere (sys .net) (deletes sys k a st)
 
@@ -54,15 +56,18 @@ afterTreat sys k a rest st = record {
   controller = st .controller;
 }
 
+-- treat, with this work list: idle where it is empty
 abbrev pub treatFrom : System → ℕ → State → List Label → Option State
 treatFrom sys k st [] = none
 treatFrom sys k st (a ∷ rest) = some (afterTreat sys k a rest st)
 
+-- worker `k` treats
 unfoldable pub treat : System → ℕ → State → Option State
 treat sys k st = treatFrom sys k st (st .workList k)
 
 -- ---- Send: if the out list is not empty, one list message with all of it goes to every other worker and the controller
 
+-- worker `k` has sent
 unfoldable pub afterSend : System → ℕ → State → State
 afterSend sys k st = record {
   domain = st .domain;
@@ -75,6 +80,7 @@ afterSend sys k st = record {
   controller = st .controller;
 }
 
+-- worker `k` sends
 unfoldable pub send : System → ℕ → State → Option State
 send sys k st = cond (isEmpty (st .toSend k)) none (some (afterSend sys k st))
 
@@ -119,18 +125,20 @@ afterDrop j k rest st = record {
   controller = st .controller;
 }
 
--- no worker is ever sent a reply
+-- read, with these messages in the channel from `j`: idle where there is none. No worker is ever sent a reply
 abbrev pub readFrom : ℕ → ℕ → State → List Message → Option State
 readFrom j k st [] = none
 readFrom j k st (list labels ∷ rest) = some (afterList j k labels rest st)
 readFrom j k st (poll q ∷ rest) = some (afterPoll j k q rest st)
 readFrom j k st (reply n ∷ rest) = some (afterDrop j k rest st)
 
+-- worker `k` reads from sender `j`
 unfoldable pub readWorker : ℕ → ℕ → State → Option State
 readWorker j k st = readFrom j k st (st .channel j k)
 
 -- ---- Answer: if a poll is held and the worker is ready, a reply with the poll's number goes to the controller
 
+-- worker `k` has answered poll `q`, which is no longer held
 unfoldable pub afterAnswer : ℕ → Poll → State → State
 afterAnswer k q st = record {
   domain = st .domain;
@@ -147,10 +155,12 @@ afterAnswer k q st = record {
 unfoldable pub ready : ℕ → Poll → State → Bool
 ready k q st = isEmpty (st .workList k) && isEmpty (st .toSend k) && eqb (st .listCounter k) (q .wanted .0)
 
+-- answer, with this poll held, if any
 abbrev pub answerTo : ℕ → State → Option Poll → Option State
 answerTo k st none = none
 answerTo k st (some q) = cond (ready k q st) (some (afterAnswer k q st)) none
 
+-- worker `k` answers
 unfoldable pub answer : ℕ → State → Option State
 answer k st = answerTo k st (st .held k)
 
@@ -186,6 +196,7 @@ afterAsk sys st = record {
   };
 }
 
+-- the controller polls
 unfoldable pub ask : System → State → Option State
 ask sys st = cond (st .controller .pollOpen) none (some (afterAsk sys st))
 
@@ -235,12 +246,13 @@ afterMark sys k rest st = record {
 unfoldable pub current : Timestamp → State → Bool
 current n st = st .controller .pollOpen && eqb (n .0) (st .controller .timestamp)
 
--- the controller is never sent a poll
+-- read, with these messages in the channel from worker `k`; other replies are dropped. The controller is never sent a poll
 abbrev pub controllerFrom : System → ℕ → State → List Message → Option State
 controllerFrom sys k st [] = none
 controllerFrom sys k st (list labels ∷ rest) = some (afterCount k rest st)
 controllerFrom sys k st (poll q ∷ rest) = some (afterDrop k 0 rest st)
 controllerFrom sys k st (reply n ∷ rest) = some (cond (current n st) (afterMark sys k rest st) (afterDrop k 0 rest st))
 
+-- the controller reads from worker `k`
 unfoldable pub readController : System → ℕ → State → Option State
 readController sys k st = controllerFrom sys k st (st .channel k 0)

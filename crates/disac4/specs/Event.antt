@@ -12,6 +12,7 @@ use Rattle.disac4.specs.State.{State, Message, list, poll, reply}
 use Rattle.disac4.specs.System.{System}
 use Rattle.disac4.specs.Turn.{Turn, treatAction, step, changes}
 
+-- what happened to labels: from these follows which deletions are unsent, unread or untreated
 pub data Event : Type 0 where
   -- a worker sent a list message with these labels
   sent : ℕ → List Label → Event
@@ -20,16 +21,19 @@ pub data Event : Type 0 where
   -- a worker treated a label
   treated : ℕ → Label → Event
 
+-- the event of a treat with this work list: its oldest label is treated
 abbrev pub treatEvent : ℕ → List Label → List Event
 treatEvent k [] = []
 treatEvent k (a ∷ rest) = treated k a ∷ []
 
+-- the event of a read with these messages in the channel from `j` to `k`: none unless the oldest is a list message
 abbrev pub readEvent : ℕ → ℕ → List Message → List Event
 readEvent k j [] = []
 readEvent k j (list labels ∷ rest) = taken k j labels ∷ []
 readEvent k j (poll q ∷ rest) = []
 readEvent k j (reply n ∷ rest) = []
 
+-- a turn in which a worker treats
 abbrev pub isTreat : Turn → Bool
 isTreat t = not (eqb (t .actor) 0) && eqb (t .action) treatAction
 

@@ -5,6 +5,7 @@ use mathlib.Core.List.{List, [], _∷_}
 use mathlib.Core.Option.{Option, none, some, Option·getD}
 use Rattle.base.specs.Below.{one}
 
+-- there is a result
 abbrev pub isSome {ℓ} : {A : Type ℓ} → Option A → Bool
 isSome none = false
 isSome (some a) = true

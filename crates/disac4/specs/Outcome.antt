@@ -18,6 +18,7 @@ use Rattle.disac4.specs.Turn.{Turn, turnsOf, turnListFits, turnFault}
 use Rattle.disac4.specs.declared.Answer.{Answer}
 use Rattle.disac4.specs.declared.Answer.the-variants.{Reported, Declined}
 
+-- what a call gives, and what it leaves in the lent buffers
 pub record Outcome : Type 0 where
   pub answer : Answer
   -- the lent buffers afterwards
@@ -30,9 +31,11 @@ pub record Gives (o : Outcome) (r : Answer) (work lists : List ℕ) : Type 0 whe
   pub work-cells : work ≡ o .work
   pub list-cells : lists ≡ o .lists
 
+-- the work cells that a run needs
 unfoldable pub workNeed : ℕ
 workNeed = 24576
 
+-- the list cells that a run needs
 unfoldable pub listNeed : ℕ
 listNeed = 32
 
@@ -57,6 +60,7 @@ unfoldable pub bufferChecks : List ℕ → List ℕ → List Check
 bufferChecks work lists =
     (leb workNeed (length work) orElse ShortWork) ∷ (leb listNeed (length lists) orElse ShortLists) ∷ []
 
+-- the decline 9 or 10, at place 0
 unfoldable pub bufferFault : List ℕ → List ℕ → Option Decline
 bufferFault work lists = faultAt 0 (firstFault (bufferChecks work lists))
 

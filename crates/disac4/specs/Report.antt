@@ -29,9 +29,11 @@ statusOf sys st = cond (st .controller .closed) (cond (eqb (lowestEmpty sys st) 
 unfoldable pub listCells : System → State → List ℕ
 listCells sys st = listBelow (sys .net .variables) (λ x. rowOf (sys .net .size x) (st .domain x))
 
+-- a turn in which a worker sends
 abbrev pub isSend : Turn → Bool
 isSend t = not (eqb (t .actor) 0) && eqb (t .action) sendAction
 
+-- a turn in which the controller polls
 abbrev pub isPoll : Turn → Bool
 isPoll t = eqb (t .actor) 0 && eqb (t .action) pollAction
 
@@ -39,6 +41,7 @@ isPoll t = eqb (t .actor) 0 && eqb (t .action) pollAction
 unfoldable pub final : System → List Turn → State
 final sys turns = play sys (load sys) turns
 
+-- the report: status, turns that changed something, list messages and polls sent, lowest variable (slot) with an empty list
 unfoldable pub reportOf : System → List Turn → Report
 reportOf sys turns = record {
   status = statusOf sys (final sys turns);

@@ -7,7 +7,8 @@ use Rattle.network.specs.Network.{Label, Domains}
 use Rattle.disac4.specs.declared.Poll.{Poll}
 use Rattle.disac4.specs.declared.Timestamp.{Timestamp}
 
--- a poll is the struct of the code: its own number and the wanted count of lists
+-- a list message with its labels, a poll (the code's struct: its own number and the wanted count of lists), or a reply with the
+-- poll's number
 pub data Message : Type 0 where
   list : List Label → Message
   poll : Poll → Message
@@ -21,6 +22,7 @@ pub record Controller : Type 0 where
   pub marked : ℕ → Bool
   pub closed : Bool
 
+-- the whole state of a run
 pub record State : Type 0 where
   -- the values not deleted (struck)
   pub domain : Domains

@@ -14,6 +14,7 @@ pub record System : Type 0 where
   -- the worker that owns a variable
   pub owner : ℕ → ℕ
 
+-- the system of a plan
 unfoldable pub systemOf : Plan → System
 systemOf plan = record { net = networkOf plan; workers = plan .workers; owner = λ x. variableOf plan x .owner }
 
@@ -36,5 +37,6 @@ pub record Sound (sys : System) : Type 0 where
 unfoldable pub turnBound : ℕ → ℕ → ℕ
 turnBound p l = 5 * p * l + 2 * l + 3 * p + 1
 
+-- the bound of a system: p its workers, L its loaded labels
 unfoldable pub boundOf : System → ℕ
 boundOf sys = turnBound (sys .workers) (labelCount (sys .net))

@@ -21,18 +21,23 @@ pub record Turn : Type 0 where
   pub actor : ℕ
   pub action : ℕ
 
+-- the turn of actor `k` with action `d`
 abbrev pub turn : ℕ → ℕ → Turn
 turn k d = record { actor = k; action = d }
 
+-- a worker's deed 9, treat
 abbrev pub treatAction : ℕ
 treatAction = 9
 
+-- a worker's deed 10, send
 abbrev pub sendAction : ℕ
 sendAction = 10
 
+-- a worker's deed 11, answer
 abbrev pub answerAction : ℕ
 answerAction = 11
 
+-- the controller's deed 12, poll
 abbrev pub pollAction : ℕ
 pollAction = 12
 
@@ -56,6 +61,7 @@ workerStep sys k d st =
     cond (eqb d treatAction) (treat sys k st)
     (cond (eqb d sendAction) (send sys k st) (cond (eqb d answerAction) (answer k st) (readWorker d k st)))
 
+-- what the controller does
 unfoldable pub controllerStep : System → ℕ → State → Option State
 controllerStep sys d st = cond (eqb d pollAction) (ask sys st) (readController sys d st)
 
@@ -65,6 +71,7 @@ step sys st t =
     cond (st .controller .closed || not (allowed (sys .workers) t)) none
     (cond (eqb (t .actor) 0) (controllerStep sys (t .action) st) (workerStep sys (t .actor) (t .action) st))
 
+-- the state after a turn
 abbrev pub after : System → State → Turn → State
 after sys = afterBy (step sys)
 
@@ -82,9 +89,11 @@ changesWhere sys = countBy (step sys)
 
 -- ---- the turn list as bytes: two for each turn
 
+-- turn `i` of a turn list, from 0
 unfoldable pub turnAt : List ℕ → ℕ → Turn
 turnAt b i = turn (byteAt b (2 * i)) (byteAt b (2 * i + 1))
 
+-- all turns of a turn list
 unfoldable pub turnsOf : List ℕ → List Turn
 turnsOf b = listBelow (length b / 2) (turnAt b)
 

@@ -40,6 +40,7 @@ pub data Question : Type 0 where
   -- whether value `v` of variable `x` may stand with value `w` of `y`: `pair plan x v y w`
   pair : List ℕ → ℕ → ℕ → ℕ → ℕ → Question
 
+-- what a question gives: a report with its list cells, a decline with number and place, or what else was asked for
 pub data Finding : Type 0 where
   report : Report → List ℕ → Finding
   decline : ℕ → ℕ → Finding
@@ -48,6 +49,7 @@ pub data Finding : Type 0 where
   number : ℕ → Finding
   truth : Bool → Finding
 
+-- the allowed turns of `p` workers, actors and actions ascending
 unfoldable pub allowedTurns : ℕ → List Turn
 allowedTurns p = gatherBelow (suc p) (λ k. gatherBelow 13 (λ d. cond (allowed p (turn k d)) (turn k d ∷ []) []))
 
@@ -56,14 +58,17 @@ abbrev pub unless : Option Decline → Finding → Finding
 unless none f = f
 unless (some d) f = decline (numberOf (d .fault)) (d .place)
 
+-- the report and list cells after these turns
 unfoldable pub ran : System → List Turn → Finding
 ran sys ts = report (reportOf sys ts) (listCells sys (final sys ts))
 
+-- the deleted labels of worker `k` that are unsent after these turns
 unfoldable pub unsentLabels : System → List Turn → ℕ → List Label
 unsentLabels sys ts k =
     labelsWhere (sys .net)
     (λ x v. eqb (sys .owner x) k && deleted sys (final sys ts) x v && unsent sys (events sys (load sys) ts) x v)
 
+-- what the definitions give
 unfoldable pub findingOf : Question → Finding
 findingOf (run b ts) = unless (inputFault b ts) (ran (systemAt b) (turnsOf ts))
 findingOf (rounds b) = unless (planFault b) (ran (systemAt b) (roundRunTurns (systemAt b)))
@@ -73,23 +78,27 @@ findingOf (bound b) = unless (planFault b) (number (boundOf (systemAt b)))
 findingOf (solution b) = unless (planFault b) (truth (solvable (systemAt b .net)))
 findingOf (pair b x v y w) = unless (planFault b) (truth (systemAt b .net .allows x v y w))
 
+-- a starred line: a question, and what the document states
 pub record Line : Type 0 where
   pub question : Question
   pub stated : Finding
 
+-- `question gives finding` is such a line
 infix 10 _gives_
 abbrev pub _gives_ : Question → Finding → Line
 q gives f = record { question = q; stated = f }
 
+-- a report in the document's order, and the list cells
 abbrev pub reported : Status → ℕ → ℕ → ℕ → ℕ → List ℕ → Finding
 reported s changes sends polls empty cells =
     report (record { status = s; changes = changes; sends = sends; polls = polls; empty = empty }) cells
 
--- plan P and list T
+-- plan P
 abbrev pub planP : List ℕ
 planP =
     hex 58 0x01_0003020302_000A_0102_000B012C_000C0384_000A_0202_001501F4_00160320_000A_0202_001F0064_0020FFFF_0005_010201_04B0_0007_010300_0001_0002
 
+-- list T
 abbrev pub turnsT : List ℕ
 turnsT = hex 34 0x0109_010A_0201_0209_0209_020A_0102_0109_0001_0002_000C_0100_0200_010B_020B_0001_0002
 
@@ -125,6 +134,7 @@ turnsOfTwo =
     map (hex 2)
     (0x0001 ∷ 0x0002 ∷ 0x000C ∷ 0x0100 ∷ 0x0102 ∷ 0x0109 ∷ 0x010A ∷ 0x010B ∷ 0x0200 ∷ 0x0201 ∷ 0x0209 ∷ 0x020A ∷ 0x020B ∷ [])
 
+-- all starred lines
 unfoldable pub table : List Line
 table =
     (run planP turnsT gives reported Closed 17 2 1 0 (1 ∷ 3 ∷ 1 ∷ []))

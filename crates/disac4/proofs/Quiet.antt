@@ -3,17 +3,12 @@ use Prim.Native.Nat.{ℕ, _≤_}
 use mathlib.Core.List.{[]}
 use mathlib.Core.Path.{_≡_}
 use Rattle.base.proofs.Weight.{weigh}
-use Rattle.disac4.specs.State.{State, Message, list, poll, reply}
+use Rattle.disac4.proofs.ByKind.{listMessage}
+use Rattle.disac4.specs.State.{State}
 use Rattle.disac4.specs.System.{System, Worker}
-
--- 1 for a list message
-abbrev pub isList : Message → ℕ
-isList (list labels) = 1
-isList (poll q) = 0
-isList (reply n) = 0
 
 -- no worker has a label to treat or to send, and no list message is on its way
 pub record Quiet (sys : System) (st : State) : Type 0 where
   pub no-work : (k : ℕ) → Worker sys k → st .workList k ≡ []
   pub no-send : (k : ℕ) → Worker sys k → st .toSend k ≡ []
-  pub no-list : (j k : ℕ) → j ≤ sys .workers → k ≤ sys .workers → weigh isList (st .channel j k) ≡ 0
+  pub no-list : (j k : ℕ) → j ≤ sys .workers → k ≤ sys .workers → weigh listMessage (st .channel j k) ≡ 0
