@@ -1,38 +1,46 @@
--- What the plan check's answer says of the plan.
-use Prim.Native.Nat.{ℕ, suc}
+-- From the answer of a check to the fault that it found, and back.
+use Prim.Native.Nat.{ℕ}
 use mathlib.Core.List.{List}
-use mathlib.Core.Path.{_≡_, sym, _∙_, ap}
-use Rattle.base.proofs.Sums.{sum-ext}
-use Rattle.base.specs.Below.{sumBelow}
-use Rattle.format.specs.Format.{workerCount, variableCount, constraintCount, numberedSize}
-use Rattle.network.specs.Network.{labelCount}
-use Rattle.plan.proofs.Parts.{variables-read, constraints-read, size-read}
-use Rattle.plan.specs.Answer.{countsOf, checkedAs, planCheck}
-use Rattle.plan.specs.Decode.{planOf, accepted, decode}
-use Rattle.plan.specs.Network.{networkOf}
-use Rattle.plan.specs.Plan.{Plan}
-use Rattle.plan.specs.declared.Checked.the-variants.{Accepted}
+use mathlib.Core.Option.{Option, none, some}
+use mathlib.Core.Path.{_≡_, refl, ap}
+use native.Mathlib.Omega.{arith}
+use Rattle.format.specs.Format.{workerCount}
+use Rattle.plan.specs.Answer.{countsOf, checkOf, planCheck}
+use Rattle.plan.specs.Decode.{planFault, planOf, decode}
+use Rattle.plan.specs.declared.Checked.{Checked}
+use Rattle.plan.specs.declared.Checked.the-variants.{Accepted, Declined}
 use Rattle.plan.specs.declared.Counts.{Counts}
+use Rattle.plan.specs.declared.Decline.{Decline}
 
--- L of the decoded plan is the sum of the counts that its sections give
-pub labels-read : (b : List ℕ) → labelCount (networkOf (planOf b)) ≡ sumBelow (variableCount b) (λ x. numberedSize b (suc x))
-unfolding labelCount networkOf
-labels-read b =
-    ap (λ (n : ℕ). sumBelow n (networkOf (planOf b) .size)) (variables-read b)
-    ∙ sum-ext (variableCount b) (networkOf (planOf b) .size) (λ x. numberedSize b (suc x)) (size-read b)
+module _ (b : List ℕ) where
+  -- the plan check finds the plan's own fault
+  pub plan-check : planCheck b ≡ checkOf b (planFault b)
+  unfolding planCheck decode checkOf
+  plan-check = refl
 
--- an accepted plan's counts are p, n, the number of constraints and L
-pub counts : (b : List ℕ) (plan : Plan) → decode b ≡ accepted plan → planCheck b ≡ Accepted (countsOf plan)
-unfolding planCheck
-counts b plan e = ap checkedAs e
+  -- a plan is accepted where there is no fault, and the counts are its own
+  pub no-fault : (o : Option Decline) (f : Counts) → Accepted f ≡ checkOf b o → (o ≡ none) × (f ≡ countsOf (planOf b))
+  unfolding checkOf
+  no-fault none f e = (refl, cc)
+  no-fault (some d) f e = let z : _≡_ {A = ℕ} 0 1 = cc in absurd (omega arith)
 
--- counts that are read part by part
-pub counts-built : (b : List ℕ) (f : Counts) → f .workers ≡ workerCount b → f .variables ≡ variableCount b
-    → f .constraints ≡ constraintCount b → f .labels ≡ labelCount (networkOf (planOf b)) → f ≡ countsOf (planOf b)
-unfolding countsOf planOf
-counts-built b f p q r s = λ i. record {
-  workers = p i;
-  variables = (q ∙ sym (variables-read b)) i;
-  constraints = (r ∙ sym (constraints-read b)) i;
-  labels = s i;
-}
+  -- the first of them is p
+  pub its-workers : (o : Option Decline) (f : Counts) → Accepted f ≡ checkOf b o → f .workers ≡ workerCount b
+  unfolding countsOf planOf
+  its-workers o f e = ap (λ (f : Counts). f .workers) (no-fault o f e .1)
+
+  -- what is declined is the fault
+  pub its-fault : (o : Option Decline) (d : Decline) → Declined d ≡ checkOf b o → o ≡ some d
+  unfolding checkOf
+  its-fault none d e = let z : _≡_ {A = ℕ} 0 1 = cc in absurd (omega arith)
+  its-fault (some c) d e = let same : c ≡ d = cc in ap {B = Option Decline} some same
+
+  -- back: the answer to no fault
+  pub answer-accepted : (o : Option Decline) (f : Counts) → f ≡ countsOf (planOf b) → o ≡ none → Accepted f ≡ checkOf b o
+  unfolding checkOf
+  answer-accepted o f is e = rw (e, is)
+
+  -- and to a fault
+  pub answer-declined : (o : Option Decline) (d : Decline) (r : Checked) → r ≡ Declined d → o ≡ some d → r ≡ checkOf b o
+  unfolding checkOf
+  answer-declined o d r is e = rw e is

@@ -14,7 +14,9 @@ use Rattle.base.specs.Below.{firstBelow}
 use Rattle.base.specs.Bytes.{byteAt}
 use Rattle.base.specs.Choice.{between, firstOf}
 use Rattle.format.specs.Format.{sectionStart, variableCount, constraintCount, sectionCount}
+use Rattle.plan.proofs.Answer.{plan-check, no-fault, its-fault}
 use Rattle.plan.proofs.Sections.{section-complete, section-number, section-declines, passed-before, start-within}
+use Rattle.plan.specs.Answer.{countsOf, checkedAs, planCheck}
 use Rattle.plan.specs.Check.{firstFault, sectionChecks, sectionFault}
 use Rattle.plan.specs.Decode.{planEnd, trailingFault, sectionsFault, planFault, planOf, accepted, declined, decodedAs, decode}
 use Rattle.plan.specs.Fault.{numberOf, decline}
@@ -78,25 +80,27 @@ sound-end b e =
     let within : sectionStart b (suc last) ≤ length b = section-complete b last (sound-section b e last (omega arith)) in
     omega (arith, ap (sectionStart b) count, sound-plan b (ending b) e .2)
 
--- what is decoded as an accepted plan is that plan, without fault
-decoded-plan : (p : Plan) (o : Option Decline) (q : Plan) → decodedAs p o ≡ accepted q → (o ≡ none) × (q ≡ p)
-decoded-plan p none q e = (refl, cc)
-decoded-plan p (some d) q e = let z : _≡_ {A = ℕ} 0 1 = cc in absurd (omega arith)
+-- a plan without a fault is accepted
+pub decoded : (b : List ℕ) → planFault b ≡ none → decode b ≡ accepted (planOf b)
+unfolding decode
+decoded b e = ap (decodedAs (planOf b)) e
 
--- what is decoded as a fault has that fault
-decoded-fault : (p : Plan) (o : Option Decline) (d : Decline) → decodedAs p o ≡ declined d → o ≡ some d
-decoded-fault p none d e = let z : _≡_ {A = ℕ} 0 1 = cc in absurd (omega arith)
-decoded-fault p (some c) d e = let r : c ≡ d = cc in ap {B = Option Decline} some r
+-- and one with a fault is declined for it
+pub not-decoded : (b : List ℕ) (d : Decline) → planFault b ≡ some d → decode b ≡ declined d
+unfolding decode
+not-decoded b d e = ap (decodedAs (planOf b)) e
 
--- a plan is accepted where it has no fault, and is then what the bytes hold
+-- back: an accepted plan has no fault, and is what the bytes hold
 pub decode-plan : (b : List ℕ) (plan : Plan) → decode b ≡ accepted plan → (planFault b ≡ none) × (plan ≡ planOf b)
-unfolding decode
-decode-plan b = decoded-plan (planOf b) (planFault b)
+unfolding planCheck
+decode-plan b plan e =
+    let sound = no-fault b _ (countsOf plan) (sym (ap checkedAs e) ∙ plan-check b) .0 in
+    (sound, let same = decoded b sound in cc)
 
--- a plan is declined for its first fault
+-- and a plan is declined for its first fault
 pub decode-fault : (b : List ℕ) (d : Decline) → decode b ≡ declined d → planFault b ≡ some d
-unfolding decode
-decode-fault b = decoded-fault (planOf b) (planFault b)
+unfolding planCheck
+decode-fault b d e = its-fault b _ d (sym (ap checkedAs e) ∙ plan-check b)
 
 module _ (P : Decline → Type 0) (b : List ℕ) (at-none : P (decline Truncated 0)) (at-version : P (decline BadVersion 0))
     (at-section : 0 < length b → (k : ℕ) → firstBelow k (sectionFault b) ≡ none → (d : Decline) → sectionFault b k ≡ some d → P d)
@@ -119,15 +123,9 @@ place-within b d e =
 -- the plan check alone gives the numbers 1 to 8
 pub number-within : (b : List ℕ) (d : Decline) → decode b ≡ declined d
     → (1 ≤ numberOf (d .fault)) × (numberOf (d .fault) ≤ 8)
-unfolding numberOf
 number-within b d e =
     each-fault (λ c. (1 ≤ numberOf (c .fault)) × (numberOf (c .fault) ≤ 8)) b (omega arith) (omega arith)
     (λ p k r c s.
     let h : between 1 7 (numberOf (c .fault)) ≡ true = section-number b k (c .fault) (section-declines b k c s .0) in
     omega (arith, between-low 1 7 (numberOf (c .fault)) h, between-high 1 7 (numberOf (c .fault)) h))
     (λ p. omega arith) (ending b) d (decode-fault b d e)
-
--- a plan without a fault is accepted
-pub decoded : (b : List ℕ) → planFault b ≡ none → decode b ≡ accepted (planOf b)
-unfolding decode
-decoded b e = ap (decodedAs (planOf b)) e

@@ -11,6 +11,7 @@ pub mod Links
 pub mod Pairs
 pub mod Parts
 pub mod Passed
+pub mod PlanCounts
 pub mod Sections
 pub mod Variables
 pub mod WellFormed

@@ -43,7 +43,7 @@ section-complete b k =
 
 -- a section's checks give the numbers 1 to 7 alone
 pub section-number : (b : List ℕ) (k : ℕ) (f : Fault) → firstFault (sectionChecks b k) ≡ some f → between 1 7 (numberOf f) ≡ true
-unfolding headChecks variableChecks constraintChecks numberOf
+unfolding headChecks variableChecks constraintChecks
 section-number b k f =
     fault-among (λ g. between 1 7 (numberOf g)) (sectionChecks b k)
     (each-section (λ cs. allOf (λ c. between 1 7 (numberOf (c .fault))) cs ≡ true) b k refl refl refl) f

@@ -4,10 +4,9 @@ use Rattle.format.specs.Format.{sectionStart}
 use Rattle.network.specs.Computes.{network-computes}
 use Rattle.plan.specs.Check.{complete, headInRange, headChecks, repeatsCode, variableChecks, variablesInOrder, constraintLength, tableFits, constraintChecks, sectionChecks, sectionFault}
 use Rattle.plan.specs.Decode.{planEnd, trailingFault, sectionsFault, planFault, variableAt, relationAt, constraintAt, planOf, decode}
-use Rattle.plan.specs.Fault.{numberOf}
 use Rattle.plan.specs.Network.{unrecorded, withinLimit, permits, joins, ties, spares, accepts, pairAllowed, shareConstraint, networkOf}
 use Rattle.plan.specs.Plan.{variableOf, valueOf, sizeOf}
 
 unfoldable pub plan-computes : Unit {0}
-unfolding complete headInRange headChecks repeatsCode variableChecks variablesInOrder constraintLength tableFits constraintChecks sectionChecks sectionFault planEnd trailingFault sectionsFault planFault variableAt relationAt constraintAt planOf decode numberOf sectionStart unrecorded withinLimit permits joins ties spares accepts pairAllowed shareConstraint networkOf sizeOf variableOf valueOf base-computes network-computes
+unfolding complete headInRange headChecks repeatsCode variableChecks variablesInOrder constraintLength tableFits constraintChecks sectionChecks sectionFault planEnd trailingFault sectionsFault planFault variableAt relationAt constraintAt planOf decode sectionStart unrecorded withinLimit permits joins ties spares accepts pairAllowed shareConstraint networkOf sizeOf variableOf valueOf base-computes network-computes
 plan-computes = tt

@@ -14,7 +14,6 @@ use Rattle.base.proofs.Each.{each-all, each-gather}
 use Rattle.base.proofs.Row.{row-bit}
 use Rattle.base.specs.Choice.{allOf, firstOf}
 use Rattle.base.specs.Row.{bit, rowOf}
-use Rattle.calls.proofs.Checked.{plan-check, no-fault, its-fault, its-counts}
 use Rattle.disac4.proofs.Demands.{demand2, demand3, round-closes-plan}
 use Rattle.disac4.proofs.Order.{round-without-list}
 use Rattle.disac4.proofs.Outcome.{list-cell-each, played-written, run-played, run-refused, run-reports, run-declines}
@@ -33,8 +32,8 @@ use Rattle.network.proofs.Largest.{largest-consistent}
 use Rattle.network.proofs.Loaded.{loaded-variable, loaded-value}
 use Rattle.network.specs.Consistency.{Within, Largest}
 use Rattle.network.specs.Network.{Domains, loaded}
-use Rattle.plan.proofs.Answer.{counts}
-use Rattle.plan.proofs.Faults.{decoded, decode-plan}
+use Rattle.plan.proofs.Answer.{plan-check, no-fault, its-fault}
+use Rattle.plan.proofs.Faults.{decoded, not-decoded, decode-plan}
 use Rattle.plan.proofs.WellFormed.{read-well-formed, few-labels}
 use Rattle.plan.specs.Answer.{planCheck, checkedAs, countsOf}
 use Rattle.plan.specs.Decode.{planOf, decode, accepted, declined}
@@ -42,18 +41,18 @@ use Rattle.plan.specs.declared.Checked as checked
 use Rattle.plan.specs.declared.Checked.{Checked}
 use Rattle.plan.specs.declared.Decline.{Decline}
 use Rattle.plan.specs.declared.Counts.{Counts}
-use Rattle.tinshrew.proofs.Faults.{not-decoded, declined-plan, none-found, one-found, in-table, empty-fits}
-use Rattle.tinshrew.specs.Conclusions.{AcceptedPlan, DeclinedPlan, Fits, TurnsFit, FirstFault, InTable, DeclinedRun, listedIn, ReportedRun, RunTells}
+use Rattle.tinshrew.proofs.Faults.{declined-plan, none-found, one-found, in-table, empty-fits}
+use Rattle.tinshrew.specs.Conclusions.{AcceptedPlan, DeclinedPlan, PlanAndBuffersFit, TurnsFit, FirstFault, InTable, DeclinedRun, listedIn, ReportedRun, RunTells}
 
 -- ---- the plan check
 
 -- the plan check accepts a plan exactly if it has none of the faults 1 to 8
 pub check-accepts : (b : List ℕ) (r : Checked) → r ≡ planCheck b
     → ((f : Counts) × (r ≡ checked.the-variants.Accepted f)) ↔ (decode b ≡ accepted (planOf b))
-unfolding countsOf
+unfolding planCheck
 check-accepts b r g = (
-  λ s. decoded b (no-fault b _ (s .0) (sym (s .1) ∙ g ∙ plan-check b)),
-  λ e. (countsOf (planOf b), g ∙ counts b (planOf b) e),
+  λ s. decoded b (no-fault b _ (s .0) (sym (s .1) ∙ g ∙ plan-check b) .0),
+  λ e. (countsOf (planOf b), g ∙ ap checkedAs e),
 )
 
 -- and then gives p, n, the number of rules and L
@@ -61,10 +60,10 @@ pub check-accepted : (b : List ℕ) (f : Counts) → checked.the-variants.Accept
 unfolding countsOf
 check-accepted b f g =
     let sound = no-fault b _ f (g ∙ plan-check b) in
-    let fits = read-well-formed b sound in
-    rw (its-counts b _ f (g ∙ plan-check b))
+    let fits = read-well-formed b (sound .0) in
+    rw (sound .1)
     (record {
-      accepts = decoded b sound;
+      accepts = decoded b (sound .0);
       counts = refl;
       workers = (fits .workers-low, fits .workers-high);
       variables = (fits .variables-low, fits .variables-high);
@@ -97,7 +96,7 @@ never-open false full e h = let z : _≡_ {A = ℕ} 0 1 = cc in omega arith
 
 -- ---- a reported run
 
-module _ (b : List ℕ) (turns : List Turn) (work lists work′ lists′ : List ℕ) (r : Report) (fits : Fits b work lists)
+module _ (b : List ℕ) (turns : List Turn) (work lists work′ lists′ : List ℕ) (r : Report) (fits : PlanAndBuffersFit b work lists)
     (g : Gives (played work lists (systemAt b) turns) (Reported r) work′ lists′) where
   -- the report is that of the turns
   told : r ≡ reportOf (systemAt b) turns
@@ -176,8 +175,8 @@ module _ (b ts : List ℕ) (turns : List Turn) (work lists work′ lists′ : Li
       }
 
   -- all that it tells, if the turns that it plays are allowed
-  run-tells : (Fitting : Type 0) → Fitting ↔ (Fits b work lists × TurnsFit b ts)
-      → (Fits b work lists → TurnsFit b ts → allOf (allowed (systemAt b .workers)) turns ≡ true)
+  run-tells : (Fitting : Type 0) → Fitting ↔ (PlanAndBuffersFit b work lists × TurnsFit b ts)
+      → (PlanAndBuffersFit b work lists → TurnsFit b ts → allOf (allowed (systemAt b .workers)) turns ≡ true)
       → (most : ℕ) → ((d : Decline) → FirstFault b ts work lists d → InTable most b ts d)
       → RunTells Fitting most b ts turns work lists work′ lists′ a
   run-tells Fitting fitting fine most table = record {
@@ -210,7 +209,7 @@ list-allowed b ts fits =
 
 -- it reports exactly if none of the listed faults is there; otherwise it declines the first of them, with a number from 1 to 12
 pub turn-run-tells : (b ts work lists work′ lists′ : List ℕ) (a : Answer) → Gives (turnRun b ts work lists) a work′ lists′
-    → RunTells (Fits b work lists × TurnsFit b ts) 12 b ts (turnsOf ts) work lists work′ lists′ a
+    → RunTells (PlanAndBuffersFit b work lists × TurnsFit b ts) 12 b ts (turnsOf ts) work lists work′ lists′ a
 unfolding turnRun
 turn-run-tells b ts work lists work′ lists′ a g =
     run-tells b ts (turnsOf ts) work lists work′ lists′ a g _ (λ h. h, λ h. h) (λ h fits. list-allowed b ts fits) 12
@@ -220,7 +219,7 @@ turn-run-tells b ts work lists work′ lists′ a g =
 
 -- it reports exactly if the buffers are long enough and the plan is accepted; otherwise the number is from 1 to 10, never 11 or 12
 pub round-run-tells : (b work lists work′ lists′ : List ℕ) (a : Answer) → Gives (roundRun b work lists) a work′ lists′
-    → RunTells (Fits b work lists) 10 b [] (roundRunTurns (systemAt b)) work lists work′ lists′ a
+    → RunTells (PlanAndBuffersFit b work lists) 10 b [] (roundRunTurns (systemAt b)) work lists work′ lists′ a
 round-run-tells b work lists work′ lists′ a g =
     run-tells b [] (roundRunTurns (systemAt b)) work lists work′ lists′ a (rw (← round-without-list b work lists) g) _
     (λ h. (h, empty-fits b), λ h. h .0) (λ h fits. round-closes-plan b (planOf b) (h .accepts) .all-allowed) 10

@@ -4,7 +4,7 @@ use mathlib.Core.Bool.{false}
 use mathlib.Core.List.{List, []}
 use mathlib.Core.Logic.{_↔_}
 use mathlib.Core.Option.{Option, none, some}
-use mathlib.Core.Path.{_≡_, refl, ap, subst}
+use mathlib.Core.Path.{_≡_, refl, subst}
 use native.Mathlib.Omega.{arith}
 use lib.ListN.{length}
 use Rattle.base.specs.Choice.{firstOf}
@@ -13,21 +13,16 @@ use Rattle.disac4.specs.Outcome.{bufferFault, inputFault}
 use Rattle.disac4.specs.System.{systemOf}
 use Rattle.disac4.specs.Turn.{turnListFits, turnFault}
 use Rattle.turns.proofs.TurnLists.{is-allowed}
-use Rattle.plan.proofs.Faults.{decoded, decode-plan, decode-fault, number-within, place-within}
-use Rattle.plan.specs.Decode.{planFault, planOf, decode, decodedAs, declined}
+use Rattle.plan.proofs.Faults.{decoded, not-decoded, decode-plan, decode-fault, number-within, place-within}
+use Rattle.plan.specs.Decode.{planOf, decode, declined}
 use Rattle.plan.specs.Fault.{numberOf, decline}
 use Rattle.format.specs.Format.{workerCount}
 use Rattle.plan.specs.declared.Decline.{Decline}
 use Rattle.plan.specs.declared.Fault.{Fault}
 use Rattle.plan.specs.declared.Fault.the-variants.{ShortWork, ShortLists, BadTurnList}
-use Rattle.tinshrew.specs.Conclusions.{DeclinedPlan, Fits, TurnsFit, FirstFault, few-work-cells, few-list-cells, bad-list, bad-plan, bad-turn, InTable}
+use Rattle.tinshrew.specs.Conclusions.{DeclinedPlan, PlanAndBuffersFit, TurnsFit, FirstFault, few-work-cells, few-list-cells, bad-list, bad-plan, bad-turn, InTable}
 
 -- ---- the plan
-
--- a plan with a fault is not accepted
-pub not-decoded : (b : List ℕ) (d : Decline) → planFault b ≡ some d → decode b ≡ declined d
-unfolding decode
-not-decoded b d e = ap (decodedAs (planOf b)) e
 
 -- the fault's number is from 1 to 8, and its place at most the plan's length
 pub declined-plan : (b : List ℕ) (d : Decline) → decode b ≡ declined d → DeclinedPlan b d
@@ -42,7 +37,7 @@ module _ (b ts work lists : List ℕ) where
 
   -- what a fault says, and what it says that there is none
   abbrev Found : Option Decline → Type 0
-  Found none = Fits b work lists × TurnsFit b ts
+  Found none = PlanAndBuffersFit b work lists × TurnsFit b ts
   Found (some d) = FirstFault b ts work lists d
 
   found-says : Found found
@@ -56,7 +51,7 @@ module _ (b ts work lists : List ℕ) where
       ))
 
   -- none is found exactly if all fits
-  pub none-found : (found ≡ none) ↔ (Fits b work lists × TurnsFit b ts)
+  pub none-found : (found ≡ none) ↔ (PlanAndBuffersFit b work lists × TurnsFit b ts)
   unfolding systemOf planOf turnFault
   none-found = (
     λ e. subst Found e found-says,

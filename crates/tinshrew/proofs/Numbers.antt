@@ -14,11 +14,12 @@ use Rattle.plan.specs.Answer.{planCheck}
 use Rattle.plan.specs.Fault.{numberOf}
 use Rattle.plan.specs.declared.Checked as checked
 use Rattle.plan.specs.declared.Checked.{Checked}
+use Rattle.plan.specs.declared.Decline.{Decline}
 use Rattle.plan.proofs.FaultNumbers.{number-range}
 use Rattle.numbers.specs.Numbers.{answerNumbers, checkedNumbers}
 use Rattle.tinshrew.proofs.Conclusions.{check-accepts, check-accepted, check-declined, turn-run-tells, round-run-tells}
-use Rattle.tinshrew.specs.Conclusions.{Fits, TurnsFit, DeclinedRun, ReportedRun, RunTells}
-use Rattle.tinshrew.specs.Numbers.{GivesNumbers, CheckNumbers, RunNumbers}
+use Rattle.tinshrew.specs.Conclusions.{PlanAndBuffersFit, TurnsFit, DeclinedRun, ReportedRun, RunTells}
+use Rattle.tinshrew.specs.Numbers.{GivesNumbers, NumbersTell, CheckNumbers, RunNumbers}
 
 -- what a call gives, with its answer written as numbers
 pub as-numbers : (o : Outcome) (r : Answer) (out work lists : List ℕ) → out ≡ answerNumbers r → Gives o r work lists
@@ -30,58 +31,63 @@ as-numbers o r out work lists e g = record {
 
 -- ---- the calls for C
 
--- what an answer tells, its numbers tell
-run-numbers : {Fitting : Type 0} {most : ℕ} {b ts : List ℕ} {turns : List Turn} {work lists work′ lists′ : List ℕ} (a : Answer)
-    → RunTells Fitting most b ts turns work lists work′ lists′ a → (out : List ℕ) → out ≡ answerNumbers a
-    → RunNumbers out Fitting (ReportedRun b turns work lists work′ lists′) (DeclinedRun most b ts work lists work′ lists′)
-unfolding answerNumbers
-run-numbers (Reported r) tells out e =
-    let first : getD out 0 0 ≡ 0 = ap (λ (l : List ℕ). getD l 0 0) e in record {
-      first-zero = (λ z. tells .reports .0 (r, refl), λ h. first);
-      zero-reported = λ z. (r, tells .reported r refl, e);
-      other-declined = λ n. absurd (n first);
-    }
-run-numbers (Declined d) tells out e =
-    let first : getD out 0 0 ≡ numberOf (d .fault) = ap (λ (l : List ℕ). getD l 0 0) e in
-    let not-zero : getD out 0 0 ≡ 0 → ⊥ = λ z. omega (arith, number-range (d .fault), first) in record {
-      first-zero = (
-        λ z. absurd (not-zero z),
-        λ h. let is = tells .reports .1 h .1 in let z : _≡_ {A = ℕ} 0 1 = cc in absurd (omega arith),
-      );
-      zero-reported = λ z. absurd (not-zero z);
-      other-declined = λ n. (d, tells .declined d refl, e);
-    }
+-- what an answer tells, its numbers tell: those of a success begin with 0, those of a decline with its number
+module _ {A S : Type 0} {numbers : A → List ℕ} {success : S → A} {decline : Decline → A} {Fitting : Type 0} {Told : S → Type 0}
+    {Refused : Decline → Type 0} (zero : (s : S) → getD (numbers (success s)) 0 0 ≡ 0)
+    (number : (d : Decline) → getD (numbers (decline d)) 0 0 ≡ numberOf (d .fault)) where
+  -- of a success
+  success-tells : (s : S) → Fitting → Told s → NumbersTell numbers success decline (numbers (success s)) Fitting Told Refused
+  success-tells s fits told = record {
+    first-zero = (λ z. fits, λ h. zero s);
+    zero-told = λ z. (s, told, refl);
+    other-declined = λ n. absurd (n (zero s));
+  }
 
+  -- of a decline, which is no success
+  decline-tells : (d : Decline) → (Fitting → (s : S) × (decline d ≡ success s)) → Refused d
+      → NumbersTell numbers success decline (numbers (decline d)) Fitting Told Refused
+  decline-tells d succeeds refused =
+      let not-zero : getD (numbers (decline d)) 0 0 ≡ 0 → ⊥ = λ z. omega (arith, number-range (d .fault), number d) in record {
+        first-zero = (
+          λ z. absurd (not-zero z),
+          λ h. let s = succeeds h in ap (λ (a : A). getD (numbers a) 0 0) (s .1) ∙ zero (s .0),
+        );
+        zero-told = λ z. absurd (not-zero z);
+        other-declined = λ n. (d, refused, refl);
+      }
+
+-- so those of any run
+run-numbers : {Fitting : Type 0} {most : ℕ} {b ts : List ℕ} {turns : List Turn} {work lists work′ lists′ : List ℕ} (a : Answer)
+    → RunTells Fitting most b ts turns work lists work′ lists′ a
+    → RunNumbers (answerNumbers a) Fitting (ReportedRun b turns work lists work′ lists′)
+    (DeclinedRun most b ts work lists work′ lists′)
+unfolding answerNumbers
+run-numbers (Reported r) tells =
+    success-tells (λ r. refl) (λ d. refl) r (tells .reports .0 (r, refl)) (tells .reported r refl)
+run-numbers (Declined d) tells = decline-tells (λ r. refl) (λ d. refl) d (tells .reports .1) (tells .declined d refl)
+
+-- of the turn run
 pub turn-numbers : (b ts work lists out work′ lists′ : List ℕ) → GivesNumbers (turnRun b ts work lists) out work′ lists′
-    → RunNumbers out (Fits b work lists × TurnsFit b ts) (ReportedRun b (turnsOf ts) work lists work′ lists′)
+    → RunNumbers out (PlanAndBuffersFit b work lists × TurnsFit b ts) (ReportedRun b (turnsOf ts) work lists work′ lists′)
     (DeclinedRun 12 b ts work lists work′ lists′)
 turn-numbers b ts work lists out work′ lists′ g =
-    run-numbers _ (turn-run-tells b ts work lists work′ lists′ _ (g .gives)) out (g .numbers)
+    rw (g .numbers) (run-numbers _ (turn-run-tells b ts work lists work′ lists′ _ (g .gives)))
 
+-- of the round run
 pub round-numbers : (b work lists out work′ lists′ : List ℕ) → GivesNumbers (roundRun b work lists) out work′ lists′
-    → RunNumbers out (Fits b work lists) (ReportedRun b (roundRunTurns (systemAt b)) work lists work′ lists′)
+    → RunNumbers out (PlanAndBuffersFit b work lists) (ReportedRun b (roundRunTurns (systemAt b)) work lists work′ lists′)
     (DeclinedRun 10 b [] work lists work′ lists′)
 round-numbers b work lists out work′ lists′ g =
-    run-numbers _ (round-run-tells b work lists work′ lists′ _ (g .gives)) out (g .numbers)
+    rw (g .numbers) (run-numbers _ (round-run-tells b work lists work′ lists′ _ (g .gives)))
 
+-- and of the plan check
 pub check-numbers : (b out : List ℕ) → out ≡ checkedNumbers (planCheck b) → CheckNumbers b out
 unfolding checkedNumbers
-check-numbers b out = go (planCheck b) refl
+check-numbers b out e = rw e (go (planCheck b) refl)
   where
-    go : (r : Checked) → r ≡ planCheck b → out ≡ checkedNumbers r → CheckNumbers b out
-    go (checked.the-variants.Accepted f) e g =
-        let first : getD out 0 0 ≡ 0 = ap (λ (l : List ℕ). getD l 0 0) g in record {
-          first-zero = (λ z. check-accepted b f e .accepts, λ h. first);
-          zero-accepted = λ z. (f, check-accepted b f e, g);
-          other-declined = λ n. absurd (n first);
-        }
-    go (checked.the-variants.Declined d) e g =
-        let first : getD out 0 0 ≡ numberOf (d .fault) = ap (λ (l : List ℕ). getD l 0 0) g in
-        let not-zero : getD out 0 0 ≡ 0 → ⊥ = λ z. omega (arith, number-range (d .fault), first) in record {
-          first-zero = (
-            λ z. absurd (not-zero z),
-            λ h. let is = check-accepts b _ e .1 h .1 in let z : _≡_ {A = ℕ} 0 1 = cc in absurd (omega arith),
-          );
-          zero-accepted = λ z. absurd (not-zero z);
-          other-declined = λ n. (d, check-declined b d e, g);
-        }
+    go : (r : Checked) → r ≡ planCheck b → CheckNumbers b (checkedNumbers r)
+    go (checked.the-variants.Accepted f) is =
+        let plan = check-accepted b f is in
+        success-tells (λ f. refl) (λ d. refl) f (plan .accepts) plan
+    go (checked.the-variants.Declined d) is =
+        decline-tells (λ f. refl) (λ d. refl) d (check-accepts b _ is .1) (check-declined b d is)

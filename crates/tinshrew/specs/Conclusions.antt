@@ -53,8 +53,8 @@ pub record DeclinedPlan (b : List ℕ) (d : Decline) : Type 0 where
 
 -- ---- when a run reports
 
--- no fault in the buffers and the plan of a run
-pub record Fits (b work lists : List ℕ) : Type 0 where
+-- no fault in the plan and the buffers of a run
+pub record PlanAndBuffersFit (b work lists : List ℕ) : Type 0 where
   -- not 9: at least 24,576 work cells
   pub work-cells : workNeed ≤ length work
   -- not 10: at least 32 list cells

@@ -12,7 +12,6 @@ use Rattle.numbers.specs.Numbers.{answerNumbers, checkedNumbers}
 use Rattle.plan.specs.Decode.{decode, accepted, planOf}
 use Rattle.plan.specs.declared.Checked as checked
 use Rattle.plan.specs.declared.Decline.{Decline}
-use Rattle.plan.specs.declared.Counts.{Counts}
 use Rattle.tinshrew.specs.Conclusions.{AcceptedPlan, DeclinedPlan}
 
 -- `Gives`, with the answer as its numbers
@@ -20,21 +19,23 @@ pub record GivesNumbers (o : Outcome) (out work lists : List ℕ) : Type 0 where
   pub numbers : out ≡ answerNumbers (o .answer)
   pub gives : Gives o (o .answer) work lists
 
--- numbers of the plan check
-pub record CheckNumbers (b out : List ℕ) : Type 0 where
-  -- the first is 0 exactly if the plan is accepted
-  pub first-zero : (getD out 0 0 ≡ 0) ↔ (decode b ≡ accepted (planOf b))
-  -- and then they are those of the plan's counts
-  pub zero-accepted : getD out 0 0 ≡ 0 → (f : Counts) × AcceptedPlan b f × (out ≡ checkedNumbers (checked.the-variants.Accepted f))
-  -- otherwise those of a decline
-  pub other-declined : (getD out 0 0 ≡ 0 → ⊥)
-      → (d : Decline) × DeclinedPlan b d × (out ≡ checkedNumbers (checked.the-variants.Declined d))
-
--- numbers of a run
-pub record RunNumbers (out : List ℕ) (Fitting : Type 0) (Told : Report → Type 0) (Refused : Decline → Type 0) : Type 0 where
-  -- the first is 0 exactly if plan, turns and buffers are fit for the run
+-- what the numbers of an answer tell. `numbers` writes a success and a decline; `Fitting` is that nothing is at fault, and `Told` and
+-- `Refused` are what follows from each
+pub record NumbersTell {A S : Type 0} (numbers : A → List ℕ) (success : S → A) (decline : Decline → A) (out : List ℕ)
+    (Fitting : Type 0) (Told : S → Type 0) (Refused : Decline → Type 0) : Type 0 where
+  -- the first is 0 exactly if nothing is at fault
   pub first-zero : (getD out 0 0 ≡ 0) ↔ Fitting
-  -- and then they are those of a report
-  pub zero-reported : getD out 0 0 ≡ 0 → (r : Report) × Told r × (out ≡ answerNumbers (Reported r))
+  -- and then they are those of a success
+  pub zero-told : getD out 0 0 ≡ 0 → (s : S) × Told s × (out ≡ numbers (success s))
   -- otherwise those of a decline
-  pub other-declined : (getD out 0 0 ≡ 0 → ⊥) → (d : Decline) × Refused d × (out ≡ answerNumbers (Declined d))
+  pub other-declined : (getD out 0 0 ≡ 0 → ⊥) → (d : Decline) × Refused d × (out ≡ numbers (decline d))
+
+-- those of the plan check: 0 and the counts exactly if the plan is accepted
+abbrev pub CheckNumbers : List ℕ → List ℕ → Type 0
+CheckNumbers b out =
+    NumbersTell checkedNumbers checked.the-variants.Accepted checked.the-variants.Declined out (decode b ≡ accepted (planOf b))
+    (AcceptedPlan b) (DeclinedPlan b)
+
+-- those of a run: 0 and the report exactly if plan, turns and buffers are fit for it
+abbrev pub RunNumbers : List ℕ → Type 0 → (Report → Type 0) → (Decline → Type 0) → Type 0
+RunNumbers = NumbersTell answerNumbers Reported Declined

@@ -10,12 +10,12 @@ use Rattle.disac4.proofs.Order.{bad-turn-list, then-plan}
 use Rattle.disac4.specs.Outcome.{bufferFault, inputFault}
 use Rattle.disac4.specs.Turn.{turnListFits}
 use Rattle.turns.specs.Bad.{badTurn}
+use Rattle.plan.proofs.Answer.{plan-check, no-fault, its-workers, its-fault, answer-accepted, answer-declined}
 use Rattle.plan.proofs.Branches.{holds, fails}
 use Rattle.plan.specs.Decode.{planFault}
 use Rattle.format.specs.Format.{workerCount}
 use Rattle.plan.specs.declared.Checked.the-variants.{Accepted}
 use Rattle.plan.specs.declared.Decline.{Decline}
-use Rattle.calls.proofs.Checked.{no-fault, its-fault, its-workers, its-counts, plan-check, answer-declined, answer-accepted}
 use Rattle.calls.proofs.Tests.{buffers-pass, buffers-fail, bad-turn, no-bad-turn}
 use Rattle.plan.specs.Answer.{checkOf}
 use borrow.Author.Needs.{needs}
@@ -46,7 +46,7 @@ known : (t : tie.After-f) → let b = now (given t .args .plan) in Accepted (t .
 known t = sym (t .f .given .1) ∙ t .before .before .check-plan .ensures ∙ plan-check _
 
 sound : (t : tie.After-f) → planFault (now (given t .args .plan)) ≡ none
-sound t = no-fault _ _ _ (known t)
+sound t = no-fault _ _ _ (known t) .0
 
 workers : (t : tie.After-f) → t .f .given .0 .0 .workers ≡ workerCount (now (given t .args .plan))
 workers t = its-workers _ _ _ (known t)
@@ -124,7 +124,7 @@ returns-4 c =
 returns-5 : tie.Need-returns-5
 returns-5 c =
     let t = c .before .before .before in
-    answer-accepted _ _ _ (its-counts _ _ _ (known t))
+    answer-accepted _ _ _ (no-fault _ _ _ (known t) .1)
     (tried (c .before) _ (no-bad-turn _ _ (c .if2 .left)))
 
 pub check-run-spec : {M : Type 1} → statement M

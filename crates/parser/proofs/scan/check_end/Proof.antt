@@ -2,7 +2,7 @@
 use borrow.Author.Tests.{lt-ltb, le-ltb}
 use mathlib.Core.Path.{ap}
 use lib.ListN.{length}
-use Rattle.plan.proofs.Answer.{counts-built}
+use Rattle.plan.proofs.PlanCounts.{counts-built}
 use Rattle.plan.specs.Decode.{trailingFault}
 use Rattle.plan.specs.Answer.{checkOf}
 use Rattle.plan.specs.declared.Checked.the-variants.{Accepted}

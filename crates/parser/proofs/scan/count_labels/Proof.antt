@@ -7,7 +7,7 @@ use native.Mathlib.Omega.{arith}
 use Rattle.base.proofs.Sums.{sum-more}
 use Rattle.base.specs.Below.{sumBelow}
 use Rattle.format.specs.Format.{variableCount, numberedSize}
-use Rattle.plan.proofs.Answer.{labels-read}
+use Rattle.plan.proofs.PlanCounts.{labels-read}
 use Rattle.parser.proofs.scan.count_labels.Statement.{statement}
 use Rattle.parser.proofs.scan.count_labels.Tie as tie
 
