@@ -22,7 +22,7 @@ unfolding workNeed
 need = refl
 
 -- a cell behind the needed ones
-pub mem-behind : (c : List ℕ) (j : ℕ) → j < 2 ^ 64 → memOf c BEHIND 0 j ≡ getD c (24576 + j) 0
+mem-behind : (c : List ℕ) (j : ℕ) → j < 2 ^ 64 → memOf c BEHIND 0 j ≡ getD c (24576 + j) 0
 unfolding memOf
 mem-behind c j h = cond-true (getD c (24576 + j) 0) 0 (lt-ltb j (2 ^ 64) h)
 

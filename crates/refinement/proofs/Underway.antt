@@ -15,14 +15,14 @@ use Rattle.disac4.specs.Report.{isSend, isPoll, final}
 use Rattle.disac4.specs.State.{State}
 use Rattle.disac4.specs.System.{System, systemAt}
 use Rattle.disac4.specs.Turn.{Turn, play, changesWhere}
-use Rattle.index.proofs.Chains.{indexed-kept}
+use Rattle.index.proofs.Kept.{IndexKept, indexed-kept}
 use Rattle.refinement.proofs.Refined.{Refines, refined}
 use Rattle.refinement.proofs.Simulation.{run-view, run-keeps, run-counts}
 use Rattle.refinement.proofs.Start.{fits-regions, start-inv, start-view, start-indexed, start-behind}
 use Rattle.refinement.proofs.Static.{play-static}
 use Rattle.index.specs.Index.{Ready}
 use Rattle.refinement.specs.Inv.{Inv}
-use Rattle.cells.specs.Layout.{HEADS, BEHIND}
+use Rattle.cells.specs.Layout.{BEHIND, WORKCELLS}
 use Rattle.cells.specs.Memory.{Mem, memOf}
 use Rattle.refinement.specs.Run.{viewOf, changesWhereM, startM, At, Going, Plays}
 use Rattle.controller.specs.Controller.{Machine, machine}
@@ -40,7 +40,7 @@ module _ (b : List ℕ) (sound : planFault b ≡ none) where
 
   module _ (m : Mem) (ts : List Turn) (cells : List ℕ) (g : Progress) (at : At b m ts cells g) where
     -- the invariant holds
-    pub under-inv : Inv sys (machine cells (g .tally))
+    under-inv : Inv sys (machine cells (g .tally))
     under-inv = subst (Inv sys) (sym (at .stands)) (run-keeps refines ts (startM b m) (start-inv b sound m))
 
     -- the cells stand for the state after the turns
@@ -52,21 +52,20 @@ module _ (b : List ℕ) (sound : planFault b ≡ none) where
         ∙ ap (λ (st : State). play sys st ts) (start-view b sound m)
 
     -- nothing of the index or behind it has changed
-    same-since : (r i j : ℕ) → HEADS ≤ r → memOf cells r i j ≡ startM b m .mem r i j
-    same-since r i j h =
-        ap (λ (s : Machine). s .mem r i j) (at .stands) ∙ play-static r i j h sys ts (startM b m)
+    same-since : IndexKept (startM b m .mem) (memOf cells)
+    same-since =
+        subst (λ (s : Machine). IndexKept (startM b m .mem) (s .mem)) (sym (at .stands)) (play-static sys ts (startM b m))
 
-    pub under-ready : 24576 ≤ length cells → Ready b cells
+    under-ready : WORKCELLS ≤ length cells → Ready b cells
     under-ready long = record {
       sound = sound;
-      index =
-          indexed-kept b (startM b m .mem) (memOf cells) same-since (start-indexed b sound m);
+      index = indexed-kept b (startM b m .mem) (memOf cells) same-since (start-indexed b sound m);
       long = long;
     }
 
     -- the cells behind are as they were
     pub under-behind : (i j : ℕ) → memOf cells BEHIND i j ≡ m BEHIND i j
-    under-behind i j = same-since BEHIND i j (omega arith) ∙ start-behind b sound m i j
+    under-behind i j = same-since .kept BEHIND i j (omega arith) ∙ start-behind b sound m i j
 
     -- the counts are those of document 01's turns
     counted : (test : Turn → Bool) → changesWhereM sys test (startM b m) ts ≡ changesWhere sys test (load sys) ts
@@ -113,13 +112,38 @@ module _ (b : List ℕ) (sound : planFault b ≡ none) where
     }
 
     -- and what one turn more has done
-    pub at-after : (t : Turn) (cells′ : List ℕ) (g′ : Progress) → At b m (ts ++ (t ∷ [])) cells′ g′
+    at-after : (t : Turn) (cells′ : List ℕ) (g′ : Progress) → At b m (ts ++ (t ∷ [])) cells′ g′
         → (machine cells′ (g′ .tally) ≡ afterM sys (machine cells (g .tally)) t)
         × (g′ .changes ≡ g .changes + one (isSome (stepM sys (machine cells (g .tally)) t)))
     at-after t cells′ g′ later = (
       later .stands ∙ play-next (stepM sys) ts t (startM b m) ∙ ap (λ (s : Machine). afterM sys s t) (sym (at .stands)),
       omega (arith, later .changes, at .changes, more (λ t. true) t),
     )
+
+-- ---- a run that goes on
+
+module _ (b cells : List ℕ) (g : Progress) (go : Going b cells g) where
+  pub going-inv : Inv (systemAt b) (machine cells (g .tally))
+  going-inv = under-inv b (go .sound) (go .before) (go .turns) cells g (go .at)
+
+  pub going-view : viewOf (systemAt b) (machine cells (g .tally)) ≡ final (systemAt b) (go .turns)
+  going-view = under-view b (go .sound) (go .before) (go .turns) cells g (go .at)
+
+  -- it has its plan's index
+  pub going-ready : Ready b cells
+  going-ready = under-ready b (go .sound) (go .before) (go .turns) cells g (go .at) (go .long)
+
+  -- its counts have room for one turn more
+  pub going-small : (g .changes < 65536) × (g .sends < 65536) × (g .polls < 65536)
+  going-small = under-small b (go .sound) (go .before) (go .turns) cells g (go .at)
+
+  -- what one turn more has done
+  pub going-after : (t : Turn) (cells′ : List ℕ) (g′ : Progress) → Plays b (t ∷ []) cells g cells′ g′
+      → (machine cells′ (g′ .tally) ≡ afterM (systemAt b) (machine cells (g .tally)) t)
+      × (g′ .changes ≡ g .changes + one (isSome (stepM (systemAt b) (machine cells (g .tally)) t)))
+  unfolding Plays
+  going-after t cells′ g′ plays =
+      at-after b (go .sound) (go .before) (go .turns) cells g (go .at) t cells′ g′ (plays (go .before) (go .turns) (go .at))
 
 -- ---- lists of turns, one after the other
 
