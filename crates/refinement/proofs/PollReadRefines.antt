@@ -29,12 +29,16 @@ module _ (sys : System) (small : Small sys) (s : Machine) (inv : Inv sys s) (i :
   abbrev t : Tally
   t = s .tally
 
+  -- the poll that is read
+  abbrev next : ℕ
+  next = m WORKERS i POLLS + 1
+
   -- the memory after
   abbrev m′ : Mem
-  m′ = heldM i (m WORKERS i POLLS + 1) m
+  m′ = heldM i next m
 
   newest : Poll
-  newest = pollAt m (m WORKERS i POLLS + 1)
+  newest = pollAt m next
 
   poll-grown : Grown sys m t m′
   poll-grown = search
@@ -42,7 +46,7 @@ module _ (sys : System) (small : Small sys) (s : Machine) (inv : Inv sys s) (i :
   other-channels : Stays sys (Beside 0 (suc i)) (rowsOf m t) (rowsOf m′ t)
   other-channels =
       let polls : (k : ℕ) → k < sys .workers → Beside 0 (suc i) 0 (suc k) → m′ WORKERS k POLLS ≡ m WORKERS k POLLS =
-      λ k hk n. only-row i (m WORKERS i POLLS + 1) m .others k (λ e. n refl (ap suc e)) .workers POLLS in
+      λ k hk n. only-row i next m .others k (λ e. n refl (ap suc e)) .workers POLLS in
       channels-kept sys small s inv m′ poll-grown t (Beside 0 (suc i)) (search)
 
   poll-view : view sys m′ t ≡ afterPoll 0 (suc i) newest (listed (pollsQueue m′ t i)) (view sys m t)
@@ -62,18 +66,18 @@ module _ (sys : System) (small : Small sys) (s : Machine) (inv : Inv sys s) (i :
       here : heldOf m′ i ≡ some newest
       here =
           cond-false none (some (pollAt m (m′ WORKERS i HELD)))
-          (ne-eqb (m′ WORKERS i HELD) 0 (λ z. omega (arith, newest-held i (m WORKERS i POLLS + 1) m)))
-          ∙ ap (λ (n : ℕ). some (pollAt m n)) (newest-held i (m WORKERS i POLLS + 1) m)
+          (ne-eqb (m′ WORKERS i HELD) 0 (λ z. omega (arith, newest-held i next m)))
+          ∙ ap (λ (n : ℕ). some (pollAt m n)) (newest-held i next m)
 
       there : (j : ℕ) → j < sys .workers → (j ≡ i → ⊥) → heldOf m′ j ≡ heldOf m j
-      there j hj n = held-row m m′ j (only-row i (m WORKERS i POLLS + 1) m .others j n .workers HELD) refl
+      there j hj n = held-row m m′ j (only-row i next m .others j n .workers HELD) refl
 
   -- reading a poll in memory is reading from the controller
   pub poll-refines : Option·map (λ m′. view sys m′ t) (readPollM i (t .timestamp .0) m) ≡ readWorker 0 (suc i) (viewOf sys s)
   unfolding view readPollM readWorker newest
   poll-refines =
       read-queue (readFrom 0 (suc i) (viewOf sys s)) (pollsQueue m t i) (pollsQueue m′ t i) _
-      (polls-kept sys small s inv m′ poll-grown t i) (ap (λ (n : ℕ). n + 1) (last-read i (m WORKERS i POLLS + 1) m)) refl
+      (polls-kept sys small s inv m′ poll-grown t i) (ap (λ (n : ℕ). n + 1) (last-read i next m)) refl
       (λ l.
       ap (Option·map (λ m′. view sys m′ t)) (cond-true (some m′) none (lt-ltb (m WORKERS i POLLS) (t .timestamp .0) (omega arith)))
       ∙ ap some poll-view)

@@ -36,6 +36,7 @@ kept-if false x y = y
 
 -- ---- actions
 
+-- by an action
 abbrev KeptM : Mem → Option Mem → Type 0
 KeptM = StaticKept (λ n. n)
 
@@ -90,6 +91,7 @@ worker-kept sys i d s = search (kept-if, treat-kept, send-kept, answer-kept, pol
 
 -- ---- turns
 
+-- by a turn
 abbrev KeptS : Mem → Option Machine → Type 0
 KeptS = StaticKept (λ s. s .mem)
 

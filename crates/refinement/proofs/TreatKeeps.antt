@@ -99,10 +99,10 @@ module _ (sys : System) (small : Small sys) (s : Machine) (inv : Inv sys s) (i :
         ends =
             everywhere (λ j. n WORKERS j TAIL + m WORKERS j LOGEND ≡ m WORKERS j TAIL + n WORKERS j LOGEND) i
             (omega (arith, both .work .end, both .log .end))
-            (λ j d. omega (arith, other-row sys small s inv i h busy j TAIL d, other-row sys small s inv i h busy j LOGEND d));
+            (λ j d. omega (arith, only-row .others j d .workers TAIL, only-row .others j d .workers LOGEND));
         logged = omega (
           arith,
-          sum-change (sys .workers) (λ j. m WORKERS j LOGEND) (λ j. n WORKERS j LOGEND) i h (λ j k d. sym (other-row sys small s inv i h busy j LOGEND d)),
+          sum-change (sys .workers) (λ j. m WORKERS j LOGEND) (λ j. n WORKERS j LOGEND) i h (λ j k d. sym (only-row .others j d .workers LOGEND)),
           both .log .end,
           size-after,
         );

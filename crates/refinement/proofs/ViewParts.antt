@@ -57,7 +57,7 @@ pub map-unless {ℓ κ} : {A : Type ℓ} {B : Type κ} (f : A → B) (c : Bool) 
 map-unless f true p e = rw p
 map-unless f false p e = rw p (ap some e)
 
--- a number from 1,024 on stands for a list message
+-- a number from the mark on stands for a list message
 pub list-of-number : (m : Mem) (i c n : ℕ) → c ≡ LISTMARK + n → messageOf m i c ≡ list (listAt m i n)
 unfolding messageOf
 list-of-number m i c n e =
