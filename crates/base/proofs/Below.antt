@@ -1,6 +1,6 @@
 -- Laws of the tests and lists below a bound.
 use Prim.Native.Nat.{ℕ, zero, suc, _+_, _*_, _<_, _≤_}
-use mathlib.Core.Bool.{Bool, true, false, _&&_, false≢true}
+use mathlib.Core.Bool.{Bool, true, false, _&&_, _||_, not, false≢true}
 use mathlib.Core.List.{List, [], _∷_, _++_}
 use mathlib.Core.Logic.{_⊎_, ⊎-elim}
 use mathlib.Core.Option.{Option, none, some}
@@ -65,6 +65,15 @@ every-below (suc n) t f = and-intro (every-below n t (λ i h. f i (le-step h))) 
 pub all-ext : (n : ℕ) (t u : ℕ → Bool) → ((i : ℕ) → i < n → t i ≡ u i) → allBelow n t ≡ allBelow n u
 all-ext zero t u h = refl
 all-ext (suc n) t u h = ap₂ _&&_ (all-ext n t u (λ i l. h i (le-step l))) (h n (le-refl (suc n)))
+
+-- all fail where none passes
+pub all-not : (n : ℕ) (t : ℕ → Bool) → allBelow n (λ i. not (t i)) ≡ not (anyBelow n t)
+all-not zero t = refl
+all-not (suc n) t = rw (all-not n t) (both (anyBelow n t) (t n))
+  where
+    both : (a b : Bool) → not a && not b ≡ not (a || b)
+    both true b = refl
+    both false b = refl
 
 -- some index fails
 pub fails-below : (n : ℕ) (t : ℕ → Bool) → allBelow n t ≡ false → (i : ℕ) × (i < n) × (t i ≡ false)

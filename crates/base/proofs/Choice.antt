@@ -108,6 +108,10 @@ module _ {ℓ} {A : Type ℓ} where
   pub some-same : (P : A → Type 0) {a b : A} → some a ≡ some b → P a → P b
   some-same P {a} {b} e p = let same : a ≡ b = cc in subst P same p
 
+  -- a result that there is only where a test holds has what it has there
+  pub if-holds : (P : A → Type 0) (b : Bool) {x a : A} → cond b (some x) none ≡ some a → (b ≡ true → P x) → P a
+  if-holds P b e f = let went = if-some b e in some-same P (went .1) (f (went .0))
+
 -- a number between two bounds
 pub between-intro : (low high x : ℕ) → low ≤ x → x ≤ high → between low high x ≡ true
 between-intro low high x p q = and-intro (le-leb low x p) (le-leb x high q)

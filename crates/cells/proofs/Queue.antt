@@ -124,8 +124,8 @@ unfolding labelsBetween listed
 labels-length m r i from to = length-list-below (to - from) (λ d. labelOf (m r i (from + d)))
 
 -- a cell holds the label that was put into it
-pub label-code : (x v : ℕ) → v < 16 → labelOf (labelNumber x v) ≡ label x v
-label-code x v h =
+pub label-of-number : (x v : ℕ) → v < 16 → labelOf (labelNumber x v) ≡ label x v
+label-of-number x v h =
     let p : labelNumber x v / 16 ≡ x = omega arith in
     let q : labelNumber x v % 16 ≡ v = omega arith in
     λ i. record { variable = p i; value = q i }

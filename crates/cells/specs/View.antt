@@ -29,6 +29,10 @@ labelOf c = label (c / 16) (c % 16)
 abbrev pub LISTED : ℕ
 LISTED = 65535
 
+-- whether a value is in its variable's domain
+abbrev pub inDomain : Mem → ℕ → ℕ → Bool
+inDomain m x v = eqb (m DOMAIN x v) LISTED
+
 -- the mark of a list message among the messages to the controller
 abbrev pub LISTMARK : ℕ
 LISTMARK = 1024
@@ -144,7 +148,7 @@ viewLists sys m t k = cond (eqb k 0) (t .lists .0) (atActor sys (λ i. m WORKERS
 -- the state that the cells and the tally stand for
 unfoldable pub view : System → Mem → Tally → State
 view sys m t = record {
-  domain = λ x v. eqb (m DOMAIN x v) LISTED;
+  domain = inDomain m;
   counter = viewCounter sys m;
   workList = atActor sys (workOf m) [];
   toSend = atActor sys (sendOf m) [];

@@ -3,7 +3,7 @@ use Prim.Native.Nat.{ℕ}
 use mathlib.Core.Path.{_≡_, refl}
 use native.Mathlib.Omega.{arith}
 use Rattle.disac4.specs.System.{System}
-use Rattle.cells.proofs.RegionsKept.{RegionsKept, same, then, either, repeated, stored, fewer}
+use Rattle.cells.proofs.RegionsKept.{RegionsKept, kept-same, kept-then, kept-either, kept-repeated, kept-stored, kept-fewer}
 use Rattle.cells.specs.Layout.{COUNTERS}
 use Rattle.cells.specs.Memory.{Mem}
 use Rattle.cells.specs.View.{counterRow}
@@ -16,26 +16,26 @@ SameElse = RegionsKept (λ r. r ≡ COUNTERS → ⊥)
 
 -- so the index is kept
 pub counters-alone : {m n : Mem} → SameElse m n → IndexKept m n
-counters-alone = fewer (λ r h. omega arith)
+counters-alone = kept-fewer (λ r h. omega arith)
 
 module _ (sys : System) where
   pub pair-else : (x y : ℕ) (m : Mem) → SameElse m (countPairM sys x y m)
   unfolding countPairM
   pair-else x y m =
-      repeated (countValueM sys x y (counterRow m x y)) (λ v o. stored COUNTERS (counterRow m x y) v _ (λ d. d refl) same) _ m
+      kept-repeated (countValueM sys x y (counterRow m x y)) (λ v o. kept-stored COUNTERS (counterRow m x y) v _ (λ d. d refl) kept-same) _ m
 
   pub against-else : (x y : ℕ) (m : Mem) → SameElse m (countAgainstM sys x y m)
   unfolding countAgainstM
-  against-else x y m = either (sys .net .linked x y) (pair-else x y m) same
+  against-else x y m = kept-either (sys .net .linked x y) (pair-else x y m) kept-same
 
   pub both-else : (x y : ℕ) (m : Mem) → SameElse m (countBothM sys x y m)
   unfolding countBothM
-  both-else x y m = then (against-else x y m) (against-else y x (countAgainstM sys x y m))
+  both-else x y m = kept-then (against-else x y m) (against-else y x (countAgainstM sys x y m))
 
   pub variable-else : (x : ℕ) (m : Mem) → SameElse m (countVariableM sys x m)
   unfolding countVariableM
-  variable-else x = repeated (λ y. countBothM sys y x) (λ y. both-else y x) x
+  variable-else x = kept-repeated (λ y. countBothM sys y x) (λ y. both-else y x) x
 
   pub count-else : (m : Mem) → SameElse m (countSupportsM sys m)
   unfolding countSupportsM
-  count-else = repeated (countVariableM sys) variable-else (sys .net .variables)
+  count-else = kept-repeated (countVariableM sys) variable-else (sys .net .variables)

@@ -2,12 +2,22 @@
 use Prim.Native.Nat.{ℕ, _+_}
 use mathlib.Core.Bool.{Bool, true, false, _&&_, false≢true}
 use mathlib.Core.List.{List, [], _∷_, _++_}
-use mathlib.Core.Option.{Option, none, some, Option·getD}
+use mathlib.Core.Option.{Option, none, some, Option·map, Option·getD}
 use mathlib.Core.Path.{_≡_, refl, sym}
 use native.Mathlib.Nat.{add-zero, zero-add, add-assoc}
 use native.Mathlib.Omega.{arith}
 use Rattle.base.specs.Below.{one}
 use Rattle.disac4.specs.Fold.{isSome, afterBy, playBy, gatherBy, countBy}
+
+-- a result seen through a map is there where the result is
+pub some-map {ℓ κ} : {A : Type ℓ} {B : Type κ} (f : A → B) (o : Option A) → isSome (Option·map f o) ≡ isSome o
+some-map f none = refl
+some-map f (some a) = refl
+
+-- and stands in for nothing as the result does
+pub getD-map {ℓ κ} : {A : Type ℓ} {B : Type κ} (f : A → B) (o : Option A) (a : A) → Option·getD (Option·map f o) (f a) ≡ f (Option·getD o a)
+getD-map f none a = refl
+getD-map f (some b) a = refl
 
 module _ {S T : Type 0} (step : S → T → Option S) where
   -- ---- one turn

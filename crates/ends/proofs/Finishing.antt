@@ -11,10 +11,9 @@ use Rattle.disac4.specs.System.{systemAt}
 use Rattle.disac4.specs.Turn.{Turn}
 use Rattle.disac4.specs.declared.Report.{Report}
 use Rattle.refinement.proofs.Behind.{behind-same}
-use Rattle.refinement.proofs.Underway.{under-ready, under-view, under-behind, under-changes, under-sends, under-polls}
+use Rattle.refinement.proofs.Underway.{under-view, under-behind, under-changes, under-sends, under-polls}
 use Rattle.cells.specs.Memory.{Mem, memOf}
-use Rattle.index.specs.Index.{Ready}
-use Rattle.refinement.specs.Run.{At, Going, reportM, Finishes}
+use Rattle.refinement.specs.Run.{At, reportM, Finishes}
 use Rattle.cells.specs.View.{view}
 use Rattle.refinement.specs.declared.Progress.{Progress}
 use Rattle.plan.specs.Decode.{planFault}
@@ -46,10 +45,6 @@ work-of-turns b sound work ts cells g at same few =
     behind-same cells work same few (λ j. under-behind b sound (memOf work) ts cells g at 0 j)
 
 -- ---- for the code that ends a run
-
--- a run that goes on has its plan's index
-pub going-ready : (b cells : List ℕ) (g : Progress) → Going b cells g → Ready b cells
-going-ready b cells g go = under-ready b (go .sound) (go .before) (go .turns) cells g (go .at) (go .long)
 
 pub finishes : (b cells lists : List ℕ) (g : Progress) (cells′ lists′ : List ℕ) (r : Report) → planFault b ≡ none
     → cells′ ≡ overwrite (replicate workNeed 0) cells → r ≡ reportM (systemAt b) (memOf cells) g

@@ -1,5 +1,5 @@
 -- A run that goes on can be played one turn further.
-use Prim.Native.Nat.{ℕ, _+_, _/_, _%_, _<_, _≤_}
+use Prim.Native.Nat.{ℕ, _+_, _/_, _%_, _≤_}
 use mathlib.Core.Bool.{Bool, true, false, cond, _&&_}
 use mathlib.Core.List.{List, [], _∷_}
 use mathlib.Core.Option.{none}
@@ -13,9 +13,9 @@ use Rattle.disac4.specs.System.{systemOf, systemAt}
 use Rattle.disac4.specs.Turn.{Turn, turn}
 use Rattle.engine.proofs.RunLaws.{workers-are, one-and}
 use Rattle.refinement.proofs.Start.{fits-regions}
-use Rattle.refinement.proofs.Underway.{under-inv, under-ready, under-small, at-next}
+use Rattle.refinement.proofs.Underway.{going-inv, going-ready, at-next}
 use Rattle.index.specs.Allowed.{Listed}
-use Rattle.refinement.specs.Inv.{Inv, LabelNumber}
+use Rattle.refinement.specs.Inv.{LabelNumber}
 use Rattle.cells.specs.Acts.{Acts}
 use Rattle.cells.specs.Layout.{WORKERS, HEAD}
 use Rattle.cells.specs.Memory.{memOf}
@@ -29,9 +29,6 @@ use Rattle.format.specs.Format.{workerCount}
 use Rattle.plan.specs.Network.{networkOf}
 
 module _ (b cells : List ℕ) (g : Progress) (go : Going b cells g) where
-  inv : Inv (systemAt b) (machine cells (g .tally))
-  inv = under-inv b (go .sound) (go .before) (go .turns) cells g (go .at)
-
   few : workerCount b ≤ 8
   few = omega (arith, fits-regions b (go .sound) .sound .few, workers-are b)
 
@@ -42,15 +39,11 @@ module _ (b cells : List ℕ) (g : Progress) (go : Going b cells g) where
 
   pub playable : Playable b cells (g .tally)
   playable = record {
-    ready = under-ready b (go .sound) (go .before) (go .turns) cells g (go .at) (go .long);
-    marks = omega (arith, inv .marks, pow-le-pow-right {n = 2} (omega arith) (fits-regions b (go .sound) .sound .few));
+    ready = going-ready b cells g go;
+    marks = omega (arith, going-inv b cells g go .marks, pow-le-pow-right {n = 2} (omega arith) (fits-regions b (go .sound) .sound .few));
     workers = few;
-    labels = λ i h l. number-listed _ (inv .rows i (omega (arith, workers-are b)) .work-labels (memOf cells WORKERS i HEAD) l);
+    labels = λ i h l. number-listed _ (going-inv b cells g go .rows i (omega (arith, workers-are b)) .work-labels (memOf cells WORKERS i HEAD) l);
   }
-
-  -- the counts have room for one turn more
-  pub counts-room : (g .changes < 65536) × (g .sends < 65536) × (g .polls < 65536)
-  counts-room = under-small b (go .sound) (go .before) (go .turns) cells g (go .at)
 
 pub part-of : (c : Bool) (n r : ℕ) → r ≡ cond c n 0 → r ≤ n
 part-of true n r e = omega arith

@@ -2,8 +2,8 @@
 use Prim.Native.Nat.{ℕ, _-_, _<_, _≤_}
 use mathlib.Core.Bool.{Bool, true, false, cond, _&&_}
 use mathlib.Core.List.{List}
-use mathlib.Core.Option.{Option, none, some, Option·getD}
-use mathlib.Core.Path.{_≡_, refl, _∙_, ap}
+use mathlib.Core.Option.{Option, none}
+use mathlib.Core.Path.{_≡_, refl, sym, _∙_, ap}
 use native.Mathlib.Omega.{arith}
 use borrow.Author.Tests.{eq-eqb, ne-eqb}
 use lib.Dec.{eqb}
@@ -11,7 +11,7 @@ use Rattle.base.proofs.Bools.{or-false, not-of-true}
 use Rattle.base.proofs.Choice.{cond-true, cond-false}
 use Rattle.base.specs.Below.{one}
 use Rattle.disac4.proofs.Allowed.{worker-bound, worker-does, controller-does, reads-worker}
-use Rattle.disac4.specs.Fold.{isSome}
+use Rattle.disac4.proofs.Fold.{some-map, getD-map}
 use Rattle.disac4.specs.System.{System, systemOf, systemAt}
 use Rattle.disac4.specs.Turn.{turn, pollAction, allowed}
 use Rattle.disac4.specs.declared.Tally.{Tally}
@@ -63,17 +63,14 @@ pub acts-beside : (f : Machine → Option Mem) (t : Tally) {before after : Mem} 
     → Acts (λ m. f (record { mem = m; tally = t })) before after r
     → Acts (λ s. withMem (s .tally) (f s)) (record { mem = before; tally = t }) (record { mem = after; tally = t }) r
 acts-beside f t {before} {after} a =
-    let o = f (record { mem = before; tally = t }) in
-    record { leaves = left o (a .leaves); count = a .count ∙ ap one (same o) }
+    let o = f (beside before) in
+    record {
+      leaves = ap beside (a .leaves) ∙ sym (getD-map beside o before);
+      count = a .count ∙ ap one (sym (some-map beside o));
+    }
   where
-    left : (o : Option Mem) → after ≡ Option·getD o before
-        → record { mem = after; tally = t } ≡ Option·getD (withMem t o) (record { mem = before; tally = t })
-    left none e = λ i. record { mem = e i; tally = t }
-    left (some m) e = λ i. record { mem = e i; tally = t }
-
-    same : (o : Option Mem) → isSome o ≡ isSome (withMem t o)
-    same none = refl
-    same (some m) = refl
+    beside : Mem → Machine
+    beside m = record { mem = m; tally = t }
 
 module _ (sys : System) (actor action : ℕ) (s : Machine) where
   pub turn-closed : s .tally .closed ≡ true → turnOn sys actor action s ≡ none

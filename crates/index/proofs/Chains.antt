@@ -1,4 +1,4 @@
--- Indexing leaves the plan's index in memory, and which changes keep it there.
+-- Indexing leaves the plan's index in memory, and every other region as it was.
 use Prim.Native.Nat.{ℕ, _<_, _≤_}
 use mathlib.Core.Bool.{Bool, true, false, not}
 use mathlib.Core.List.{List}
@@ -61,13 +61,3 @@ index-keeps b m r apart i j =
   where
     other : (s : ℕ) → HEADS ≤ s → s ≤ FOLLOW → r ≡ s → ⊥
     other s l h e = ⊎-elim (λ (p : r < HEADS). omega arith) (λ (p : FOLLOW < r). omega arith) apart
-
--- the index stays where its regions do
-pub indexed-kept : (b : List ℕ) (m n : Mem) → ((r i j : ℕ) → HEADS ≤ r → n r i j ≡ m r i j) → Indexed b m → Indexed b n
-indexed-kept b m n same x = record {
-  places = λ k l. same PLACES 0 k (omega arith) ∙ x .places k l;
-  heads = λ i j. same HEADS i j (omega arith) ∙ x .heads i j;
-  nexts = λ c l i j o. same NEXT 0 c (omega arith) ∙ x .nexts c l i j o;
-  first = λ i h y l. same FIRST i y (omega arith) ∙ x .first i h y l;
-  follow = λ i h k y l v o. same FOLLOW k y (omega arith) ∙ x .follow i h k y l v o;
-}

@@ -1,16 +1,15 @@
 -- What keeps the plan's index, and the cells behind the needed ones: all regions from HEADS on.
 use Prim.Native.Nat.{ℕ, _+_, _-_, _*_, _≤_}
 use mathlib.Core.List.{List}
-use mathlib.Core.Path.{_≡_, ap}
+use mathlib.Core.Path.{_≡_, _∙_, ap}
 use native.Mathlib.Omega.{arith}
 use lib.Dec.{ltb}
 use lib.ListN.{length}
 use Rattle.base.specs.Below.{one}
-use Rattle.index.proofs.Chains.{indexed-kept}
-use Rattle.index.specs.Index.{Ready}
+use Rattle.index.specs.Index.{Indexed, Ready}
 use Rattle.cells.proofs.Done.{Done}
-use Rattle.cells.proofs.RegionsKept.{RegionsKept, repeated}
-use Rattle.cells.specs.Layout.{HEADS}
+use Rattle.cells.proofs.RegionsKept.{RegionsKept, kept-repeated}
+use Rattle.cells.specs.Layout.{HEADS, PLACES, NEXT, FIRST, FOLLOW}
 use Rattle.cells.specs.Memory.{Mem, memOf}
 use Rattle.cells.specs.View.{counterRow}
 
@@ -18,15 +17,24 @@ use Rattle.cells.specs.View.{counterRow}
 abbrev pub IndexKept : Mem → Mem → Type 0
 IndexKept = RegionsKept (λ r. HEADS ≤ r)
 
+-- where they are, the index stays
+pub indexed-kept : (b : List ℕ) (m n : Mem) → IndexKept m n → Indexed b m → Indexed b n
+indexed-kept b m n same x = record {
+  places = λ k l. same .kept PLACES 0 k (omega arith) ∙ x .places k l;
+  heads = λ i j. same .kept HEADS i j (omega arith) ∙ x .heads i j;
+  nexts = λ c l i j o. same .kept NEXT 0 c (omega arith) ∙ x .nexts c l i j o;
+  first = λ i h y l. same .kept FIRST i y (omega arith) ∙ x .first i h y l;
+  follow = λ i h k y l v o. same .kept FOLLOW k y (omega arith) ∙ x .follow i h k y l v o;
+}
+
 -- cells of the same length whose memory keeps the index are ready too
 pub ready-kept : (b old new : List ℕ) {n : Mem} → Ready b old → length new ≡ length old → memOf new ≡ n
     → IndexKept (memOf old) n → Ready b new
 ready-kept b old new r l e k =
-    let p : IndexKept (memOf old) (memOf new) = rw e k in
     record {
       long = omega (arith, r .long);
       sound = r .sound;
-      index = indexed-kept b (memOf old) (memOf new) (p .static) (r .index);
+      index = indexed-kept b (memOf old) (memOf new) (rw e k) (r .index);
     }
 
 -- the same index gives two variables' counters the same row
@@ -38,4 +46,4 @@ row-heads m n x y e = ap (λ (h : ℕ). 2 * h - 1 + one (ltb y x)) e
 pub ready-done : (b : List ℕ) {f : ℕ → Mem → Mem} {n k : ℕ} {old new : List ℕ} → Ready b old → Done f n old k new
     → ((j : ℕ) (m : Mem) → IndexKept m (f j m)) → Ready b new
 ready-done b {f = f} {k = k} {old = old} {new = new} r d step =
-    ready-kept b old new r (d .size) (d .mem) (repeated f step k (memOf old))
+    ready-kept b old new r (d .size) (d .mem) (kept-repeated f step k (memOf old))

@@ -26,7 +26,7 @@ use Rattle.flags.specs.Flags.{actors, actions, cellCount, cellAt}
 use Rattle.idle.specs.Table.{Puts, enables}
 use Rattle.refinement.proofs.IdleKept.{idle-kept}
 use Rattle.refinement.proofs.Start.{fits-regions}
-use Rattle.refinement.proofs.Underway.{under-inv, at-after}
+use Rattle.refinement.proofs.Underway.{going-inv, going-after}
 use Rattle.refinement.specs.Run.{workerOn, Going, Plays}
 use Rattle.refinement.specs.Step.{withMem, stepM, afterM}
 use Rattle.refinement.specs.declared.Progress.{Progress}
@@ -84,10 +84,7 @@ module _ (b cells cells′ : List ℕ) (g r : Progress) (go : Going b cells g) (
 
   -- what the turn has done
   abbrev done : (machine cells′ (r .tally) ≡ afterM sys s (turn k d)) × (r .changes ≡ g .changes + one (isSome (stepM sys s (turn k d))))
-  unfolding Plays
-  done =
-      at-after b (go .sound) (go .before) (go .turns) cells g (go .at) (turn k d) cells′ r
-      (plays (go .before) (go .turns) (go .at))
+  done = going-after b cells g go (turn k d) cells′ r plays
 
   -- where it changed nothing it is idle, and all that was known is so still
   module _ (same : r .changes ≡ g .changes) where
@@ -119,7 +116,6 @@ module _ (b cells cells′ : List ℕ) (g r : Progress) (go : Going b cells g) (
         (by-test (enables (turn k d) (turn j a)) (sym (p .each j a h m) ∙ q)
         (λ _ z. absurd (omega (arith, z)))
         (λ n z.
-        idle-kept sys (fits-regions b (go .sound)) s
-        (under-inv b (go .sound) (go .before) (go .turns) cells g (go .at))
+        idle-kept sys (fits-regions b (go .sound)) s (going-inv b cells g go)
         (turn k d) (turn j a) n (known .idle j a h m z)));
   }

@@ -8,10 +8,10 @@ use borrow.Author.Tests.{lt-ltb, le-ltb, le-leb, ltb-true, leb-true}
 use Rattle.base.proofs.Bools.{and-left, and-right, and-intro, refuted}
 use Rattle.base.proofs.Choice.{cond-true, cond-false}
 use Rattle.cells.proofs.ListLaws.{copy-none}
-use Rattle.cells.specs.Layout.{WORKERS, CURSORS, BOUNDS, SENDS, LISTS, HELD, POLLS, LABELROOM, SENDROOM, LISTSMAX}
+use Rattle.cells.specs.Layout.{WORKERS, CURSORS, BOUNDS, SENDS, LISTS, POLLS, LABELROOM, SENDROOM, LISTSMAX}
 use Rattle.cells.specs.Lists.{copyM}
 use Rattle.cells.specs.Memory.{Mem, store}
-use Rattle.reads.specs.Reads.{listEnd, takenWith, takenM, hasList, readListM, readPollM}
+use Rattle.reads.specs.Reads.{listEnd, takenWith, takenM, hasList, readListM, heldM, readPollM}
 
 module _ (m m₁ m₂ m₃ : Mem) where
   pub taken : (j i read from to lists : ℕ) → m₁ ≡ copyM j i from (to - from) m → m₂ ≡ store m₁ CURSORS j i (read + 1)
@@ -57,7 +57,6 @@ module _ (i n : ℕ) (m : Mem) {polls : ℕ} (q : polls ≡ m WORKERS i POLLS) w
   unfolding readPollM
   read-no-poll h = rw (← q, le-ltb polls n h)
 
-  pub read-holds : polls < n
-      → readPollM i n m ≡ some (store (store m WORKERS i POLLS (polls + 1)) WORKERS i HELD (polls + 1))
+  pub read-holds : polls < n → readPollM i n m ≡ some (heldM i (polls + 1) m)
   unfolding readPollM
   read-holds h = rw (← q, lt-ltb polls n h)

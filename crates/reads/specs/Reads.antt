@@ -10,10 +10,11 @@ use Rattle.cells.specs.Memory.{Mem, store}
 
 -- ---- row `i` reads from row `j`
 
--- where the next list message of row `j` for row `i` begins and ends in the log
+-- where the next list message of row `j` for row `i` begins in the log
 abbrev pub listStart : ℕ → ℕ → Mem → ℕ
 listStart j i m = m BOUNDS j (m CURSORS j i)
 
+-- and where it ends
 abbrev pub listEnd : ℕ → ℕ → Mem → ℕ
 listEnd j i m = m BOUNDS j (m CURSORS j i + 1)
 
@@ -22,6 +23,7 @@ unfoldable pub takenWith : ℕ → ℕ → ℕ → ℕ → ℕ → ℕ → Mem �
 takenWith j i read from to lists m =
     store (store (copyM j i from (to - from) m) CURSORS j i (read + 1)) WORKERS i LISTS (lists + 1)
 
+-- the next list message is read, from what the cells hold
 unfoldable pub takenM : ℕ → ℕ → Mem → Mem
 unfolding takenWith
 takenM j i m = takenWith j i (m CURSORS j i) (listStart j i m) (listEnd j i m) (m WORKERS i LISTS) m
@@ -34,13 +36,16 @@ hasList j i m =
     && leb (listEnd j i m) LABELROOM
     && ltb (m WORKERS i LISTS) LISTSMAX
 
+-- row `i` takes the next list message of row `j`, if there is one
 unfoldable pub readListM : ℕ → ℕ → Mem → Option Mem
 readListM j i m = cond (hasList j i m) (some (takenM j i m)) none
 
--- ---- row `i` reads from the controller, which has sent `n` polls
+-- ---- row `i` reads from the controller
 
+-- poll `n` is the last that row `i` has read, and the one that it holds
+abbrev pub heldM : ℕ → ℕ → Mem → Mem
+heldM i n m = store (store m WORKERS i POLLS n) WORKERS i HELD n
+
+-- it takes the next of the `n` polls that were sent, if there is one
 unfoldable pub readPollM : ℕ → ℕ → Mem → Option Mem
-readPollM i n m =
-    cond (ltb (m WORKERS i POLLS) n)
-    (some (store (store m WORKERS i POLLS (m WORKERS i POLLS + 1)) WORKERS i HELD (m WORKERS i POLLS + 1)))
-    none
+readPollM i n m = cond (ltb (m WORKERS i POLLS) n) (some (heldM i (m WORKERS i POLLS + 1) m)) none

@@ -17,10 +17,10 @@ ghost use mathlib.Core.Path.{_≡_};
 ghost use Prim.Native.Nat.{_-_, _<_, _≤_};
 ghost use lib.ListN.{length};
 ghost use Rattle.cells.specs.Acts.{Acts};
-ghost use Rattle.cells.specs.Layout.{WORKERS, POLLS, HELD, WORKCELLS, LABELROOM, SENDROOM, LISTSMAX};
+ghost use Rattle.cells.specs.Layout.{WORKCELLS, LABELROOM, SENDROOM, LISTSMAX};
 ghost use Rattle.cells.specs.Lists.{copyM};
-ghost use Rattle.cells.specs.Memory.{memOf, store};
-ghost use Rattle.reads.specs.Reads.{readListM, takenWith, readPollM};
+ghost use Rattle.cells.specs.Memory.{memOf};
+ghost use Rattle.reads.specs.Reads.{readListM, takenWith, heldM, readPollM};
 
 // The labels between two places of row `j`'s log join the end of row `i`'s work list.
 fn copy_between(cells: &mut [u16], j: usize, i: usize, from: usize, to: usize)
@@ -79,7 +79,7 @@ pub fn read_list(cells: &mut [u16], j: usize, i: usize) -> usize
 // The poll of this number is the last that row `i` has read, and the one that it holds.
 fn hold(cells: &mut [u16], i: usize, number: Timestamp)
     requires { ⌜ (WORKCELLS ≤ length (now cells)) × (i < 8) ⌝ }
-    ensures { λ r. ⌜ memOf (now (cells .exit)) ≡ store (store (memOf (now (cells .entry))) WORKERS i POLLS (number .0)) WORKERS i HELD (number .0) ⌝ }
+    ensures { λ r. ⌜ memOf (now (cells .exit)) ≡ heldM i (number .0) (memOf (now (cells .entry))) ⌝ }
 {
     let n = number.0 as usize;
     put(cells, WORKERS, i, POLLS, n);

@@ -1,14 +1,14 @@
 -- Answering keeps the invariant: a worker replies once at each value of its list counter.
 use Prim.Native.Nat.{ℕ, _+_, _-_, _<_, _≤_}
-use mathlib.Core.Bool.{false, and-false}
+use mathlib.Core.Bool.{false}
 use mathlib.Core.Logic.{inl, inr, ⊎-elim}
 use mathlib.Core.Option.{some}
 use mathlib.Core.Path.{_≡_, refl, sym, _∙_, ap}
 use native.Mathlib.Decide.{ℕ-discrete}
 use native.Mathlib.Omega.{arith}
-use borrow.Author.Tests.{lt-leb, ne-eqb}
+use borrow.Author.Tests.{lt-leb}
 use Rattle.base.proofs.Bools.{decided}
-use Rattle.base.proofs.Choice.{if-some, some-same}
+use Rattle.base.proofs.Choice.{if-holds}
 use Rattle.base.specs.Below.{one}
 use Rattle.disac4.specs.System.{System}
 use Rattle.disac4.specs.declared.Tally.{Tally}
@@ -31,11 +31,6 @@ wanted-later m t p n n′ h l b = risen (m WANTED 0) n n′ l (λ k x y. p .rise
 -- ---- what the stores changed
 
 module _ (i : ℕ) (m : Mem) where
-  -- no other worker's row
-  pub other-rows : (k c : ℕ) → (k ≡ i → ⊥) → answeredM i m WORKERS k c ≡ m WORKERS k c
-  unfolding answeredM
-  other-rows k c n = simp (ne-eqb k i n, and-false)
-
   -- no poll is held any more
   pub none-held : answeredM i m WORKERS i HELD ≡ 0
   unfolding answeredM
@@ -47,7 +42,7 @@ module _ (i : ℕ) (m : Mem) where
   put = search (put-out i (m WORKERS i HELD) m)
 
   -- of the rows, only the replying one is changed
-  only-row : OnlyRow m (answeredM i m) i
+  pub only-row : OnlyRow m (answeredM i m) i
   unfolding answeredM
   only-row =
       only-store WORKERS HELD _ (omega arith)
@@ -136,6 +131,5 @@ pub answer-keeps : (sys : System) (m m′ : Mem) (t : Tally) (i : ℕ) → Inv s
     → i < sys .workers → answerM i m ≡ some m′ → Inv sys (record { mem = m′; tally = t })
 unfolding answerM
 answer-keeps sys m m′ t i inv h e =
-    let went = if-some (mayAnswer i m) e in
-    some-same (λ x. Inv sys (record { mem = x; tally = t })) (went .1)
-    (answered-keeps sys m t i inv h (may-answer i m (went .0)))
+    if-holds (λ x. Inv sys (record { mem = x; tally = t })) (mayAnswer i m) e (λ may.
+    answered-keeps sys m t i inv h (may-answer i m may))

@@ -2,7 +2,7 @@
 use Prim.Native.Nat.{ℕ, suc, _<_, _≤_}
 use mathlib.Core.Bool.{Bool, true, false, cond, _&&_, not}
 use mathlib.Core.List.{List, [], _∷_, _++_}
-use mathlib.Core.Option.{none, some}
+use mathlib.Core.Option.{none, some, Option·map}
 use mathlib.Core.Path.{_≡_, refl, sym, _∙_, ap, ap₂}
 use native.Mathlib.Omega.{arith}
 use borrow.Author.Tests.{lt-ltb, le-leb}
@@ -19,13 +19,13 @@ use Rattle.cells.specs.Memory.{Mem}
 use Rattle.answers.specs.Answers.{answeredM, emptyM, mayAnswer, answerM}
 use Rattle.controller.specs.Controller.{Machine}
 use Rattle.cells.specs.View.{messageOf, pollAt, view, listed, workOf, heldOf, outQueue, atActor, rowsOf}
-use Rattle.refinement.proofs.AnswerKeeps.{other-rows, none-held, put}
+use Rattle.refinement.proofs.AnswerKeeps.{only-row, none-held, put}
 use Rattle.refinement.proofs.Actors.{at-worker, counter-worker, actors-update}
 use Rattle.refinement.proofs.Capacity.{sends-few, outend-few, held-few, timestamp-few}
 use Rattle.refinement.proofs.ChannelRows.{at-out, Stays, Beside, channels-update}
 use Rattle.refinement.proofs.ChannelsKept.{Grown, out-kept, channels-kept, held-row}
 use Rattle.refinement.specs.Inv.{Small, Inv}
-use Rattle.refinement.proofs.ViewParts.{mapO, mapO-when, viewOf, view-parts, reply-code, same-state}
+use Rattle.refinement.proofs.ViewParts.{map-when, viewOf, view-parts, reply-of-number, same-state}
 use Rattle.refinement.proofs.SendRefines.{nothing-to-send}
 
 module _ (sys : System) (small : Small sys) (s : Machine) (inv : Inv sys s) (i : ℕ) (h : i < sys .workers) where
@@ -57,7 +57,7 @@ module _ (sys : System) (small : Small sys) (s : Machine) (inv : Inv sys s) (i :
   unfolding answeredM
   other-channels =
       let ends : (j : ℕ) → j < sys .workers → Beside (suc i) 0 (suc j) 0 → m′ WORKERS j OUTEND ≡ m WORKERS j OUTEND =
-      λ j hj n. other-rows i m j OUTEND (λ e. n (ap suc e) refl) in
+      λ j hj n. only-row i m .others j (λ e. n (ap suc e) refl) .workers OUTEND in
       channels-kept sys small s inv m′ answer-grown t (Beside (suc i) 0) (search)
 
   -- the reply is the newest message to the controller
@@ -68,7 +68,7 @@ module _ (sys : System) (small : Small sys) (s : Machine) (inv : Inv sys s) (i :
       (put i m .more)
       ∙ ap (λ (a : Message). listed (outQueue m i) ++ (a ∷ []))
       (ap (messageOf m′ i) (put i m .new)
-      ∙ reply-code m′ i (m WORKERS i HELD) (omega (arith, held-small)))
+      ∙ reply-of-number m′ i (m WORKERS i HELD) (omega (arith, held-small)))
 
   answer-view : view sys m′ t ≡ afterAnswer (suc i) held (view sys m t)
   unfolding view-parts answeredM afterAnswer
@@ -91,7 +91,7 @@ module _ (sys : System) (small : Small sys) (s : Machine) (inv : Inv sys s) (i :
       here = ap (λ (n : ℕ). cond (eqb n 0) none (some (pollAt m n))) (none-held i m)
 
       there : (j : ℕ) → j < sys .workers → (j ≡ i → ⊥) → heldOf m′ j ≡ heldOf m j
-      there j hj n = held-row m m′ j (other-rows i m j HELD n) refl
+      there j hj n = held-row m m′ j (only-row i m .others j n .workers HELD) refl
 
   -- both lists are empty, and the list counter equals the wanted count
   abbrev isReady : Bool
@@ -122,10 +122,10 @@ module _ (sys : System) (small : Small sys) (s : Machine) (inv : Inv sys s) (i :
       bool-ext _ _ (λ e. search (and-left, and-right, and-intro)) (λ e. search (and-left, and-right, and-intro))
 
   -- answering in memory is answering
-  pub answer-refines : mapO (λ m′. view sys m′ t) (answerM i m) ≡ answer (suc i) (viewOf sys s)
+  pub answer-refines : Option·map (λ m′. view sys m′ t) (answerM i m) ≡ answer (suc i) (viewOf sys s)
   unfolding answerM answer
   answer-refines =
-      ap (λ (b : Bool). mapO (λ m′. view sys m′ t) (cond b (some m′) none)) answer-room
+      ap (λ (b : Bool). Option·map (λ m′. view sys m′ t) (cond b (some m′) none)) answer-room
       ∙ go (eqb (m WORKERS i HELD) 0)
       ∙ ap (answerTo (suc i) (viewOf sys s)) (sym holds)
     where
@@ -133,7 +133,7 @@ module _ (sys : System) (small : Small sys) (s : Machine) (inv : Inv sys s) (i :
       holds = unfold view held in at-worker sys (heldOf m) none i h
 
       go : (b : Bool)
-          → mapO (λ m′. view sys m′ t) (cond (not b && isReady) (some m′) none)
+          → Option·map (λ m′. view sys m′ t) (cond (not b && isReady) (some m′) none)
           ≡ answerTo (suc i) (viewOf sys s) (cond b none (some held))
       go true = refl
-      go false = mapO-when (λ m′. view sys m′ t) (sym ready-row) answer-view
+      go false = map-when (λ m′. view sys m′ t) (sym ready-row) answer-view

@@ -22,9 +22,9 @@ unfolding workNeed
 need = refl
 
 -- a cell behind the needed ones
-pub mem-behind : (c : List ℕ) (j : ℕ) → j < 2 ^ 64 → memOf c BEHIND 0 j ≡ getD c (24576 + j) 0
+mem-behind : (c : List ℕ) (j : ℕ) → j < 2 ^ 64 → memOf c BEHIND 0 j ≡ getD c (WORKCELLS + j) 0
 unfolding memOf
-mem-behind c j h = cond-true (getD c (24576 + j) 0) 0 (lt-ltb j (2 ^ 64) h)
+mem-behind c j h = cond-true (getD c (WORKCELLS + j) 0) 0 (lt-ltb j (2 ^ 64) h)
 
 -- two buffers of one length that agree behind the needed cells are equal once the needed cells are cleared
 pub behind-same : (c d : List ℕ) → length c ≡ length d → length c < 2 ^ 64

@@ -5,19 +5,18 @@ use mathlib.Core.Path.{_≡_, sym, _∙_, ap}
 use native.Mathlib.Decide.{ℕ-discrete}
 use native.Mathlib.Nat.{le-refl}
 use native.Mathlib.Omega.{arith}
-use lib.Dec.{leb, eqb}
+use lib.Dec.{leb}
 use Rattle.base.proofs.Bools.{decided}
 use Rattle.base.proofs.Choice.{update-same, update-other, update-each}
 use Rattle.base.proofs.Sums.{sum-change, sum-le, sum-part, sum-beside, count-more}
 use Rattle.base.specs.Below.{sumBelow}
 use Rattle.base.specs.Choice.{update}
 use Rattle.disac4.specs.System.{System}
-use Rattle.cells.specs.Layout.{WORKERS, CURSORS, BOUNDS, OUT, WANTED, DOMAIN, TAIL, LOGEND, SENDS, LISTS, HELD, OUTEND, OUTREAD}
+use Rattle.cells.specs.Layout.{WORKERS, CURSORS, BOUNDS, OUT, WANTED, TAIL, LOGEND, SENDS, LISTS, HELD, OUTEND, OUTREAD, LABELROOM}
 use Rattle.cells.specs.Memory.{Mem}
 use Rattle.controller.specs.Controller.{Machine}
-use Rattle.cells.specs.View.{LISTED, LISTMARK}
-use Rattle.refinement.specs.Inv.{Small, Inv, listsOut}
-use Rattle.network.specs.Network.{domainSize}
+use Rattle.cells.specs.View.{LISTMARK}
+use Rattle.refinement.specs.Inv.{Small, Inv, listsOut, remaining, accounted}
 
 climbs : (f : ℕ → ℕ) (from d : ℕ) → ((n : ℕ) → from ≤ n → n < from + d → f n < f (n + 1)) → f from + d ≤ f (from + d)
 climbs f from zero h = let e : from + 0 ≡ from = omega arith in omega (arith, ap f e)
@@ -31,10 +30,6 @@ risen f n n′ l h =
     let e : n + (n′ - n) ≡ n′ = omega arith in
     omega (arith, ap f e, climbs f n (n′ - n) (λ k p q. h k p (omega arith)))
 
--- the labels not deleted
-abbrev pub remaining : System → Mem → ℕ
-remaining sys m = domainSize (sys .net) (λ x v. eqb (m DOMAIN x v) LISTED)
-
 module _ (sys : System) (small : Small sys) (s : Machine) (inv : Inv sys s) where
   abbrev m : Mem
   m = s .mem
@@ -42,7 +37,7 @@ module _ (sys : System) (small : Small sys) (s : Machine) (inv : Inv sys s) wher
   -- ---- the log and its list messages
 
   -- the log's parts are in order
-  pub bounds-apart : (i : ℕ) → i < sys .workers → (n n′ : ℕ) → n ≤ n′ → n′ ≤ m WORKERS i SENDS
+  bounds-apart : (i : ℕ) → i < sys .workers → (n n′ : ℕ) → n ≤ n′ → n′ ≤ m WORKERS i SENDS
       → m BOUNDS i n + (n′ - n) ≤ m BOUNDS i n′
   bounds-apart i h n n′ l b = risen (m BOUNDS i) n n′ l (λ k p q. inv .rows i h .bounds-rise k (omega arith))
 
@@ -56,13 +51,13 @@ module _ (sys : System) (small : Small sys) (s : Machine) (inv : Inv sys s) wher
   sends-bound i h =
       omega (arith, bounds-apart i h 0 (m WORKERS i SENDS) (omega arith) (le-refl _), inv .rows i h .first-bound)
 
-  logs-room : sumBelow (sys .workers) (λ i. m WORKERS i LOGEND) + remaining sys m ≤ 512
+  logs-room : accounted sys m ≤ LABELROOM
   logs-room = omega (arith, inv .totals .logged, small .few-labels)
 
   sends-logged : (i : ℕ) → i < sys .workers → m WORKERS i SENDS ≤ m WORKERS i LOGEND
   sends-logged i h = omega (arith, sends-bound i h, inv .rows i h .last-bound)
 
-  sends-small : sumBelow (sys .workers) (λ i. m WORKERS i SENDS) ≤ 512
+  sends-small : sumBelow (sys .workers) (λ i. m WORKERS i SENDS) ≤ LABELROOM
   sends-small =
       omega (
         arith,
@@ -71,15 +66,15 @@ module _ (sys : System) (small : Small sys) (s : Machine) (inv : Inv sys s) wher
       )
 
   -- the log has room for every label not deleted
-  pub log-room : (i : ℕ) → i < sys .workers → m WORKERS i LOGEND + remaining sys m ≤ 512
+  pub log-room : (i : ℕ) → i < sys .workers → m WORKERS i LOGEND + remaining sys m ≤ LABELROOM
   log-room i h = omega (arith, logs-room, sum-part (sys .workers) (λ i. m WORKERS i LOGEND) i h)
 
   -- the log fits its row
-  pub logend-small : (i : ℕ) → i < sys .workers → m WORKERS i LOGEND ≤ 512
+  pub logend-small : (i : ℕ) → i < sys .workers → m WORKERS i LOGEND ≤ LABELROOM
   logend-small i h = omega (arith, log-room i h)
 
   -- so do the list messages' bounds
-  pub sends-few : (i : ℕ) → i < sys .workers → m WORKERS i SENDS ≤ 512
+  pub sends-few : (i : ℕ) → i < sys .workers → m WORKERS i SENDS ≤ LABELROOM
   sends-few i h = omega (arith, sends-logged i h, logend-small i h)
 
   -- ---- the work list
@@ -95,7 +90,7 @@ module _ (sys : System) (small : Small sys) (s : Machine) (inv : Inv sys s) wher
   read-logged i k h l = bound-logged k l (m CURSORS k i) (inv .totals .cursor k i l h)
 
   -- the work list has room for every label not deleted
-  pub tail-room : (i : ℕ) → i < sys .workers → m WORKERS i TAIL + remaining sys m ≤ 512
+  pub tail-room : (i : ℕ) → i < sys .workers → m WORKERS i TAIL + remaining sys m ≤ LABELROOM
   tail-room i h =
       omega (
         arith,
@@ -105,13 +100,13 @@ module _ (sys : System) (small : Small sys) (s : Machine) (inv : Inv sys s) wher
       )
 
   -- the work list fits its row
-  pub tail-small : (i : ℕ) → i < sys .workers → m WORKERS i TAIL ≤ 512
+  pub tail-small : (i : ℕ) → i < sys .workers → m WORKERS i TAIL ≤ LABELROOM
   tail-small i h = omega (arith, tail-room i h)
 
   -- and has room for the next list message of another row
   pub list-room : (j i : ℕ) → j < sys .workers → i < sys .workers → (j ≡ i → ⊥)
       → m CURSORS j i < m WORKERS j SENDS
-      → m WORKERS i TAIL + (m BOUNDS j (m CURSORS j i + 1) - m BOUNDS j (m CURSORS j i)) ≤ 512
+      → m WORKERS i TAIL + (m BOUNDS j (m CURSORS j i + 1) - m BOUNDS j (m CURSORS j i)) ≤ LABELROOM
   list-room j i hj hi n l =
       omega (
         arith,
@@ -139,7 +134,7 @@ module _ (sys : System) (small : Small sys) (s : Machine) (inv : Inv sys s) wher
   -- ---- counts of lists
 
   -- a row's list counter
-  pub lists-few : (i : ℕ) → i < sys .workers → m WORKERS i LISTS ≤ 512
+  pub lists-few : (i : ℕ) → i < sys .workers → m WORKERS i LISTS ≤ LABELROOM
   lists-few i h =
       omega (
         arith,
@@ -150,7 +145,7 @@ module _ (sys : System) (small : Small sys) (s : Machine) (inv : Inv sys s) wher
       )
 
   -- the controller's
-  pub heard-few : s .tally .lists .0 ≤ 512
+  pub heard-few : s .tally .lists .0 ≤ LABELROOM
   heard-few =
       omega (
         arith,
@@ -168,14 +163,14 @@ module _ (sys : System) (small : Small sys) (s : Machine) (inv : Inv sys s) wher
           )
 
   -- the messages to the controller fit their row
-  pub outend-few : (i : ℕ) → i < sys .workers → m WORKERS i OUTEND ≤ 513
+  pub outend-few : (i : ℕ) → i < sys .workers → m WORKERS i OUTEND ≤ LABELROOM + 1
   outend-few i h =
       ⊎-elim (λ p. omega (arith, lists-few i h)) (λ r. omega (arith, r .one-more, lists-few i h)) (inv .replied i h)
 
   -- ---- polls
 
   -- wanted counts rise, so there are at most as many polls as lists, and one
-  pub timestamp-few : s .tally .timestamp .0 ≤ 513
+  pub timestamp-few : s .tally .timestamp .0 ≤ LABELROOM + 1
   timestamp-few =
       elim (ℕ-discrete (s .tally .timestamp .0) 0) [
         | yes e ↦ omega arith

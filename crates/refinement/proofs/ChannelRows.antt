@@ -18,7 +18,7 @@ use Rattle.cells.specs.View.{isWorker, Rows, atChannel}
 use Rattle.refinement.proofs.Actors.{worker-row}
 
 -- a channel leads from a worker to another, to the controller or from it, or it is none
-pub by-channel : (sys : System) (P : ℕ → ℕ → Type 0)
+by-channel : (sys : System) (P : ℕ → ℕ → Type 0)
     → ((j i : ℕ) → j < sys .workers → i < sys .workers → (j ≡ i → ⊥) → P (suc j) (suc i))
     → ((j : ℕ) → j < sys .workers → P (suc j) 0)
     → ((i : ℕ) → i < sys .workers → P 0 (suc i))

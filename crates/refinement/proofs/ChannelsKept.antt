@@ -62,7 +62,7 @@ module _ (sys : System) (small : Small sys) (s : Machine) (inv : Inv sys s) (m�
       (λ d p q. grown .logs i h d (omega (arith, bound-logged sys small s inv i h (n + 1) (omega arith))))
 
   -- so does a message to the controller
-  pub message-kept : (i : ℕ) → i < sys .workers → (e : ℕ) → e < m WORKERS i OUTEND
+  message-kept : (i : ℕ) → i < sys .workers → (e : ℕ) → e < m WORKERS i OUTEND
       → messageOf m′ i (m′ OUT i e) ≡ messageOf m i (m OUT i e)
   unfolding messageOf
   message-kept i h e l =

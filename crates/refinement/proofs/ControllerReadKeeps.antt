@@ -8,7 +8,7 @@ use native.Mathlib.Omega.{arith}
 use borrow.Author.Tests.{ltb-true}
 use lib.Dec.{leb, eqb}
 use Rattle.base.proofs.Bools.{decided, and-left}
-use Rattle.base.proofs.Choice.{if-some, some-same}
+use Rattle.base.proofs.Choice.{if-holds}
 use Rattle.base.proofs.Sums.{sum-change}
 use Rattle.base.specs.Below.{sumBelow, one}
 use Rattle.disac4.specs.System.{System}
@@ -134,6 +134,5 @@ pub hear-keeps : (sys : System) (s s′ : Machine) (i : ℕ) → Inv sys s → i
     → Inv sys s′
 unfolding hearM hasOut
 hear-keeps sys s s′ i inv h e =
-    let went = if-some (hasOut i (s .tally) (s .mem)) e in
-    some-same (Inv sys) (went .1)
-    (message-keeps sys (s .mem) (s .tally) i inv h (ltb-true _ _ (and-left _ _ (and-left _ _ (went .0)))))
+    if-holds (Inv sys) (hasOut i (s .tally) (s .mem)) e (λ has.
+    message-keeps sys (s .mem) (s .tally) i inv h (ltb-true _ _ (and-left _ _ (and-left _ _ has))))

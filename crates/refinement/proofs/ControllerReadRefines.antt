@@ -2,7 +2,7 @@
 use Prim.Native.Nat.{ℕ, suc, _+_, _-_, _^_, _<_}
 use mathlib.Core.Bool.{Bool, true, false, cond, _&&_}
 use mathlib.Core.List.{_∷_}
-use mathlib.Core.Option.{none, some}
+use mathlib.Core.Option.{none, some, Option·map}
 use mathlib.Core.Path.{_≡_, refl, sym, _∙_, ap}
 use native.Mathlib.Numerals.{add-one}
 use native.Mathlib.Omega.{arith}
@@ -29,7 +29,7 @@ use Rattle.refinement.proofs.ChannelsKept.{Grown, out-kept, channels-ke
 use Rattle.refinement.proofs.ControllerReadKeeps.{more-read, others}
 use Rattle.refinement.specs.Inv.{Small, Inv}
 use Rattle.controller.proofs.Marks.{mark-small, mark-bit, marks-full}
-use Rattle.refinement.proofs.ViewParts.{mapO, viewOf, view-parts, same-state}
+use Rattle.refinement.proofs.ViewParts.{viewOf, view-parts, same-state}
 
 module _ (sys : System) (small : Small sys) (s : Machine) (inv : Inv sys s) (i : ℕ) (h : i < sys .workers) where
   abbrev m : Mem
@@ -174,14 +174,14 @@ module _ (sys : System) (small : Small sys) (s : Machine) (inv : Inv sys s) (i :
   heard = record { mem = m′; tally = toldT (sys .workers) i oldest t }
 
   -- the controller's read in memory is its read
-  pub hear-refines : mapO (viewOf sys) (hearM sys i s) ≡ readController sys (suc i) (viewOf sys s)
+  pub hear-refines : Option·map (viewOf sys) (hearM sys i s) ≡ readController sys (suc i) (viewOf sys s)
   unfolding view hearM readController outReadM
   hear-refines =
-      ap (λ (b : Bool). mapO (viewOf sys) (cond b (some heard) none)) hear-room
+      ap (λ (b : Bool). Option·map (viewOf sys) (cond b (some heard) none)) hear-room
       ∙ read-queue (controllerFrom sys (suc i) (viewOf sys s)) (outQueue m i) (outQueue m′ i) _
       (out-kept sys small s inv m′ heard-grown i h) (more-read i m) refl
       (λ l.
-      ap (mapO (viewOf sys)) (cond-true (some heard) none (lt-ltb (m WORKERS i OUTREAD) (m WORKERS i OUTEND) l))
+      ap (Option·map (viewOf sys)) (cond-true (some heard) none (lt-ltb (m WORKERS i OUTREAD) (m WORKERS i OUTEND) l))
       ∙ told-view oldest)
-      (λ l. ap (mapO (viewOf sys)) (cond-false (some heard) none (le-ltb (m WORKERS i OUTREAD) (m WORKERS i OUTEND) l)))
+      (λ l. ap (Option·map (viewOf sys)) (cond-false (some heard) none (le-ltb (m WORKERS i OUTREAD) (m WORKERS i OUTEND) l)))
       ∙ ap (controllerFrom sys (suc i) (viewOf sys s)) (sym (at-out sys (rowsOf m t) i h))

@@ -51,7 +51,7 @@ module _ (sys : System) (small : Small sys) (z : Mem) (paired : Paired sys z) (x
   Stands m = SameHeads z m × (m COUNTERS (counterRow z x y) v ≡ supportCount (sys .net) x v y)
 
   heads-after : (m m′ : Mem) → SameElse m m′ → SameHeads z m → SameHeads z m′
-  heads-after m m′ e s a b = e .static HEADS a b (omega arith) ∙ s a b
+  heads-after m m′ e s a b = e .kept HEADS a b (omega arith) ∙ s a b
 
   -- no other two variables' counters disturb it
   others : (x′ y′ : ℕ) → (x′ ≡ x → y′ ≡ y → ⊥) → (m : Mem) → Stands m → Stands (countAgainstM sys x′ y′ m)

@@ -1,7 +1,7 @@
 -- An idle turn in memory stays idle until a turn enables it.
 use Prim.Native.Nat.{_<_}
 use mathlib.Core.Bool.{false, _&&_, _||_}
-use mathlib.Core.Option.{none, map-eq-none-iff}
+use mathlib.Core.Option.{none, map-eq-none-iff, Option·map}
 use mathlib.Core.Path.{_≡_, sym, _∙_, ap}
 use borrow.Author.Tests.{leb-false, eqb-false, lt-ltb, eq-eqb}
 use lib.Dec.{leb, eqb}
@@ -12,7 +12,6 @@ use Rattle.disac4.specs.System.{System}
 use Rattle.disac4.specs.Turn.{Turn, treatAction}
 use Rattle.controller.specs.Controller.{Machine}
 use Rattle.refinement.proofs.Refined.{Refines, refined}
-use Rattle.refinement.proofs.ViewParts.{mapO}
 use Rattle.idle.specs.Table.{enables}
 use Rattle.refinement.specs.Inv.{Small, Inv}
 use Rattle.refinement.specs.Run.{viewOf}
@@ -47,8 +46,8 @@ idle-kept sys small s inv t u apart idle =
     map-eq-none-iff (viewOf sys) (stepM sys s′ u) .0
     (does .turn s′ u (does .keeps s t s′ inv e)
     ∙ idle-still sys (small .sound .few) (viewOf sys s) t u (viewOf sys s′) (another-read t u apart) (another-sender t u apart)
-    (sym (does .turn s t inv) ∙ ap (mapO (viewOf sys)) e)
-    (sym (does .turn s u inv) ∙ ap (mapO (viewOf sys)) idle)))
+    (sym (does .turn s t inv) ∙ ap (Option·map (viewOf sys)) e)
+    (sym (does .turn s u inv) ∙ ap (Option·map (viewOf sys)) idle)))
   where
     does : Refines sys
     does = refined sys small

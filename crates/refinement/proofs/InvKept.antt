@@ -15,8 +15,8 @@ use Rattle.cells.proofs.Stores.{store-other, store-apart}
 use Rattle.cells.specs.Layout.{WORKERS, CURSORS, BOUNDS, LOG, WORK, OUT, WANTED, DOMAIN, HEADS, HEAD, TAIL, LOGEND, SENDS, LISTS, HELD, POLLS, OUTEND, OUTREAD}
 use Rattle.cells.specs.Memory.{Mem, store}
 use Rattle.controller.specs.Controller.{Machine}
-use Rattle.cells.specs.View.{LISTED, LISTMARK}
-use Rattle.refinement.specs.Inv.{LabelNumber, Row, Polled, Replied, OutCounted, Inv, Totals, listsOut}
+use Rattle.cells.specs.View.{LISTED, LISTMARK, inDomain}
+use Rattle.refinement.specs.Inv.{LabelNumber, Row, Polled, Replied, OutCounted, Inv, Totals, listsOut, accounted}
 use Rattle.index.specs.Index.{Paired}
 use Rattle.network.specs.Network.{domainSize}
 
@@ -89,7 +89,7 @@ module _ (m m′ : Mem) where
       l r
 
   -- polls depend on the wanted counts
-  pub polled-kept : (t : Tally) → SameWanted m m′ → Polled m t → Polled m′ t
+  polled-kept : (t : Tally) → SameWanted m m′ → Polled m t → Polled m′ t
   polled-kept t w p = record {
     rises = λ n h l. omega (arith, w n, w (n + 1), p .rises n h l);
     wanted-open = λ e. (p .wanted-open e .0, w (t .timestamp .0) ∙ p .wanted-open e .1);
@@ -139,8 +139,7 @@ module _ (m m′ : Mem) where
   -- the labels in logs and domains depend on where the logs end and on the domains
   pub logged-kept : (sys : System) → ((i : ℕ) → m′ WORKERS i LOGEND ≡ m WORKERS i LOGEND)
       → ((x v : ℕ) → m′ DOMAIN x v ≡ m DOMAIN x v)
-      → sumBelow (sys .workers) (λ i. m′ WORKERS i LOGEND) + domainSize (sys .net) (λ x v. eqb (m′ DOMAIN x v) LISTED)
-      ≡ sumBelow (sys .workers) (λ i. m WORKERS i LOGEND) + domainSize (sys .net) (λ x v. eqb (m DOMAIN x v) LISTED)
+      → accounted sys m′ ≡ accounted sys m
   logged-kept sys ends domain =
       ap₂ _+_ (sum-ext (sys .workers) (λ i. m′ WORKERS i LOGEND) (λ i. m WORKERS i LOGEND) (λ i h. ends i))
       (ap (domainSize (sys .net)) (fun-ext λ x. fun-ext λ v. ap (λ c. eqb c LISTED) (domain x v)))
@@ -163,9 +162,7 @@ pub record SameTotals (sys : System) (m m′ : Mem) : Type 0 where
   pub bounds : (i n : ℕ) → m′ BOUNDS i n ≡ m BOUNDS i n
   pub out : (i e : ℕ) → m′ OUT i e ≡ m OUT i e
   pub ends : (i : ℕ) → m′ WORKERS i TAIL + m WORKERS i LOGEND ≡ m WORKERS i TAIL + m′ WORKERS i LOGEND
-  pub logged :
-      sumBelow (sys .workers) (λ i. m′ WORKERS i LOGEND) + domainSize (sys .net) (λ x v. eqb (m′ DOMAIN x v) LISTED)
-      ≡ sumBelow (sys .workers) (λ i. m WORKERS i LOGEND) + domainSize (sys .net) (λ x v. eqb (m DOMAIN x v) LISTED)
+  pub logged : accounted sys m′ ≡ accounted sys m
 
 -- the totals depend on that and on how many lists the controller has counted
 pub totals-kept : (sys : System) (m m′ : Mem) (t t′ : Tally) → SameTotals sys m m′ → t′ .lists .0 ≡ t .lists .0
@@ -203,7 +200,7 @@ pub record OnlyRow (m m′ : Mem) (i : ℕ) : Type 0 where
   pub others : (k : ℕ) → (k ≡ i → ⊥) → SameRow m m′ k
   pub wanted : SameWanted m m′
   pub heads : SameHeads m m′
-  pub listed : (x v : ℕ) → eqb (m′ DOMAIN x v) LISTED ≡ true → eqb (m DOMAIN x v) LISTED ≡ true
+  pub listed : (x v : ℕ) → inDomain m′ x v ≡ true → inDomain m x v ≡ true
 
 module _ {m m′ : Mem} {i : ℕ} where
   -- a store into row `i` of a region with a row for each worker keeps that

@@ -7,7 +7,7 @@ use mathlib.Core.Path.{_≡_, sym, _∙_, ap, subst}
 use native.Mathlib.Decide.{ℕ-discrete}
 use native.Mathlib.Omega.{arith}
 use lib.Dec.{eqb}
-use Rattle.base.proofs.Choice.{everywhere, if-some, some-same}
+use Rattle.base.proofs.Choice.{everywhere, if-holds}
 use Rattle.base.proofs.Sums.{sum-ext, sum-change}
 use Rattle.base.specs.Below.{sumBelow}
 use Rattle.disac4.specs.System.{System}
@@ -132,7 +132,7 @@ taken-list sys small s inv j i hj hi apart unread =
     let g = longer-copy sys j i (listStart j i m) (listLength j i m) m (list-room sys small s inv j i hj hi apart unread)
     (λ d l. inv .rows j hj .log-labels d (omega (arith, bound-logged sys small s inv j hj (m CURSORS j i + 1) (omega arith)))) in
     subst (λ (c : ℕ). Longer sys WORK TAIL i m (takenM j i m) (labelsBetween m LOG j (listStart j i m) c)) e
-    (record { end = g .end; old = g .old; new = g .new; codes = g .codes })
+    (record { end = g .end; old = g .old; new = g .new; numbers = g .numbers })
 
 -- ---- the parts of the invariant
 
@@ -151,7 +151,7 @@ module _ (sys : System) (m : Mem) (t : Tally) (j i : ℕ) (inv : Inv sys (record
         log-end = omega (arith, column j i m i LOGEND (omega arith) (omega arith));
         log-labels = λ d h. rw (region j i m LOG (omega arith) i d)
             (r .log-labels d (omega (arith, column j i m i LOGEND (omega arith) (omega arith))));
-        work-labels = joined .codes (r .work-labels);
+        work-labels = joined .numbers (r .work-labels);
       })
       (omega arith) r
 
@@ -249,8 +249,7 @@ pub read-list-keeps : (sys : System) → Small sys → (m m′ : Mem) (t : Tally
     → readListM j i m ≡ some m′ → Inv sys (record { mem = m′; tally = t })
 unfolding readListM
 read-list-keeps sys small m m′ t j i inv hj hi apart e =
-    let went = if-some (hasList j i m) e in
-    let unread = has-list j i m (went .0) .unread in
+    if-holds (λ x. Inv sys (record { mem = x; tally = t })) (hasList j i m) e (λ has.
+    let unread = has-list j i m has .unread in
     let s : Machine = record { mem = m; tally = t } in
-    some-same (λ x. Inv sys (record { mem = x; tally = t })) (went .1)
-    (taken-keeps sys m t j i inv hj hi apart unread (taken-list sys small s inv j i hj hi apart unread))
+    taken-keeps sys m t j i inv hj hi apart unread (taken-list sys small s inv j i hj hi apart unread))

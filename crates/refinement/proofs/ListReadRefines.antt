@@ -2,7 +2,7 @@
 use Prim.Native.Nat.{ℕ, suc, _+_, _<_}
 use mathlib.Core.Bool.{cond, _&&_}
 use mathlib.Core.List.{List, [], _++_}
-use mathlib.Core.Option.{none, some}
+use mathlib.Core.Option.{none, some, Option·map}
 use mathlib.Core.Path.{_≡_, refl, sym, _∙_, ap}
 use native.Mathlib.Omega.{arith}
 use lib.Dec.{eqb}
@@ -24,7 +24,7 @@ use Rattle.refinement.proofs.ChannelRows.{at-list-messages, Stays, Besi
 use Rattle.refinement.proofs.ChannelsKept.{Grown, list-messages-kept, channels-kept, send-kept, held-row}
 use Rattle.refinement.specs.Inv.{Small, Inv}
 use Rattle.refinement.proofs.ListReadKeeps.{region, column, other-work, more-lists, new-cursor, old-cursor, taken-list}
-use Rattle.refinement.proofs.ViewParts.{mapO, viewOf, same-state}
+use Rattle.refinement.proofs.ViewParts.{viewOf, same-state}
 
 module _ (sys : System) (small : Small sys) (s : Machine) (inv : Inv sys s) (j i : ℕ) (hj : j < sys .workers)
     (hi : i < sys .workers) (apart : j ≡ i → ⊥) where
@@ -111,11 +111,11 @@ module _ (sys : System) (small : Small sys) (s : Machine) (inv : Inv sys s) (j i
     }
 
   -- reading a list message in memory is reading from a worker
-  pub list-refines : mapO (λ m′. view sys m′ t) (readListM j i m) ≡ readWorker (suc j) (suc i) (viewOf sys s)
+  pub list-refines : Option·map (λ m′. view sys m′ t) (readListM j i m) ≡ readWorker (suc j) (suc i) (viewOf sys s)
   unfolding view readWorker
   list-refines =
       read-queue (readFrom (suc j) (suc i) (viewOf sys s)) (listMessagesQueue m j i) (listMessagesQueue m′ j i) _
       (list-messages-kept sys small s inv m′ taken-grown j i hj) (new-cursor j i m) (steady j SENDS (omega arith))
-      (λ l. ap (mapO (λ m′. view sys m′ t)) (list-goes j i m (read-room l)) ∙ ap some (taken-view l))
-      (λ l. ap (mapO (λ m′. view sys m′ t)) (list-idle j i m (λ has. omega (arith, has .unread))))
+      (λ l. ap (Option·map (λ m′. view sys m′ t)) (list-goes j i m (read-room l)) ∙ ap some (taken-view l))
+      (λ l. ap (Option·map (λ m′. view sys m′ t)) (list-idle j i m (λ has. omega (arith, has .unread))))
       ∙ ap (readFrom (suc j) (suc i) (viewOf sys s)) (sym (at-list-messages sys (rowsOf m t) j i hj hi apart))

@@ -1,19 +1,18 @@
 -- Listing the labels by their counters leaves the counters alone: each label is deleted exactly if it is unsupported.
-use Prim.Native.Nat.{ℕ, zero, suc, _-_, _<_, _≤_}
-use mathlib.Core.Bool.{Bool, true, false, _&&_, _||_, not}
-use mathlib.Core.Path.{_≡_, refl, _∙_, ap}
+use Prim.Native.Nat.{ℕ, _-_, _<_}
+use mathlib.Core.Bool.{Bool, true, false, _&&_, not}
+use mathlib.Core.Path.{_≡_, refl, sym, _∙_, ap}
 use native.Mathlib.Omega.{arith}
 use lib.Dec.{eqb}
-use Rattle.base.proofs.Below.{all-ext}
+use Rattle.base.proofs.Below.{all-ext, all-not}
 use Rattle.base.proofs.Loops.{loop-ext}
 use Rattle.base.proofs.Row.{row-bit}
-use Rattle.base.specs.Below.{anyBelow, allBelow, loop}
+use Rattle.base.specs.Below.{allBelow, loop}
 use Rattle.base.specs.Row.{bit}
 use Rattle.disac4.specs.Loading.{loadedCounter, unsupported}
 use Rattle.disac4.specs.System.{System}
 use Rattle.network.proofs.Loaded.{loaded-intro}
 use Rattle.network.specs.Network.{Network, loaded, supportCount}
-use Rattle.cells.proofs.RegionsKept.{RegionsKept, same, either, repeated, stored, delete-kept}
 use Rattle.cells.specs.Layout.{DOMAIN, COUNTERS, HEADS}
 use Rattle.cells.specs.Memory.{Mem, store}
 use Rattle.cells.specs.View.{LISTED, counterRow}
@@ -21,6 +20,7 @@ use Rattle.counting.proofs.Kept.{count-else}
 use Rattle.counting.specs.Count.{countSupportsM}
 use Rattle.index.proofs.Kept.{row-heads}
 use Rattle.index.specs.Index.{Paired}
+use Rattle.loading.proofs.Kept.{CountersKept, list-variables-kept}
 use Rattle.loading.specs.Load.{suits, suitedRow, listLabelM, listValueM, listValuesM, listVariableM, listM, loadM}
 use Rattle.refinement.proofs.Counting.{counted-at}
 use Rattle.refinement.proofs.DeleteApart.{deleteIf}
@@ -32,19 +32,7 @@ use Rattle.refinement.specs.Inv.{Small}
 all-suit : (net : Network) (x v : ℕ) → loaded net x v ≡ true
     → allBelow (net .variables) (λ y. not (net .linked x y && eqb (supportCount net x v y) 0)) ≡ not (unsupported net x v)
 unfolding unsupported loadedCounter
-all-suit net x v l =
-    rw l (go (net .variables))
-  where
-    both : (a b : Bool) → not a && not b ≡ not (a || b)
-    both true b = refl
-    both false b = refl
-
-    lacks : ℕ → Bool
-    lacks y = net .linked x y && eqb (supportCount net x v y) 0
-
-    go : (n : ℕ) → allBelow n (λ y. not (lacks y)) ≡ not (anyBelow n lacks)
-    go zero = refl
-    go (suc n) = rw (go n) (both (anyBelow n lacks) (lacks n))
+all-suit net x v l = rw l (all-not (net .variables) (λ y. net .linked x y && eqb (supportCount net x v y) 0))
 
 module _ (sys : System) where
   -- each value of `x` has its count against each linked variable
@@ -88,26 +76,20 @@ module _ (sys : System) where
 
   -- ---- all of them
 
-  -- listing leaves the counters and the index alone
-  walk-kept : (n : ℕ) (z : Mem) → RegionsKept (λ r. COUNTERS ≤ r) z (loop n (values (sys .net) (listStep sys)) z)
-  walk-kept = repeated (values (sys .net) (listStep sys)) (λ x. repeated (listStep sys x) (step x) (sys .net .size x))
-    where
-      step : (x v : ℕ) (m : Mem) → RegionsKept (λ r. COUNTERS ≤ r) m (listStep sys x v m)
-      step x v m =
-          let p : RegionsKept (λ r. COUNTERS ≤ r) m (store m DOMAIN x v LISTED) = stored DOMAIN x v LISTED (omega arith) same in
-          either (unsupported (sys .net) x v) (delete-kept (sys .owner x - 1) x v (λ r h. omega arith) p) p
-
   list-walk : (z : Mem) → ((x : ℕ) → Counted x z) → listM sys z ≡ walk (sys .net) (listStep sys) z
   unfolding listM
   list-walk z counted =
-      loop-ext (sys .net .variables) (listVariableM sys) (values (sys .net) (listStep sys)) z
+      sym
+      (loop-ext (sys .net .variables) (values (sys .net) (listStep sys)) (listVariableM sys) z
       (λ x h.
-      let m = loop x (values (sys .net) (listStep sys)) z in
-      variable-walk x h m
+      let m = loop x (listVariableM sys) z in
+      let same : CountersKept z m = list-variables-kept sys x z in
+      sym
+      (variable-walk x h m
       (λ v y k l.
-      ap (λ (a : ℕ). m COUNTERS a v) (row-heads z m x y (walk-kept x z .static HEADS x y (omega arith)))
-      ∙ walk-kept x z .static COUNTERS (counterRow z x y) v (omega arith)
-      ∙ counted x v y k l))
+      ap (λ (a : ℕ). m COUNTERS a v) (row-heads z m x y (same .kept HEADS x y (omega arith)))
+      ∙ same .kept COUNTERS (counterRow z x y) v (omega arith)
+      ∙ counted x v y k l))))
 
   -- loading lists the labels one by one in a memory where all is counted
   pub load-walk : Small sys → (z : Mem) → Paired sys z → loadM sys z ≡ walk (sys .net) (listStep sys) (countSupportsM sys z)
@@ -116,5 +98,5 @@ module _ (sys : System) where
       list-walk (countSupportsM sys z)
       (λ x v y h l.
       ap (λ (a : ℕ). countSupportsM sys z COUNTERS a v)
-      (row-heads z (countSupportsM sys z) x y (count-else sys z .static HEADS x y (omega arith)))
+      (row-heads z (countSupportsM sys z) x y (count-else sys z .kept HEADS x y (omega arith)))
       ∙ counted-at sys small z paired x v y h l)

@@ -17,9 +17,10 @@ use Rattle.cells.specs.Layout.{WORKERS, CURSORS, BOUNDS, HEAD, TAIL, LOGEND, SE
 use Rattle.loading.specs.Load.{loadM}
 use Rattle.cells.specs.Memory.{Mem}
 use Rattle.refinement.specs.Inv.{Small, Row, Totals, Inv, listsOut}
+use Rattle.refinement.specs.Run.{freshTally}
 use Rattle.index.specs.Index.{Paired}
 use Rattle.refinement.proofs.InvKept.{paired-kept}
-use Rattle.refinement.proofs.LoadRefines.{Blank, startTally, loaded-both, loaded-unmoved, column-loaded, domain-loaded, heads-loaded}
+use Rattle.refinement.proofs.LoadRefines.{Blank, loaded-both, loaded-unmoved, column-loaded, domain-loaded, heads-loaded}
 use Rattle.refinement.proofs.Unmoved.{row-longer}
 
 module _ (sys : System) (small : Small sys) (z : Mem) (paired : Paired sys z) (blank : Blank z) where
@@ -27,7 +28,7 @@ module _ (sys : System) (small : Small sys) (z : Mem) (paired : Paired sys z) (b
   n = loadM sys z
 
   -- a row of a blank memory
-  blank-row : (i : ℕ) → Row sys z startTally i
+  blank-row : (i : ℕ) → Row sys z freshTally i
   blank-row i = record {
     queue = omega (arith, blank WORKERS i HEAD (omega arith));
     first-bound = blank BOUNDS i 0 (omega arith);
@@ -59,7 +60,7 @@ module _ (sys : System) (small : Small sys) (z : Mem) (paired : Paired sys z) (b
   no-lists : (i c : ℕ) → c ≡ 0 → listsOut n i c ≡ 0
   no-lists i c e = ap (listsOut n i) e
 
-  totals : Totals sys n startTally
+  totals : Totals sys n freshTally
   unfolding load
   totals = record {
     own-cursor = λ i h. cursor i i;
@@ -95,10 +96,10 @@ module _ (sys : System) (small : Small sys) (z : Mem) (paired : Paired sys z) (b
   }
 
   -- the invariant holds of the loaded memory
-  pub load-starts : Inv sys (record { mem = loadM sys z; tally = startTally })
+  pub load-starts : Inv sys (record { mem = loadM sys z; tally = freshTally })
   load-starts = record {
     rows = λ i h.
-        row-longer sys z n startTally (loaded-unmoved sys small z paired blank) i (loadedDeletions sys (suc i))
+        row-longer sys z n freshTally (loaded-unmoved sys small z paired blank) i (loadedDeletions sys (suc i))
         (loaded-both sys small z paired blank i h)
         (omega (arith, column i HEAD (omega arith)))
         (blank-row i);

@@ -20,14 +20,14 @@ use Rattle.network.proofs.Loaded.{loaded-variable, loaded-value}
 use Rattle.network.proofs.Supports.{support-count}
 use Rattle.network.specs.Network.{Label, label, loaded, labelsWhere, supports, supportCount}
 use Rattle.cells.proofs.Queue.{labels-none, queue-none}
-use Rattle.cells.specs.Layout.{WORKERS, CURSORS, BOUNDS, LOG, WORK, OUT, WANTED, DOMAIN, COUNTERS, HEADS, HEAD, TAIL, LOGEND, SENDS, LISTS, HELD, OUTEND}
+use Rattle.cells.specs.Layout.{WORKERS, CURSORS, BOUNDS, LOG, WORK, OUT, WANTED, DOMAIN, COUNTERS, HEADS, HEAD, TAIL, LOGEND, SENDS, LISTS, HELD, OUTEND, LABELROOM}
 use Rattle.counting.proofs.Kept.{count-else}
 use Rattle.counting.specs.Count.{countSupportsM}
 use Rattle.index.proofs.Kept.{row-heads}
 use Rattle.loading.specs.Load.{loadM}
 use Rattle.cells.specs.Memory.{Mem}
-pub use Rattle.refinement.specs.Run.{freshTally as startTally}
-use Rattle.cells.specs.View.{LISTED, isWorker, labelsBetween, counterRow, viewCounter, viewLists, view, listed, heldOf, listMessagesQueue, outQueue, pollsQueue, atActor, rowsOf, atChannel}
+use Rattle.refinement.specs.Run.{freshTally}
+use Rattle.cells.specs.View.{LISTED, inDomain, isWorker, labelsBetween, counterRow, viewCounter, viewLists, view, listed, heldOf, listMessagesQueue, outQueue, pollsQueue, atActor, rowsOf, atChannel}
 use Rattle.refinement.proofs.Actors.{actors-none, no-marks, row-of}
 use Rattle.refinement.proofs.DeleteApart.{Apart}
 use Rattle.refinement.proofs.LongerLists.{Longer, Both, both-none, both-more}
@@ -39,6 +39,7 @@ use Rattle.refinement.proofs.LabelLoad.{listStep, list-apart, list-show
 use Rattle.refinement.proofs.Labelwise.{unloaded-apart, Shows, walk-apart, walk-shows, walk-both, Local}
 use Rattle.refinement.proofs.Listing.{load-walk}
 use Rattle.refinement.proofs.Unmoved.{Unmoved}
+use Rattle.refinement.proofs.ViewParts.{same-state}
 
 -- the regions before the index are 0
 abbrev pub Blank : Mem → Type 0
@@ -63,7 +64,7 @@ module _ (sys : System) (small : Small sys) (z : Mem) (paired : Paired sys z) (b
   z₁ = countSupportsM sys z
 
   counted-heads : (a b : ℕ) → z₁ HEADS a b ≡ z HEADS a b
-  counted-heads a b = count-else sys z .static HEADS a b (omega arith)
+  counted-heads a b = count-else sys z .kept HEADS a b (omega arith)
 
   paired₁ : Paired sys z₁
   paired₁ = paired-kept z z₁ sys counted-heads paired
@@ -72,15 +73,15 @@ module _ (sys : System) (small : Small sys) (z : Mem) (paired : Paired sys z) (b
   local x v h l = list-apart sys x v
 
   -- beside the counters, what stands apart from all labels is left alone
-  pub loaded-apart : (r a b : ℕ) → (r ≡ COUNTERS → ⊥)
+  loaded-apart : (r a b : ℕ) → (r ≡ COUNTERS → ⊥)
       → ((x v : ℕ) → x < sys .net .variables → v < sys .net .size x → Apart sys z₁ (sys .owner x - 1) x v r a b)
       → loadM sys z r a b ≡ z r a b
   loaded-apart r a b d p =
       walk-apart sys small (listStep sys) (λ x. sys .owner x - 1) local z₁ paired₁ n (load-walk sys small z paired) r a b p
-      ∙ count-else sys z .static r a b d
+      ∙ count-else sys z .kept r a b d
 
   -- each label's own cells
-  pub loaded-shows : (x v : ℕ) → x < sys .net .variables → v < sys .net .size x
+  loaded-shows : (x v : ℕ) → x < sys .net .variables → v < sys .net .size x
       → Shows sys z₁ x v (cond (unsupported (sys .net) x v) 0 LISTED) (supportCount (sys .net) x v) (loadM sys z)
   loaded-shows x v h l =
       let s =
@@ -96,7 +97,7 @@ module _ (sys : System) (small : Small sys) (z : Mem) (paired : Paired sys z) (b
       }
 
   -- a row deletes at most as many labels as were loaded
-  few-deleted : (i : ℕ) → i < sys .workers → length (loadedDeletions sys (suc i)) ≤ 512
+  few-deleted : (i : ℕ) → i < sys .workers → length (loadedDeletions sys (suc i)) ≤ LABELROOM
   few-deleted i h =
       omega (
         arith,
@@ -120,7 +121,7 @@ module _ (sys : System) (small : Small sys) (z : Mem) (paired : Paired sys z) (b
       (omega (arith, put WORKERS TAIL (omega arith), blank WORKERS i TAIL (omega arith), few-deleted i h)))
     where
       put : (r b : ℕ) → (r ≡ COUNTERS → ⊥) → z₁ r i b ≡ z r i b
-      put r b d = count-else sys z .static r i b d
+      put r b d = count-else sys z .kept r i b d
 
   -- what else the view shows stays
   pub loaded-unmoved : Unmoved z (loadM sys z)
@@ -137,14 +138,14 @@ module _ (sys : System) (small : Small sys) (z : Mem) (paired : Paired sys z) (b
 
   -- the labels that are not deleted are in their domains
   pub domain-loaded : (x v : ℕ)
-      → eqb (loadM sys z DOMAIN x v) LISTED ≡ loaded (sys .net) x v && not (unsupported (sys .net) x v)
+      → inDomain (loadM sys z) x v ≡ loaded (sys .net) x v && not (unsupported (sys .net) x v)
   domain-loaded x v = go (loaded (sys .net) x v) refl
     where
       put : (b : Bool) → eqb (cond b 0 LISTED) LISTED ≡ not b
       put true = refl
       put false = refl
 
-      go : (b : Bool) → loaded (sys .net) x v ≡ b → eqb (n DOMAIN x v) LISTED ≡ b && not (unsupported (sys .net) x v)
+      go : (b : Bool) → loaded (sys .net) x v ≡ b → inDomain n x v ≡ b && not (unsupported (sys .net) x v)
       go true e =
           ap (λ (d : ℕ). eqb d LISTED)
           (loaded-shows x v (loaded-variable (sys .net) x v e) (loaded-value (sys .net) x v e) .domain)
@@ -210,7 +211,7 @@ module _ (sys : System) (small : Small sys) (z : Mem) (paired : Paired sys z) (b
   held-loaded =
       actors-none sys (heldOf n) none (λ i. cond-true none _ (eq-eqb (n WORKERS i HELD) 0 (column-loaded i HELD (omega arith))))
 
-  lists-loaded : (k : ℕ) → viewLists sys n startTally k ≡ 0
+  lists-loaded : (k : ℕ) → viewLists sys n freshTally k ≡ 0
   unfolding viewLists
   lists-loaded k =
       cond-same (eqb k 0) _ _ 0 refl
@@ -222,10 +223,10 @@ module _ (sys : System) (small : Small sys) (z : Mem) (paired : Paired sys z) (b
   no-out : (i : ℕ) → listed (outQueue n i) ≡ []
   no-out i = queue-none (outQueue n i) (omega (arith, column-loaded i OUTEND (omega arith)))
 
-  no-polls : (i : ℕ) → listed (pollsQueue n startTally i) ≡ []
-  no-polls i = queue-none (pollsQueue n startTally i) (omega arith)
+  no-polls : (i : ℕ) → listed (pollsQueue n freshTally i) ≡ []
+  no-polls i = queue-none (pollsQueue n freshTally i) (omega arith)
 
-  channel-loaded : (j k : ℕ) → atChannel sys (rowsOf n startTally) j k ≡ []
+  channel-loaded : (j k : ℕ) → atChannel sys (rowsOf n freshTally) j k ≡ []
   channel-loaded j k =
       cond-same (isWorker sys j) _ _ []
       (cond-same (isWorker sys k) _ _ [] (cond-same (eqb j k) _ _ [] refl (no-list-messages (j - 1) (k - 1)))
@@ -233,19 +234,19 @@ module _ (sys : System) (small : Small sys) (z : Mem) (paired : Paired sys z) (b
       (cond-same (eqb j 0 && isWorker sys k) _ _ [] (no-polls (k - 1)) refl)
 
   -- loading in memory is loading
-  pub load-refines : view sys (loadM sys z) startTally ≡ load sys
+  pub load-refines : view sys (loadM sys z) freshTally ≡ load sys
   unfolding view load
-  load-refines = λ ι. record {
-    domain = λ x v. domain-loaded x v ι;
-    counter = λ x v y. counter-loaded x v y ι;
-    workList = λ k. queue-loaded WORK TAIL (λ i. n WORKERS i HEAD)
+  load-refines = same-state _ _ (record {
+    domain = domain-loaded;
+    counter = counter-loaded;
+    workList = queue-loaded WORK TAIL (λ i. n WORKERS i HEAD)
         (λ i. column-loaded i HEAD (omega arith)) (λ i. blank WORKERS i TAIL (omega arith))
-        (λ i h. loaded-both i h .work) k ι;
-    toSend = λ k. queue-loaded LOG LOGEND (λ i. n BOUNDS i (n WORKERS i SENDS))
+        (λ i h. loaded-both i h .work);
+    toSend = queue-loaded LOG LOGEND (λ i. n BOUNDS i (n WORKERS i SENDS))
         (λ i. loaded-unmoved .bounds i (n WORKERS i SENDS) ∙ blank BOUNDS i (n WORKERS i SENDS) (omega arith))
-        (λ i. blank WORKERS i LOGEND (omega arith)) (λ i h. loaded-both i h .log) k ι;
-    held = λ k. held-loaded k ι;
-    listCounter = λ k. lists-loaded k ι;
-    channel = λ j k. channel-loaded j k ι;
-    controller = record { timestamp = 0; pollOpen = false; marked = λ k. no-marks sys k ι; closed = false };
-  }
+        (λ i. blank WORKERS i LOGEND (omega arith)) (λ i h. loaded-both i h .log);
+    held = held-loaded;
+    listCounter = lists-loaded;
+    channel = channel-loaded;
+    controller = λ ι. record { timestamp = 0; pollOpen = false; marked = λ k. no-marks sys k ι; closed = false };
+  })

@@ -9,19 +9,19 @@ use lib.ListN.{length, length-append}
 use Rattle.base.proofs.Loops.{loop-carries}
 use Rattle.disac4.specs.System.{System}
 use Rattle.network.specs.Network.{Label, label}
-use Rattle.cells.proofs.Queue.{labels-same, labels-none, labels-last, labels-length, label-code}
+use Rattle.cells.proofs.Queue.{labels-same, labels-none, labels-last, labels-length, label-of-number}
 use Rattle.cells.proofs.Stores.{store-same, store-other, Beside, push-stores, push-other, copy-other}
-use Rattle.cells.specs.Layout.{WORKERS, LOG, WORK, DOMAIN, TAIL, LOGEND}
+use Rattle.cells.specs.Layout.{WORKERS, LOG, WORK, DOMAIN, TAIL, LOGEND, LABELROOM}
 use Rattle.cells.specs.Lists.{pushM, deleteM, copyLabelM, copyM}
 use Rattle.cells.specs.Memory.{Mem, store}
 use Rattle.cells.specs.View.{labelNumber, labelOf, labelsBetween}
 use Rattle.refinement.specs.Inv.{LabelNumber}
 use Rattle.refinement.proofs.DeleteApart.{deleteIf}
 
--- the code of a loaded label
-pub loaded-code : (sys : System) (x v : ℕ) → v < 16 → x < sys .net .variables → v < sys .net .size x
+-- the number of a loaded label stands for it
+loaded-number : (sys : System) (x v : ℕ) → v < 16 → x < sys .net .variables → v < sys .net .size x
     → LabelNumber sys (labelNumber x v)
-loaded-code sys x v h k l =
+loaded-number sys x v h k l =
     let p : labelNumber x v / 16 ≡ x = omega arith in
     let q : labelNumber x v % 16 ≡ v = omega arith in
     record { variable = omega arith; value = omega (arith, ap (sys .net .size) p) }
@@ -33,11 +33,11 @@ pub record Longer (sys : System) (q col i : ℕ) (m n : Mem) (l : List Label) : 
   pub old : (d : ℕ) → d < m WORKERS i col → n q i d ≡ m q i d
   pub new : (from : ℕ) → from ≤ m WORKERS i col
       → labelsBetween n q i from (n WORKERS i col) ≡ labelsBetween m q i from (m WORKERS i col) ++ l
-  pub codes : ((d : ℕ) → d < m WORKERS i col → LabelNumber sys (m q i d)) → (d : ℕ) → d < n WORKERS i col → LabelNumber sys (n q i d)
+  pub numbers : ((d : ℕ) → d < m WORKERS i col → LabelNumber sys (m q i d)) → (d : ℕ) → d < n WORKERS i col → LabelNumber sys (n q i d)
 
 module _ (sys : System) (q col i : ℕ) where
   -- a row that stays
-  pub longer-none : (m n : Mem) → n WORKERS i col ≡ m WORKERS i col → ((d : ℕ) → n q i d ≡ m q i d)
+  longer-none : (m n : Mem) → n WORKERS i col ≡ m WORKERS i col → ((d : ℕ) → n q i d ≡ m q i d)
       → Longer sys q col i m n []
   longer-none m n e h = record {
     end = omega arith;
@@ -45,11 +45,11 @@ module _ (sys : System) (q col i : ℕ) where
     new = λ from p.
         labels-same m n q i from (m WORKERS i col) refl e (λ d p q. h d)
         ∙ sym (append-nil (labelsBetween m q i from (m WORKERS i col)));
-    codes = λ c d p. subst (LabelNumber sys) (sym (h d)) (c d (omega arith));
+    numbers = λ c d p. subst (LabelNumber sys) (sym (h d)) (c d (omega arith));
   }
 
   -- first by some labels, then by others
-  pub longer-more : (m n o : Mem) (l k : List Label) → Longer sys q col i m n l → Longer sys q col i n o k
+  longer-more : (m n o : Mem) (l k : List Label) → Longer sys q col i m n l → Longer sys q col i n o k
       → Longer sys q col i m o (l ++ k)
   longer-more m n o l k g h = record {
     end = omega (arith, g .end, h .end, length-append l k);
@@ -58,13 +58,13 @@ module _ (sys : System) (q col i : ℕ) where
         h .new from (omega (arith, g .end))
         ∙ ap (λ (a : List Label). a ++ k) (g .new from p)
         ∙ append-assoc (labelsBetween m q i from (m WORKERS i col)) l k;
-    codes = λ c. h .codes (g .codes c);
+    numbers = λ c. h .numbers (g .numbers c);
   }
 
   -- a push
-  pub longer-push : (m : Mem) (c : ℕ) → (q ≡ WORKERS → ⊥) → m WORKERS i col < 512 → LabelNumber sys c
+  longer-push : (m : Mem) (c : ℕ) → (q ≡ WORKERS → ⊥) → m WORKERS i col < LABELROOM → LabelNumber sys c
       → Longer sys q col i m (pushM q col i c m) (labelOf c ∷ [])
-  longer-push m c apart room code = subst (λ n. Longer sys q col i m n (labelOf c ∷ [])) (sym (push-stores q col i c m room)) stored
+  longer-push m c apart room number = subst (λ n. Longer sys q col i m n (labelOf c ∷ [])) (sym (push-stores q col i c m room)) stored
     where
       at : ℕ
       at = m WORKERS i col
@@ -95,19 +95,19 @@ module _ (sys : System) (q col i : ℕ) where
             ap (labelsBetween n q i from) end-at
             ∙ labels-last n q i from at p
             ∙ ap₂ (λ l a. l ++ (labelOf a ∷ [])) (labels-same m n q i from at refl refl (λ d h k. old-at d (λ e. omega arith))) new-at;
-        codes = λ h d p.
+        numbers = λ h d p.
             elim (ℕ-discrete d at) [
-              | yes e ↦ subst (λ (a : ℕ). LabelNumber sys (n q i a)) (sym e) (subst (LabelNumber sys) (sym new-at) code)
+              | yes e ↦ subst (λ (a : ℕ). LabelNumber sys (n q i a)) (sym e) (subst (LabelNumber sys) (sym new-at) number)
               | no e ↦ subst (LabelNumber sys) (sym (old-at d e)) (h d (omega (arith, end-at)))
             ];
       }
 
 -- a copied list message: labels of row `j`'s log join the end of row `i`'s work list
-pub longer-copy : (sys : System) (j i from n : ℕ) (m : Mem) → m WORKERS i TAIL + n ≤ 512
+pub longer-copy : (sys : System) (j i from n : ℕ) (m : Mem) → m WORKERS i TAIL + n ≤ LABELROOM
     → ((d : ℕ) → d < from + n → LabelNumber sys (m LOG j d))
     → Longer sys WORK TAIL i m (copyM j i from n m) (labelsBetween m LOG j from (from + n))
 unfolding copyM
-longer-copy sys j i from n m room codes =
+longer-copy sys j i from n m room numbers =
     loop-carries (λ k o. Longer sys WORK TAIL i m o (copied k)) n (copyLabelM j i from) m step
     (subst (Longer sys WORK TAIL i m m) (sym (labels-none m LOG j from (from + 0) (omega arith)))
     (longer-none sys WORK TAIL i m m refl (λ d. refl)))
@@ -129,7 +129,7 @@ longer-copy sys j i from n m room codes =
         (longer-more sys WORK TAIL i m before (pushM WORK TAIL i next before) (copied k) (labelOf next ∷ []) grown
         (longer-push sys WORK TAIL i before next (λ e. omega arith)
         (omega (arith, grown .end, labels-length m LOG j from (from + k)))
-        (subst (LabelNumber sys) (sym same) (codes (from + k) (omega arith)))))
+        (subst (LabelNumber sys) (sym same) (numbers (from + k) (omega arith)))))
 
 -- ---- a row's log and work list that have grown by the same labels
 
@@ -139,7 +139,7 @@ pub record Both (sys : System) (i : ℕ) (m n : Mem) (l : List Label) : Type 0 w
 
 -- where there is room, they grow by the labels `l`
 abbrev pub Appends : System → ℕ → Mem → Mem → List Label → Type 0
-Appends sys i m n l = m WORKERS i LOGEND + length l ≤ 512 → m WORKERS i TAIL + length l ≤ 512 → Both sys i m n l
+Appends sys i m n l = m WORKERS i LOGEND + length l ≤ LABELROOM → m WORKERS i TAIL + length l ≤ LABELROOM → Both sys i m n l
 
 module _ (sys : System) (i : ℕ) where
   -- lists that stay
@@ -159,14 +159,14 @@ module _ (sys : System) (i : ℕ) where
 
   -- with room, a deleted label joins both
   both-delete : (m : Mem) (x v : ℕ) → x < sys .net .variables → v < sys .net .size x → v < 16
-      → m WORKERS i LOGEND < 512 → m WORKERS i TAIL < 512 → Both sys i m (deleteM i x v m) (label x v ∷ [])
+      → m WORKERS i LOGEND < LABELROOM → m WORKERS i TAIL < LABELROOM → Both sys i m (deleteM i x v m) (label x v ∷ [])
   unfolding deleteM
   both-delete m x v h k l room room′ =
-      subst (λ a. Both sys i m (deleteM i x v m) (a ∷ [])) (label-code x v l)
+      subst (λ a. Both sys i m (deleteM i x v m) (a ∷ [])) (label-of-number x v l)
       (record {
         log = longer-more sys LOG LOGEND i m logged (deleteM i x v m) (labelOf c ∷ []) []
             (longer-more sys LOG LOGEND i m out logged [] (labelOf c ∷ []) (longer-none sys LOG LOGEND i m out refl (λ d. refl))
-            (longer-push sys LOG LOGEND i out c (λ e. omega arith) room code))
+            (longer-push sys LOG LOGEND i out c (λ e. omega arith) room number))
             (longer-none sys LOG LOGEND i logged (deleteM i x v m)
             (worked-other WORKERS LOGEND (omega arith))
             (λ d. worked-other LOG d (omega arith)));
@@ -174,14 +174,14 @@ module _ (sys : System) (i : ℕ) where
             (longer-none sys WORK TAIL i m logged (logged-other WORKERS TAIL (omega arith))
             (λ d. logged-other WORK d (omega arith)))
             (longer-push sys WORK TAIL i logged c (λ e. omega arith)
-            (omega (arith, logged-other WORKERS TAIL (omega arith))) code);
+            (omega (arith, logged-other WORKERS TAIL (omega arith))) number);
       })
     where
       c : ℕ
       c = labelNumber x v
 
-      code : LabelNumber sys c
-      code = loaded-code sys x v l h k
+      number : LabelNumber sys c
+      number = loaded-number sys x v l h k
 
       out : Mem
       out = store m DOMAIN x v 0

@@ -9,7 +9,7 @@ use borrow.Author.Tests.{not-true}
 use lib.Pow.{pow-pos}
 use Rattle.base.proofs.Below.{up-to}
 use Rattle.base.proofs.Bools.{and-left}
-use Rattle.base.proofs.Choice.{if-some, some-same}
+use Rattle.base.proofs.Choice.{if-holds}
 use Rattle.disac4.specs.System.{System}
 use Rattle.disac4.specs.declared.Tally.{Tally}
 use Rattle.cells.proofs.Stores.{store-same, store-other}
@@ -79,5 +79,4 @@ module _ (sys : System) (m : Mem) (t : Tally) (inv : Inv sys (record { mem = m; 
 pub poll-keeps : (sys : System) (s s′ : Machine) → Inv sys s → pollM s ≡ some s′ → Inv sys s′
 unfolding pollM asksT
 poll-keeps sys s s′ inv e =
-    let went = if-some (asksT (s .tally)) e in
-    some-same (Inv sys) (went .1) (asked-keeps sys (s .mem) (s .tally) inv (not-true _ (and-left _ _ (went .0))))
+    if-holds (Inv sys) (asksT (s .tally)) e (λ asks. asked-keeps sys (s .mem) (s .tally) inv (not-true _ (and-left _ _ asks)))

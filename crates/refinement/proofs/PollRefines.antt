@@ -2,7 +2,7 @@
 use Prim.Native.Nat.{ℕ, zero, suc, _+_, _<_, _≤_}
 use mathlib.Core.Bool.{true, not}
 use mathlib.Core.List.{List, [], _∷_, _++_}
-use mathlib.Core.Option.{none}
+use mathlib.Core.Option.{none, Option·map}
 use mathlib.Core.Path.{_≡_, refl, sym, _∙_, ap₂}
 use native.Mathlib.Numerals.{add-one}
 use native.Mathlib.Omega.{arith}
@@ -23,7 +23,7 @@ use Rattle.refinement.proofs.ChannelRows.{at-polls, Stays, channels-bro
 use Rattle.refinement.proofs.ChannelsKept.{Grown, polls-kept, channels-kept, held-row}
 use Rattle.refinement.specs.Inv.{Small, Inv}
 use Rattle.refinement.proofs.PollKeeps.{new-wanted, old-wanted}
-use Rattle.refinement.proofs.ViewParts.{mapO, viewOf, view-parts, same-state, mapO-unless}
+use Rattle.refinement.proofs.ViewParts.{viewOf, view-parts, same-state, map-unless}
 use Rattle.refinement.proofs.Actors.{no-marks, actors-same}
 
 module _ (sys : System) (small : Small sys) (s : Machine) (inv : Inv sys s) where
@@ -97,6 +97,6 @@ module _ (sys : System) (small : Small sys) (s : Machine) (inv : Inv sys s) wher
   ask-room = and-true _ (lt-ltb (t .timestamp .0) POLLROOM (omega (arith, timestamp-few sys small s inv)))
 
   -- polling in memory is polling
-  pub ask-refines : mapO (viewOf sys) (pollM s) ≡ ask sys (viewOf sys s)
+  pub ask-refines : Option·map (viewOf sys) (pollM s) ≡ ask sys (viewOf sys s)
   unfolding pollM view ask
-  ask-refines = mapO-unless (viewOf sys) (t .polling) ask-room asked-view
+  ask-refines = map-unless (viewOf sys) (t .polling) ask-room asked-view

@@ -1,13 +1,12 @@
 -- Sending keeps the invariant: the unsent end of the log becomes one more list message.
 use Prim.Native.Nat.{ℕ, _+_, _<_, _≤_}
-use mathlib.Core.Bool.{and-false}
 use mathlib.Core.Logic.{inl, ⊎-elim}
 use mathlib.Core.Option.{some}
 use mathlib.Core.Path.{_≡_, sym, _∙_, ap}
 use native.Mathlib.Omega.{arith}
-use borrow.Author.Tests.{le-leb, ne-eqb}
+use borrow.Author.Tests.{le-leb}
 use Rattle.base.proofs.Below.{up-to}
-use Rattle.base.proofs.Choice.{everywhere, if-some, some-same}
+use Rattle.base.proofs.Choice.{everywhere, if-holds}
 use Rattle.base.proofs.Sums.{sum-ext}
 use Rattle.base.specs.Below.{sumBelow, one}
 use Rattle.disac4.specs.System.{System}
@@ -25,11 +24,6 @@ use Rattle.refinement.proofs.Outgoing.{Put, put-out, put-lists, put-cou
 -- ---- what the stores changed
 
 module _ (i : ℕ) (m : Mem) where
-  -- no other worker's row
-  pub other-rows : (k c : ℕ) → (k ≡ i → ⊥) → sentM i m WORKERS k c ≡ m WORKERS k c
-  unfolding sentM
-  other-rows k c n = simp (ne-eqb k i n, and-false)
-
   -- no bound but the next
   pub old-bound : (k n : ℕ) → (k ≡ i → n ≡ m WORKERS i SENDS + 1 → ⊥) → sentM i m BOUNDS k n ≡ m BOUNDS k n
   unfolding sentM
@@ -56,7 +50,7 @@ module _ (i : ℕ) (m : Mem) where
   put = search (put-out i (LISTMARK + m WORKERS i SENDS) m)
 
   -- of the rows, only the sender's is changed
-  only-row : OnlyRow m (sentM i m) i
+  pub only-row : OnlyRow m (sentM i m) i
   unfolding sentM
   only-row =
       only-store WORKERS LISTS _ (omega arith)
@@ -99,7 +93,7 @@ module _ (sys : System) (m : Mem) (t : Tally) (i : ℕ) (inv : Inv sys (record {
         own-cursor = u .own-cursor;
         cursor = λ j k p q.
             everywhere (λ j. m CURSORS j k ≤ m WORKERS j SENDS → m CURSORS j k ≤ sentM i m WORKERS j SENDS) i
-            (λ l. omega (arith, more-sends i m)) (λ j n l. omega (arith, other-rows i m j SENDS n)) j (u .cursor j k p q);
+            (λ l. omega (arith, more-sends i m)) (λ j n l. omega (arith, only-row i m .others j n .workers SENDS)) j (u .cursor j k p q);
         pushed = λ k p.
             u .pushed k p
             ∙ ap (λ x. m WORKERS k LOGEND + x)
@@ -112,12 +106,12 @@ module _ (sys : System) (m : Mem) (t : Tally) (i : ℕ) (inv : Inv sys (record {
             (λ k. m WORKERS k LISTS ≡ m WORKERS k SENDS + sumBelow (sys .workers) (λ j. m CURSORS j k)
             → sentM i m WORKERS k LISTS ≡ sentM i m WORKERS k SENDS + sumBelow (sys .workers) (λ j. m CURSORS j k)) i
             (λ e. omega (arith, more-lists i m, more-sends i m))
-            (λ k n e. omega (arith, other-rows i m k LISTS n, other-rows i m k SENDS n)) k (u .counted k p);
+            (λ k n e. omega (arith, only-row i m .others k n .workers LISTS, only-row i m .others k n .workers SENDS)) k (u .counted k p);
         logged = u .logged;
         all-out = λ k p.
             put-counted i (LISTMARK + m WORKERS i SENDS) m (sentM i m) (put i m)
             (omega (arith, more-sends i m, ap one (le-leb LISTMARK (LISTMARK + m WORKERS i SENDS) (omega arith))))
-            (λ k n. other-rows i m k SENDS n) k (u .all-out k p);
+            (λ k n. only-row i m .others k n .workers SENDS) k (u .all-out k p);
         heard =
             u .heard
             ∙ sym
@@ -140,6 +134,5 @@ pub send-keeps : (sys : System) (m m′ : Mem) (t : Tally) (i : ℕ) → Inv sys
     → i < sys .workers → sendM i m ≡ some m′ → Inv sys (record { mem = m′; tally = t })
 unfolding sendM
 send-keeps sys m m′ t i inv h e =
-    let went = if-some (maySend i m) e in
-    some-same (λ x. Inv sys (record { mem = x; tally = t })) (went .1)
-    (sent-keeps sys m t i inv h (may-send i m (went .0) .unsent))
+    if-holds (λ x. Inv sys (record { mem = x; tally = t })) (maySend i m) e (λ may.
+    sent-keeps sys m t i inv h (may-send i m may .unsent))

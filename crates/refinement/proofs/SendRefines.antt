@@ -2,6 +2,7 @@
 use Prim.Native.Nat.{ℕ, zero, suc, _<_, _≤_}
 use mathlib.Core.Bool.{not}
 use mathlib.Core.List.{List, [], _∷_, _++_}
+use mathlib.Core.Option.{Option·map}
 use mathlib.Core.Path.{_≡_, refl, sym, _∙_, ap, ap₂}
 use native.Mathlib.Nat.{le-refl}
 use native.Mathlib.Omega.{arith}
@@ -24,8 +25,8 @@ use Rattle.refinement.proofs.Capacity.{sends-few, outend-few, lists-few
 use Rattle.refinement.proofs.ChannelRows.{at-list-messages, at-out, Stays, channels-broadcast}
 use Rattle.refinement.proofs.ChannelsKept.{Grown, send-kept, list-messages-kept, out-kept, channels-kept}
 use Rattle.refinement.specs.Inv.{Small, Inv}
-use Rattle.refinement.proofs.SendKeeps.{other-rows, old-bound, new-bound, more-sends, more-lists, put}
-use Rattle.refinement.proofs.ViewParts.{mapO, viewOf, view-parts, list-code, same-state, mapO-unless}
+use Rattle.refinement.proofs.SendKeeps.{only-row, old-bound, new-bound, more-sends, more-lists, put}
+use Rattle.refinement.proofs.ViewParts.{viewOf, view-parts, list-of-number, same-state, map-unless}
 
 module _ (sys : System) (small : Small sys) (s : Machine) (inv : Inv sys s) (i : ℕ) (h : i < sys .workers) where
   abbrev m : Mem
@@ -56,7 +57,7 @@ module _ (sys : System) (small : Small sys) (s : Machine) (inv : Inv sys s) (i :
       ∙ sym (at-worker sys (sendOf m) [] i h)
 
   newest-out : messageOf (sentM i m) i (sentM i m OUT i (m WORKERS i OUTEND)) ≡ list (unsent)
-  newest-out = list-code (sentM i m) i _ (m WORKERS i SENDS) (put i m .new) ∙ ap list newest
+  newest-out = list-of-number (sentM i m) i _ (m WORKERS i SENDS) (put i m .new) ∙ ap list newest
 
   -- every other actor is sent it
   sent-to : (k : ℕ) → k ≤ sys .workers → (k ≡ suc i → ⊥)
@@ -81,7 +82,7 @@ module _ (sys : System) (small : Small sys) (s : Machine) (inv : Inv sys s) (i :
   unfolding sentM
   not-sent =
       let ends : (c j : ℕ) → (suc j ≡ suc i → ⊥) → sentM i m WORKERS j c ≡ m WORKERS j c =
-      λ c j n. other-rows i m j c (λ e. n (ap suc e)) in
+      λ c j n. only-row i m .others j (λ e. n (ap suc e)) .workers c in
       channels-kept sys small s inv (sentM i m) sent-grown t (λ j k. j ≡ suc i → ⊥) (search)
 
   sent-view : view sys (sentM i m) t ≡ afterSend sys (suc i) (view sys m t)
@@ -91,9 +92,9 @@ module _ (sys : System) (small : Small sys) (s : Machine) (inv : Inv sys s) (i :
     counter = λ x v y. refl;
     workList = λ k. refl;
     toSend = actors-update sys (sendOf m) (sendOf (sentM i m)) [] i [] h all-sent
-        (λ j hj n. send-kept sys small s inv (sentM i m) sent-grown j hj (other-rows i m j SENDS n) refl);
+        (λ j hj n. send-kept sys small s inv (sentM i m) sent-grown j hj (only-row i m .others j n .workers SENDS) refl);
     held = λ k. refl;
-    listCounter = counters-more sys m (sentM i m) t i h (more-lists i m) (λ j hj. other-rows i m j LISTS);
+    listCounter = counters-more sys m (sentM i m) t i h (more-lists i m) (λ j hj n. only-row i m .others j n .workers LISTS);
     channel = channels-broadcast sys (rowsOf m t) (rowsOf (sentM i m) t) (suc i) (list (unsent)) h
         sent-to not-sent;
     controller = refl;
@@ -120,6 +121,6 @@ module _ (sys : System) (small : Small sys) (s : Machine) (inv : Inv sys s) (i :
       ∙ ap not (sym nothing-to-send)
 
   -- sending in memory is sending
-  pub send-refines : mapO (λ m′. view sys m′ t) (sendM i m) ≡ send sys (suc i) (viewOf sys s)
+  pub send-refines : Option·map (λ m′. view sys m′ t) (sendM i m) ≡ send sys (suc i) (viewOf sys s)
   unfolding sendM view send
-  send-refines = mapO-unless (λ m′. view sys m′ t) (isEmpty unsent) send-room sent-view
+  send-refines = map-unless (λ m′. view sys m′ t) (isEmpty unsent) send-room sent-view

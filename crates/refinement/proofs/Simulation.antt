@@ -3,16 +3,15 @@
 use Prim.Native.Nat.{_+_}
 use mathlib.Core.Bool.{Bool, _&&_}
 use mathlib.Core.List.{List, [], _∷_}
-use mathlib.Core.Option.{Option, none, some, Option·getD}
-use mathlib.Core.Path.{_≡_, refl, _∙_, ap, ap₂}
+use mathlib.Core.Option.{Option, some, Option·map, Option·getD}
+use mathlib.Core.Path.{_≡_, refl, sym, _∙_, ap, ap₂}
 use Rattle.base.specs.Below.{one}
-use Rattle.disac4.proofs.Fold.{after-keeps, play-keeps}
+use Rattle.disac4.proofs.Fold.{some-map, getD-map, after-keeps, play-keeps}
 use Rattle.disac4.specs.Fold.{isSome, afterBy, playBy, gatherBy, countBy}
-use Rattle.refinement.proofs.ViewParts.{mapO}
 
 pub record Simulates {S S′ T : Type 0} (step : S → T → Option S) (step′ : S′ → T → Option S′) (view : S → S′)
     (Inv : S → Type 0) : Type 0 where
-  pub turn : (s : S) (t : T) → Inv s → mapO view (step s t) ≡ step′ (view s) t
+  pub turn : (s : S) (t : T) → Inv s → Option·map view (step s t) ≡ step′ (view s) t
   pub keeps : (s : S) (t : T) (s′ : S) → Inv s → step s t ≡ some s′ → Inv s′
 
 module _ {S S′ T : Type 0} {step : S → T → Option S} {step′ : S′ → T → Option S′} {view : S → S′} {Inv : S → Type 0}
@@ -21,18 +20,10 @@ module _ {S S′ T : Type 0} {step : S → T → Option S} {step′ : S′ → T
 
   after-view : (s : S) (t : T) → Inv s → view (afterBy step s t) ≡ afterBy step′ (view s) t
   unfolding afterBy
-  after-view s t inv = go (step s t) ∙ ap (λ (o : Option S′). Option·getD o (view s)) (sim .turn s t inv)
-    where
-      go : (o : Option S) → view (Option·getD o s) ≡ Option·getD (mapO view o) (view s)
-      go none = refl
-      go (some s′) = refl
+  after-view s t inv = sym (getD-map view (step s t) s) ∙ ap (λ (o : Option S′). Option·getD o (view s)) (sim .turn s t inv)
 
   changed-alike : (s : S) (t : T) → Inv s → isSome (step s t) ≡ isSome (step′ (view s) t)
-  changed-alike s t inv = go (step s t) ∙ ap isSome (sim .turn s t inv)
-    where
-      go : (o : Option S) → isSome o ≡ isSome (mapO view o)
-      go none = refl
-      go (some s′) = refl
+  changed-alike s t inv = sym (some-map view (step s t)) ∙ ap isSome (sim .turn s t inv)
 
   turn-keeps : (s : S) (t : T) → Inv s → Inv (afterBy step s t)
   turn-keeps s t inv = after-keeps step Inv s t inv (λ s′ e. sim .keeps s t s′ inv e)

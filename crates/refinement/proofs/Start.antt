@@ -1,5 +1,5 @@
 -- A run begins as document 01's loading leaves the plan, whatever the cells held.
-use Prim.Native.Nat.{ℕ, _<_, _≤_}
+use Prim.Native.Nat.{ℕ, _<_}
 use mathlib.Core.List.{List}
 use mathlib.Core.Logic.{inl, inr}
 use mathlib.Core.Option.{none}
@@ -10,7 +10,8 @@ use Rattle.base.proofs.Choice.{cond-true}
 use Rattle.disac4.proofs.Demands.{plan-sound}
 use Rattle.disac4.specs.Loading.{load}
 use Rattle.disac4.specs.System.{systemOf, systemAt}
-use Rattle.index.proofs.Chains.{indexed, index-keeps, indexed-kept}
+use Rattle.index.proofs.Chains.{indexed, index-keeps}
+use Rattle.index.proofs.Kept.{indexed-kept}
 use Rattle.refinement.proofs.LoadKeeps.{load-starts}
 use Rattle.index.proofs.Pairing.{paired}
 use Rattle.refinement.proofs.LoadRefines.{Blank, load-refines}
@@ -65,18 +66,14 @@ module _ (b : List ℕ) (sound : planFault b ≡ none) where
     unfolding startM
     start-view = load-refines (systemAt b) fits-regions ground (paired b sound ground ground-indexed) blank
 
-    -- loading leaves the index alone, and the cells behind
-    load-static : (r i j : ℕ) → HEADS ≤ r → loadM (systemAt b) ground r i j ≡ ground r i j
-    load-static = load-kept (systemAt b) ground .static
-
     -- the loaded memory holds the plan's index
     pub start-indexed : Indexed b (startM b m .mem)
     unfolding startM
     start-indexed =
-        indexed-kept b ground (loadM (systemAt b) ground) load-static ground-indexed
+        indexed-kept b ground (loadM (systemAt b) ground) (load-kept (systemAt b) ground) ground-indexed
 
     -- and the cells behind as they were
     pub start-behind : (i j : ℕ) → startM b m .mem BEHIND i j ≡ m BEHIND i j
     unfolding startM clearedM
     start-behind i j =
-        load-static BEHIND i j (omega arith) ∙ index-keeps b (clearedM m) BEHIND (inr (omega arith)) i j
+        load-kept (systemAt b) ground .kept BEHIND i j (omega arith) ∙ index-keeps b (clearedM m) BEHIND (inr (omega arith)) i j

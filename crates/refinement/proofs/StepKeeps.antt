@@ -1,19 +1,19 @@
 -- Every turn keeps the invariant: what holds of each action, put together.
 use Prim.Native.Nat.{ℕ, suc, _-_, _<_}
 use mathlib.Core.Bool.{true, _||_, not}
-use mathlib.Core.Option.{Option, none, some}
-use mathlib.Core.Path.{_≡_, refl}
+use mathlib.Core.Option.{some, map-eq-some-iff}
+use mathlib.Core.Path.{_≡_, subst}
 use native.Mathlib.Omega.{arith}
 use borrow.Author.Tests.{eqb-false, not-false}
 use lib.Dec.{eqb}
 use Rattle.base.proofs.Bools.{or-false-right}
-use Rattle.base.proofs.Choice.{by-test, none≢some, unless-some, some-same}
+use Rattle.base.proofs.Choice.{by-test, unless-some}
 use Rattle.disac4.proofs.Allowed.{reads-other, reads-worker, worker-does, controller-does}
 use Rattle.disac4.specs.System.{System}
 use Rattle.disac4.specs.Turn.{Turn, treatAction, sendAction, answerAction, pollAction, workerMay, allowed}
 use Rattle.cells.specs.Memory.{Mem}
 use Rattle.controller.specs.Controller.{Machine}
-use Rattle.refinement.specs.Step.{withMem, readM, workerM, stepM}
+use Rattle.refinement.specs.Step.{readM, workerM, stepM}
 use Rattle.refinement.proofs.AnswerKeeps.{answer-keeps}
 use Rattle.refinement.proofs.ControllerReadKeeps.{hear-keeps}
 use Rattle.refinement.specs.Inv.{Small, Inv}
@@ -38,12 +38,6 @@ module _ (sys : System) (small : Small sys) (s : Machine) (inv : Inv sys s) wher
       let some-row : 0 < d = omega (arith, eqb-false d 0 n₄) in
       read-list-keeps sys small (s .mem) m′ (s .tally) (d - 1) i inv (omega arith) h (λ q. other .1 (omega arith)) e₄))))
 
-  -- beside the same tally
-  beside : (o : Option Mem) (s′ : Machine) → withMem (s .tally) o ≡ some s′
-      → ((m′ : Mem) → o ≡ some m′ → Inv sys (record { mem = m′; tally = s .tally })) → Inv sys s′
-  beside none s′ e f = none≢some e
-  beside (some m′) s′ e f = some-same (Inv sys) e (f m′ refl)
-
   -- every turn keeps the invariant
   pub step-keeps : (t : Turn) (s′ : Machine) → stepM sys s t ≡ some s′ → Inv sys s′
   unfolding stepM
@@ -60,5 +54,7 @@ module _ (sys : System) (small : Small sys) (s : Machine) (inv : Inv sys s) wher
       (λ c e₂.
       let may = worker-does (sys .workers) t ok c in
       let some-row : suc (t .actor - 1) ≡ t .actor = omega (arith, eqb-false (t .actor) 0 c) in
-      beside (workerM sys (t .actor - 1) (t .action) s) s′ e₂ (λ m′.
-      worker-keeps (t .actor - 1) (t .action) m′ (omega (arith, may .0)) (rw some-row (may .1))))
+      let left =
+      map-eq-some-iff (λ (m′ : Mem). record { mem = m′; tally = s .tally }) (workerM sys (t .actor - 1) (t .action) s) .0 e₂ in
+      subst (Inv sys) (left .2)
+      (worker-keeps (t .actor - 1) (t .action) (left .0) (omega (arith, may .0)) (rw some-row (may .1)) (left .1)))

@@ -1,7 +1,7 @@
 -- A turn in memory is a turn: the actions' equations put together.
 use Prim.Native.Nat.{ℕ, zero, suc, _-_, _<_, _≤_}
 use mathlib.Core.Bool.{true, cond, _||_, not}
-use mathlib.Core.Option.{Option, none, some}
+use mathlib.Core.Option.{none, Option·map, map-map}
 use mathlib.Core.Path.{_≡_, refl, _∙_, ap}
 use native.Mathlib.Omega.{arith}
 use borrow.Author.Tests.{eqb-false, ne-eqb, not-false}
@@ -24,7 +24,7 @@ use Rattle.refinement.proofs.ControllerReadRefines.{hear-refines}
 use Rattle.refinement.specs.Inv.{Small, Inv}
 use Rattle.refinement.proofs.PollReadRefines.{poll-refines}
 use Rattle.refinement.proofs.TreatRefines.{treat-refines}
-use Rattle.refinement.proofs.ViewParts.{mapO, viewOf, mapO-cond}
+use Rattle.refinement.proofs.ViewParts.{viewOf, map-cond}
 use Rattle.refinement.proofs.SendRefines.{send-refines}
 use Rattle.refinement.proofs.ListReadRefines.{list-refines}
 
@@ -35,18 +35,14 @@ module _ (sys : System) (small : Small sys) (s : Machine) (inv : Inv sys s) wher
   abbrev seen : Mem → State
   seen m′ = view sys m′ (s .tally)
 
-  with-tally : (o : Option Mem) → mapO (viewOf sys) (withMem (s .tally) o) ≡ mapO seen o
-  with-tally none = refl
-  with-tally (some m′) = refl
-
   -- a worker reads
   read-refines : (i d : ℕ) → i < sys .workers → d ≤ sys .workers → (d ≡ suc i → ⊥)
-      → mapO seen (readM d i s) ≡ readWorker d (suc i) st
+      → Option·map seen (readM d i s) ≡ readWorker d (suc i) st
   unfolding readM
   read-refines i zero h l n = poll-refines sys small s inv i h
   read-refines i (suc j) h l n =
       let e : suc j - 1 ≡ j = omega arith in
-      ap (mapO seen)
+      ap (Option·map seen)
       (cond-false (readPollM i (s .tally .timestamp .0) (s .mem)) (readListM (suc j - 1) i (s .mem))
       (ne-eqb (suc j) 0 (λ z. omega arith))
       ∙ ap (λ (k : ℕ). readListM k i (s .mem)) e)
@@ -54,55 +50,55 @@ module _ (sys : System) (small : Small sys) (s : Machine) (inv : Inv sys s) wher
 
   -- the controller acts
   controller-refines : (d : ℕ) → controllerMay (sys .workers) d ≡ true
-      → mapO (viewOf sys) (cond (eqb d pollAction) (pollM s) (hearM sys (d - 1) s)) ≡ controllerStep sys d st
+      → Option·map (viewOf sys) (cond (eqb d pollAction) (pollM s) (hearM sys (d - 1) s)) ≡ controllerStep sys d st
   unfolding controllerStep
   controller-refines d may =
-      mapO-cond (viewOf sys) (eqb d pollAction) _ _ _ _ (λ p. ask-refines sys small s inv)
+      map-cond (viewOf sys) (eqb d pollAction) _ _ _ _ (λ p. ask-refines sys small s inv)
       (λ p.
       let from = reads-worker (sys .workers) d may p in
       heard (from .0) (from .1))
     where
-      heard : 0 < d → d ≤ sys .workers → mapO (viewOf sys) (hearM sys (d - 1) s) ≡ readController sys d st
+      heard : 0 < d → d ≤ sys .workers → Option·map (viewOf sys) (hearM sys (d - 1) s) ≡ readController sys d st
       heard low high =
           let e : suc (d - 1) ≡ d = omega arith in
           hear-refines sys small s inv (d - 1) (omega arith) ∙ ap (λ (k : ℕ). readController sys k st) e
 
   -- a worker acts
   worker-refines : (i d : ℕ) → i < sys .workers → workerMay (sys .workers) (suc i) d ≡ true
-      → mapO seen (workerM sys i d s) ≡ workerStep sys (suc i) d st
+      → Option·map seen (workerM sys i d s) ≡ workerStep sys (suc i) d st
   unfolding workerM workerStep
   worker-refines i d h may =
-      mapO-cond seen (eqb d treatAction) _ _ _ _ (λ p. treat-refines sys small s inv i h)
-      (λ p. mapO-cond seen (eqb d sendAction) _ _ _ _ (λ q. send-refines sys small s inv i h)
-      (λ q. mapO-cond seen (eqb d answerAction) _ _ _ _ (λ r. answer-refines sys small s inv i h)
+      map-cond seen (eqb d treatAction) _ _ _ _ (λ p. treat-refines sys small s inv i h)
+      (λ p. map-cond seen (eqb d sendAction) _ _ _ _ (λ q. send-refines sys small s inv i h)
+      (λ q. map-cond seen (eqb d answerAction) _ _ _ _ (λ r. answer-refines sys small s inv i h)
       (λ r.
       let other = reads-other (sys .workers) (suc i) d may p q r in
       read-refines i d h (other .0) (other .1))))
 
   -- a worker takes its turn
   turn-refines : (k d : ℕ) → (k ≡ 0 → ⊥) → k ≤ sys .workers → workerMay (sys .workers) k d ≡ true
-      → mapO (viewOf sys) (withMem (s .tally) (workerM sys (k - 1) d s)) ≡ workerStep sys k d st
+      → Option·map (viewOf sys) (withMem (s .tally) (workerM sys (k - 1) d s)) ≡ workerStep sys k d st
   turn-refines k d n l may =
       let e : suc (k - 1) ≡ k = omega arith in
-      with-tally (workerM sys (k - 1) d s)
+      map-map (viewOf sys) (λ (m′ : Mem). record { mem = m′; tally = s .tally }) (workerM sys (k - 1) d s)
       ∙ worker-refines (k - 1) d (omega arith) (rw e may)
       ∙ ap (λ (a : ℕ). workerStep sys a d st) e
 
   -- a turn in memory is a turn
-  pub step-refines : (u : Turn) → mapO (viewOf sys) (stepM sys s u) ≡ step sys st u
+  pub step-refines : (u : Turn) → Option·map (viewOf sys) (stepM sys s u) ≡ step sys st u
   unfolding stepM step view
   step-refines u =
-      mapO-cond (viewOf sys) (s .tally .closed || not (allowed (sys .workers) u)) none _ none _ (λ p. refl)
+      map-cond (viewOf sys) (s .tally .closed || not (allowed (sys .workers) u)) none _ none _ (λ p. refl)
       (λ p. acts (not-false (allowed (sys .workers) u) (or-false-right (s .tally .closed) (not (allowed (sys .workers) u)) p)))
     where
       acts : allowed (sys .workers) u ≡ true
-          → mapO (viewOf sys)
+          → Option·map (viewOf sys)
           (cond (eqb (u .actor) 0)
           (cond (eqb (u .action) pollAction) (pollM s) (hearM sys (u .action - 1) s))
           (withMem (s .tally) (workerM sys (u .actor - 1) (u .action) s)))
           ≡ cond (eqb (u .actor) 0) (controllerStep sys (u .action) st) (workerStep sys (u .actor) (u .action) st)
       acts ok =
-          mapO-cond (viewOf sys) (eqb (u .actor) 0) _ _ _ _
+          map-cond (viewOf sys) (eqb (u .actor) 0) _ _ _ _
           (λ z. controller-refines (u .action) (controller-does (sys .workers) u ok z))
           (λ z.
           let may = worker-does (sys .workers) u ok z in

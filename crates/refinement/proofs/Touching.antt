@@ -22,7 +22,7 @@ use Rattle.cells.specs.Layout.{DOMAIN, COUNTERS}
 use Rattle.cells.specs.Memory.{Mem, store}
 use Rattle.index.proofs.Kept.{row-heads}
 use Rattle.treating.specs.Treat.{loseM, touchM, touchVariableM, touchVariablesM}
-use Rattle.cells.specs.View.{LISTED, counterRow, viewCounter, view}
+use Rattle.cells.specs.View.{LISTED, inDomain, counterRow, viewCounter, view}
 use Rattle.refinement.proofs.DeleteApart.{Apart, deleteIf, delete-if-apart}
 use Rattle.refinement.proofs.LongerLists.{both-none, Appends, appends-if}
 use Rattle.refinement.specs.Inv.{Small}
@@ -70,7 +70,7 @@ module _ (sys : System) (i y w : ℕ) where
     touch-loses : (x v : ℕ) (m : Mem) → touchLabelM x v m ≡ cond (losesIn m x v) (loseM i x v y m) m
     unfolding touchM loses view supports
     touch-loses x v m =
-        go (eqb (sys .owner x) (suc i)) (eqb (m DOMAIN x v) LISTED) (sys .net .linked x y) (sys .net .allows x v y w)
+        go (eqb (sys .owner x) (suc i)) (inDomain m x v) (sys .net .linked x y) (sys .net .allows x v y w)
         (loseM i x v y m)
       where
         go : (a b c d : Bool) (n : Mem) → cond a (cond c (cond b (cond d n m) m) m) m ≡ cond (a && b && (c && d)) n m

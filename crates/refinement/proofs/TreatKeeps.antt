@@ -6,10 +6,9 @@ use mathlib.Core.Logic.{inl, ⊎-elim}
 use mathlib.Core.Option.{some}
 use mathlib.Core.Path.{_≡_, refl, sym, _∙_, ap, fun-ext}
 use native.Mathlib.Omega.{arith}
-use lib.Dec.{eqb}
 use lib.ListN.{length}
 use Rattle.base.proofs.Bools.{and-left}
-use Rattle.base.proofs.Choice.{everywhere, if-some, some-same}
+use Rattle.base.proofs.Choice.{everywhere, if-holds}
 use Rattle.base.proofs.Sums.{sum-change}
 use Rattle.disac4.proofs.DomainSize.{treat-size}
 use Rattle.disac4.specs.Action.{deletes, deletions}
@@ -17,15 +16,15 @@ use Rattle.disac4.specs.State.{State}
 use Rattle.disac4.specs.System.{System}
 use Rattle.disac4.specs.declared.Tally.{Tally}
 use Rattle.network.specs.Network.{Label, domainSize}
-use Rattle.cells.specs.Layout.{WORKERS, LOG, WORK, DOMAIN, HEAD, TAIL, LOGEND, SENDS, LISTS, OUTEND, OUTREAD}
+use Rattle.cells.specs.Layout.{WORKERS, LOG, WORK, HEAD, TAIL, LOGEND, SENDS, LISTS, OUTEND, OUTREAD}
 use Rattle.cells.specs.Memory.{Mem, store}
 use Rattle.controller.specs.Controller.{Machine}
 use Rattle.treating.proofs.TreatLaws.{has-work}
 use Rattle.treating.specs.Treat.{hasWork, treatM}
-use Rattle.cells.specs.View.{LISTED, labelOf, view}
+use Rattle.cells.specs.View.{inDomain, labelOf, view}
 use Rattle.refinement.proofs.InvKept.{OnlyRow, worker-action, totals-kept}
 use Rattle.refinement.proofs.LongerLists.{Both, both-none, both-more}
-use Rattle.refinement.specs.Inv.{Small, Inv, OutCounted, Row, Totals}
+use Rattle.refinement.specs.Inv.{Small, Inv, OutCounted, Row, Totals, remaining}
 use Rattle.refinement.proofs.TreatRefines.{treatedM, treated-apart, treated-both, treated-unmoved, head-after, other-row, domain-after, heads-after}
 use Rattle.refinement.proofs.Unmoved.{Unmoved, row-longer}
 
@@ -57,14 +56,11 @@ module _ (sys : System) (small : Small sys) (s : Machine) (inv : Inv sys s) (i :
       taken : Mem
       taken = store m WORKERS i HEAD (m WORKERS i HEAD + 1)
 
-  others : (j c : ℕ) → (j ≡ i → ⊥) → n WORKERS j c ≡ m WORKERS j c
-  others = other-row sys small s inv i h busy
-
   only-row : OnlyRow m n i
   unfolding view
   only-row = record {
     others = λ j d. record {
-      workers = λ c. others j c d;
+      workers = λ c. other-row sys small s inv i h busy j c d;
       bounds = u .bounds j;
       log = λ c. treated-apart sys small s inv i h busy LOG j c (λ x v k l. omega arith);
       work = λ c. treated-apart sys small s inv i h busy WORK j c (λ x v k l. omega arith);
@@ -73,7 +69,7 @@ module _ (sys : System) (small : Small sys) (s : Machine) (inv : Inv sys s) (i :
     wanted = u .wanted 0;
     heads = heads-after sys small s inv i h busy;
     listed = λ x v e.
-        and-left (eqb (m DOMAIN x v) LISTED)
+        and-left (inDomain m x v)
         (not (deletes sys (suc i) (labelOf (m WORK i (m WORKERS i HEAD))) st x v))
         (sym (domain-after sys small s inv i h busy x v) ∙ e);
   }
@@ -82,8 +78,7 @@ module _ (sys : System) (small : Small sys) (s : Machine) (inv : Inv sys s) (i :
   row =
       row-longer sys m n t u i deleted both (omega (arith, head-after sys small s inv i h busy, both .work .end)) (inv .rows i h)
 
-  size-after : domainSize (sys .net) (λ x v. eqb (n DOMAIN x v) LISTED) + length deleted
-      ≡ domainSize (sys .net) (λ x v. eqb (m DOMAIN x v) LISTED)
+  size-after : remaining sys n + length deleted ≡ remaining sys m
   unfolding view
   size-after =
       ap (λ d. domainSize (sys .net) d + length deleted)
@@ -104,10 +99,10 @@ module _ (sys : System) (small : Small sys) (s : Machine) (inv : Inv sys s) (i :
         ends =
             everywhere (λ j. n WORKERS j TAIL + m WORKERS j LOGEND ≡ m WORKERS j TAIL + n WORKERS j LOGEND) i
             (omega (arith, both .work .end, both .log .end))
-            (λ j d. omega (arith, others j TAIL d, others j LOGEND d));
+            (λ j d. omega (arith, only-row .others j d .workers TAIL, only-row .others j d .workers LOGEND));
         logged = omega (
           arith,
-          sum-change (sys .workers) (λ j. m WORKERS j LOGEND) (λ j. n WORKERS j LOGEND) i h (λ j k d. sym (others j LOGEND d)),
+          sum-change (sys .workers) (λ j. m WORKERS j LOGEND) (λ j. n WORKERS j LOGEND) i h (λ j k d. sym (only-row .others j d .workers LOGEND)),
           both .log .end,
           size-after,
         );
@@ -128,6 +123,5 @@ pub treat-keeps : (sys : System) → Small sys → (s : Machine) → Inv sys s �
     → treatM sys i (s .mem) ≡ some m′ → Inv sys (record { mem = m′; tally = s .tally })
 unfolding treatM
 treat-keeps sys small s inv i h m′ e =
-    let went = if-some (hasWork i (s .mem)) e in
-    some-same (λ n. Inv sys (record { mem = n; tally = s .tally })) (went .1)
-    (inv-after sys small s inv i h (has-work i (s .mem) (went .0) .untreated))
+    if-holds (λ n. Inv sys (record { mem = n; tally = s .tally })) (hasWork i (s .mem)) e (λ has.
+    inv-after sys small s inv i h (has-work i (s .mem) has .untreated))

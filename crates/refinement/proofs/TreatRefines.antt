@@ -20,13 +20,13 @@ use Rattle.network.proofs.Loaded.{loaded-variable, loaded-value}
 use Rattle.network.specs.Network.{Label, label, loaded, labelsWhere, domainSize}
 use Rattle.cells.proofs.Queue.{labels-same, read-queue, labelQueue}
 use Rattle.cells.proofs.Stores.{store-same, store-other}
-use Rattle.cells.specs.Layout.{WORKERS, CURSORS, BOUNDS, LOG, WORK, OUT, WANTED, DOMAIN, COUNTERS, HEADS, HEAD, TAIL, LOGEND, SENDS}
+use Rattle.cells.specs.Layout.{WORKERS, CURSORS, BOUNDS, LOG, WORK, OUT, WANTED, DOMAIN, COUNTERS, HEADS, HEAD, TAIL, LOGEND, SENDS, LABELROOM}
 use Rattle.cells.specs.Memory.{Mem, store}
 use Rattle.controller.specs.Controller.{Machine}
 use Rattle.index.proofs.Kept.{row-heads}
 use Rattle.treating.proofs.TreatLaws.{treat-goes, treat-idle}
 use Rattle.treating.specs.Treat.{touchVariablesM, treatM}
-use Rattle.cells.specs.View.{LISTED, labelOf, labelsBetween, counterRow, viewCounter, view, workOf, sendOf}
+use Rattle.cells.specs.View.{LISTED, inDomain, labelOf, labelsBetween, counterRow, viewCounter, view, workOf, sendOf}
 use Rattle.refinement.proofs.Actors.{at-worker, actors-update}
 use Rattle.refinement.proofs.Capacity.{log-room, tail-room, tail-small}
 use Rattle.refinement.proofs.InvKept.{paired-kept}
@@ -37,6 +37,7 @@ use Rattle.index.specs.Index.{Paired}
 use Rattle.refinement.proofs.Labelwise.{unloaded-apart, Shows, walk-apart, walk-shows, walk-both, Local}
 use Rattle.refinement.proofs.Touching.{touchLabelM, touch-walk, touch-apart, touch-shows, touch-both}
 use Rattle.refinement.proofs.Unmoved.{Unmoved, held-kept, lists-kept, channel-kept, same-bound}
+use Rattle.refinement.proofs.ViewParts.{same-state}
 use Rattle.refinement.proofs.Walking.{walk}
 
 module _ (sys : System) (small : Small sys) (s : Machine) (inv : Inv sys s) (i : ℕ) (h : i < sys .workers)
@@ -85,7 +86,7 @@ module _ (sys : System) (small : Small sys) (s : Machine) (inv : Inv sys s) (i :
   treated-apart = walk-apart sys small step (λ x. i) local taken paired treatedM walked
 
   -- each label's own cells
-  pub treated-shows : (x v : ℕ) → x < sys .net .variables → v < sys .net .size x
+  treated-shows : (x v : ℕ) → x < sys .net .variables → v < sys .net .size x
       → Shows sys taken x v (cond (deletes sys (suc i) a st x v) 0 (m DOMAIN x v)) (lowered sys (suc i) a st x v) treatedM
   unfolding step deletes lowered loses view viewCounter counterRow
   treated-shows x v k l =
@@ -96,8 +97,8 @@ module _ (sys : System) (small : Small sys) (s : Machine) (inv : Inv sys s) (i :
   deleted-size : length (deletions sys (suc i) a st) ≤ domainSize (sys .net) (st .domain)
   deleted-size = omega (arith, treat-size sys (suc i) a st)
 
-  room : (col : ℕ) → m WORKERS i col + domainSize (sys .net) (st .domain) ≤ 512
-      → m WORKERS i col + length (deletions sys (suc i) a st) ≤ 512
+  room : (col : ℕ) → m WORKERS i col + domainSize (sys .net) (st .domain) ≤ LABELROOM
+      → m WORKERS i col + length (deletions sys (suc i) a st) ≤ LABELROOM
   room col k = omega (arith, deleted-size)
 
   -- the deleted labels stand on both lists of the row
@@ -131,7 +132,7 @@ module _ (sys : System) (small : Small sys) (s : Machine) (inv : Inv sys s) (i :
   -- ---- the view, field by field
 
   -- the deleted labels are out of their domains
-  pub domain-after : (x v : ℕ) → eqb (treatedM DOMAIN x v) LISTED ≡ st .domain x v && not (deletes sys (suc i) a st x v)
+  pub domain-after : (x v : ℕ) → inDomain treatedM x v ≡ st .domain x v && not (deletes sys (suc i) a st x v)
   unfolding view
   domain-after x v = go (loaded (sys .net) x v) refl
     where
@@ -140,13 +141,13 @@ module _ (sys : System) (small : Small sys) (s : Machine) (inv : Inv sys s) (i :
       kept false d = sym (and-true (eqb d LISTED) refl)
 
       go : (b : Bool) → loaded (sys .net) x v ≡ b
-          → eqb (treatedM DOMAIN x v) LISTED ≡ eqb (m DOMAIN x v) LISTED && not (deletes sys (suc i) a st x v)
+          → inDomain treatedM x v ≡ inDomain m x v && not (deletes sys (suc i) a st x v)
       go true e =
           ap (λ (d : ℕ). eqb d LISTED)
           (treated-shows x v (loaded-variable (sys .net) x v e) (loaded-value (sys .net) x v e) .domain)
           ∙ kept (deletes sys (suc i) a st x v) (m DOMAIN x v)
       go false e =
-          let out : eqb (m DOMAIN x v) LISTED ≡ false = refuted (eqb (m DOMAIN x v) LISTED) (λ p. clash (inv .listed x v p) e) in
+          let out : inDomain m x v ≡ false = refuted (inDomain m x v) (λ p. clash (inv .listed x v p) e) in
           ap (λ (d : ℕ). eqb d LISTED)
           (treated-apart DOMAIN x v (unloaded-apart sys taken i x v e))
           ∙ out
@@ -221,21 +222,21 @@ module _ (sys : System) (small : Small sys) (s : Machine) (inv : Inv sys s) (i :
       (λ d p q. treated-apart LOG j d (λ x v k l. omega arith)))
 
   -- the state that the memory stands for is the one after the treatment
-  pub treated-view : view sys treatedM t ≡ afterTreat sys (suc i) a rest st
+  treated-view : view sys treatedM t ≡ afterTreat sys (suc i) a rest st
   unfolding view afterTreat
-  treated-view = λ z. record {
-    domain = λ x v. domain-after x v z;
-    counter = λ x v y. counter-after x v y z;
-    workList = λ k. work-after k z;
-    toSend = λ k. send-after k z;
-    held = λ k. held-kept sys m treatedM t treated-unmoved k z;
-    listCounter = λ k. lists-kept sys m treatedM t treated-unmoved k z;
-    channel = λ j k. channel-kept sys small s inv treatedM treated-unmoved j k z;
-    controller = st .controller;
-  }
+  treated-view = same-state _ _ (record {
+    domain = domain-after;
+    counter = counter-after;
+    workList = work-after;
+    toSend = send-after;
+    held = held-kept sys m treatedM t treated-unmoved;
+    listCounter = lists-kept sys m treatedM t treated-unmoved;
+    channel = channel-kept sys small s inv treatedM treated-unmoved;
+    controller = refl;
+  })
 
   -- the turn is not idle
-  pub treat-busy : treatM sys i (s .mem) ≡ some treatedM
+  treat-busy : treatM sys i (s .mem) ≡ some treatedM
   treat-busy =
       treat-goes sys i m refl refl (record { untreated = busy; head-room = omega (arith, tail-small sys small s inv i h) })
 

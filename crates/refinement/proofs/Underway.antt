@@ -1,5 +1,5 @@
 -- What holds of a run that has played some turns, and one turn more.
-use Prim.Native.Nat.{ℕ, _+_, _<_, _≤_}
+use Prim.Native.Nat.{ℕ, _+_, _<_}
 use mathlib.Core.Bool.{Bool, true, _&&_}
 use mathlib.Core.List.{List, [], _∷_, _++_, append-assoc, append-nil}
 use mathlib.Core.Option.{none}
@@ -15,14 +15,14 @@ use Rattle.disac4.specs.Report.{isSend, isPoll, final}
 use Rattle.disac4.specs.State.{State}
 use Rattle.disac4.specs.System.{System, systemAt}
 use Rattle.disac4.specs.Turn.{Turn, play, changesWhere}
-use Rattle.index.proofs.Chains.{indexed-kept}
+use Rattle.index.proofs.Kept.{IndexKept, indexed-kept}
 use Rattle.refinement.proofs.Refined.{Refines, refined}
 use Rattle.refinement.proofs.Simulation.{run-view, run-keeps, run-counts}
 use Rattle.refinement.proofs.Start.{fits-regions, start-inv, start-view, start-indexed, start-behind}
 use Rattle.refinement.proofs.Static.{play-static}
 use Rattle.index.specs.Index.{Ready}
 use Rattle.refinement.specs.Inv.{Inv}
-use Rattle.cells.specs.Layout.{HEADS, BEHIND}
+use Rattle.cells.specs.Layout.{BEHIND}
 use Rattle.cells.specs.Memory.{Mem, memOf}
 use Rattle.refinement.specs.Run.{viewOf, changesWhereM, startM, At, Going, Plays}
 use Rattle.controller.specs.Controller.{Machine, machine}
@@ -39,10 +39,6 @@ module _ (b : List ℕ) (sound : planFault b ≡ none) where
   refines = refined sys (fits-regions b sound)
 
   module _ (m : Mem) (ts : List Turn) (cells : List ℕ) (g : Progress) (at : At b m ts cells g) where
-    -- the invariant holds
-    pub under-inv : Inv sys (machine cells (g .tally))
-    under-inv = subst (Inv sys) (sym (at .stands)) (run-keeps refines ts (startM b m) (start-inv b sound m))
-
     -- the cells stand for the state after the turns
     pub under-view : viewOf sys (machine cells (g .tally)) ≡ final sys ts
     unfolding final
@@ -52,21 +48,13 @@ module _ (b : List ℕ) (sound : planFault b ≡ none) where
         ∙ ap (λ (st : State). play sys st ts) (start-view b sound m)
 
     -- nothing of the index or behind it has changed
-    same-since : (r i j : ℕ) → HEADS ≤ r → memOf cells r i j ≡ startM b m .mem r i j
-    same-since r i j h =
-        ap (λ (s : Machine). s .mem r i j) (at .stands) ∙ play-static r i j h sys ts (startM b m)
-
-    pub under-ready : 24576 ≤ length cells → Ready b cells
-    under-ready long = record {
-      sound = sound;
-      index =
-          indexed-kept b (startM b m .mem) (memOf cells) same-since (start-indexed b sound m);
-      long = long;
-    }
+    same-since : IndexKept (startM b m .mem) (memOf cells)
+    same-since =
+        subst (λ (s : Machine). IndexKept (startM b m .mem) (s .mem)) (sym (at .stands)) (play-static sys ts (startM b m))
 
     -- the cells behind are as they were
     pub under-behind : (i j : ℕ) → memOf cells BEHIND i j ≡ m BEHIND i j
-    under-behind i j = same-since BEHIND i j (omega arith) ∙ start-behind b sound m i j
+    under-behind i j = same-since .kept BEHIND i j (omega arith) ∙ start-behind b sound m i j
 
     -- the counts are those of document 01's turns
     counted : (test : Turn → Bool) → changesWhereM sys test (startM b m) ts ≡ changesWhere sys test (load sys) ts
@@ -82,15 +70,6 @@ module _ (b : List ℕ) (sound : planFault b ≡ none) where
 
     pub under-polls : g .polls ≡ changesWhere sys isPoll (load sys) ts
     under-polls = at .polls ∙ counted isPoll
-
-    -- and far below what a number can hold
-    pub under-small : (g .changes < 65536) × (g .sends < 65536) × (g .polls < 65536)
-    under-small =
-        let f = run-fits b (planOf b) (decoded b sound) ts in (
-          omega (arith, under-changes, f .turns, f .bound),
-          omega (arith, under-sends, f .sends),
-          omega (arith, under-polls, f .polls),
-        )
 
     -- what one turn more adds to a count
     more : (test : Turn → Bool) (t : Turn)
@@ -112,14 +91,55 @@ module _ (b : List ℕ) (sound : planFault b ≡ none) where
       polls = omega (arith, at .polls, more isPoll t);
     }
 
-    -- and what one turn more has done
-    pub at-after : (t : Turn) (cells′ : List ℕ) (g′ : Progress) → At b m (ts ++ (t ∷ [])) cells′ g′
-        → (machine cells′ (g′ .tally) ≡ afterM sys (machine cells (g .tally)) t)
-        × (g′ .changes ≡ g .changes + one (isSome (stepM sys (machine cells (g .tally)) t)))
-    at-after t cells′ g′ later = (
-      later .stands ∙ play-next (stepM sys) ts t (startM b m) ∙ ap (λ (s : Machine). afterM sys s t) (sym (at .stands)),
-      omega (arith, later .changes, at .changes, more (λ t. true) t),
-    )
+-- ---- a run that goes on
+
+module _ (b cells : List ℕ) (g : Progress) (go : Going b cells g) where
+  -- the invariant holds
+  pub going-inv : Inv (systemAt b) (machine cells (g .tally))
+  going-inv =
+      subst (Inv (systemAt b)) (sym (go .at .stands))
+      (run-keeps (refines b (go .sound)) (go .turns) (startM b (go .before)) (start-inv b (go .sound) (go .before)))
+
+  -- the cells stand for the state after its turns
+  pub going-view : viewOf (systemAt b) (machine cells (g .tally)) ≡ final (systemAt b) (go .turns)
+  going-view = under-view b (go .sound) (go .before) (go .turns) cells g (go .at)
+
+  -- they hold the plan's index
+  pub going-ready : Ready b cells
+  going-ready = record {
+    sound = go .sound;
+    index =
+        indexed-kept b (startM b (go .before) .mem) (memOf cells)
+        (same-since b (go .sound) (go .before) (go .turns) cells g (go .at)) (start-indexed b (go .sound) (go .before));
+    long = go .long;
+  }
+
+  -- the counts have room for one turn more
+  pub going-small : (g .changes < 65536) × (g .sends < 65536) × (g .polls < 65536)
+  going-small =
+      let f = run-fits b (planOf b) (decoded b (go .sound)) (go .turns) in (
+        omega (arith, under-changes b (go .sound) (go .before) (go .turns) cells g (go .at), f .turns, f .bound),
+        omega (arith, under-sends b (go .sound) (go .before) (go .turns) cells g (go .at), f .sends),
+        omega (arith, under-polls b (go .sound) (go .before) (go .turns) cells g (go .at), f .polls),
+      )
+
+  -- what one turn more has done
+  pub going-after : (t : Turn) (cells′ : List ℕ) (g′ : Progress) → Plays b (t ∷ []) cells g cells′ g′
+      → (machine cells′ (g′ .tally) ≡ afterM (systemAt b) (machine cells (g .tally)) t)
+      × (g′ .changes ≡ g .changes + one (isSome (stepM (systemAt b) (machine cells (g .tally)) t)))
+  unfolding Plays
+  going-after t cells′ g′ plays =
+      let later : At b (go .before) (go .turns ++ (t ∷ [])) cells′ g′ = plays (go .before) (go .turns) (go .at) in (
+        later .stands
+            ∙ play-next (stepM (systemAt b)) (go .turns) t (startM b (go .before))
+            ∙ ap (λ (s : Machine). afterM (systemAt b) s t) (sym (go .at .stands)),
+        omega (
+          arith,
+          later .changes,
+          go .at .changes,
+          more b (go .sound) (go .before) (go .turns) cells g (go .at) (λ t. true) t,
+        ),
+      )
 
 -- ---- lists of turns, one after the other
 

@@ -60,8 +60,8 @@ module _ (sys : System) (m n : Mem) (t : Tally) (u : Unmoved m n) where
         out = u .out i;
         queue = queue;
         log-end = omega (arith, both .log .end);
-        log-labels = both .log .codes (row .log-labels);
-        work-labels = both .work .codes (row .work-labels);
+        log-labels = both .log .numbers (row .log-labels);
+        work-labels = both .work .numbers (row .work-labels);
       })
       (omega arith) row
 

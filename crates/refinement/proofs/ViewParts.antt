@@ -1,8 +1,7 @@
 -- A machine as the state that it stands for, and a state by its parts.
 use Prim.Native.Nat.{ℕ, _+_, _-_, _<_}
 use mathlib.Core.Bool.{Bool, true, false, cond, not}
-use mathlib.Core.Option.{Option, none, some}
-pub use mathlib.Core.Option.{Option·map as mapO}
+use mathlib.Core.Option.{Option, none, some, Option·map}
 use mathlib.Core.Path.{_≡_, refl, _∙_, ap, fun-ext}
 use native.Mathlib.Omega.{arith}
 use borrow.Author.Tests.{le-leb, lt-leb}
@@ -42,31 +41,31 @@ same-state s s′ e = λ i. record {
 }
 
 -- a choice between two results, part by part
-pub mapO-cond {ℓ κ} : {A : Type ℓ} {B : Type κ} (f : A → B) (b : Bool) (x y : Option A) (x′ y′ : Option B)
-    → (b ≡ true → mapO f x ≡ x′) → (b ≡ false → mapO f y ≡ y′) → mapO f (cond b x y) ≡ cond b x′ y′
-mapO-cond f true x y x′ y′ p q = p refl
-mapO-cond f false x y x′ y′ p q = q refl
+pub map-cond {ℓ κ} : {A : Type ℓ} {B : Type κ} (f : A → B) (b : Bool) (x y : Option A) (x′ y′ : Option B)
+    → (b ≡ true → Option·map f x ≡ x′) → (b ≡ false → Option·map f y ≡ y′) → Option·map f (cond b x y) ≡ cond b x′ y′
+map-cond f true x y x′ y′ p q = p refl
+map-cond f false x y x′ y′ p q = q refl
 
 -- an action in memory, by its test and its result: those of an action that goes where a test holds
-pub mapO-when {ℓ κ} : {A : Type ℓ} {B : Type κ} (f : A → B) {b c : Bool} {x : A} {y : B} → b ≡ c → f x ≡ y
-    → mapO f (cond b (some x) none) ≡ cond c (some y) none
-mapO-when f {b} p e = rw (← p) (mapO-cond f b _ _ _ _ (λ h. ap some e) (λ h. refl))
+pub map-when {ℓ κ} : {A : Type ℓ} {B : Type κ} (f : A → B) {b c : Bool} {x : A} {y : B} → b ≡ c → f x ≡ y
+    → Option·map f (cond b (some x) none) ≡ cond c (some y) none
+map-when f {b} p e = rw (← p) (map-cond f b _ _ _ _ (λ h. ap some e) (λ h. refl))
 
 -- or where it fails
-pub mapO-unless {ℓ κ} : {A : Type ℓ} {B : Type κ} (f : A → B) (c : Bool) {b : Bool} {x : A} {y : B} → b ≡ not c → f x ≡ y
-    → mapO f (cond b (some x) none) ≡ cond c none (some y)
-mapO-unless f true p e = rw p
-mapO-unless f false p e = rw p (ap some e)
+pub map-unless {ℓ κ} : {A : Type ℓ} {B : Type κ} (f : A → B) (c : Bool) {b : Bool} {x : A} {y : B} → b ≡ not c → f x ≡ y
+    → Option·map f (cond b (some x) none) ≡ cond c none (some y)
+map-unless f true p e = rw p
+map-unless f false p e = rw p (ap some e)
 
--- a number from 1,024 on stands for a list message
-pub list-code : (m : Mem) (i c n : ℕ) → c ≡ LISTMARK + n → messageOf m i c ≡ list (listAt m i n)
+-- a number from the mark on stands for a list message
+pub list-of-number : (m : Mem) (i c n : ℕ) → c ≡ LISTMARK + n → messageOf m i c ≡ list (listAt m i n)
 unfolding messageOf
-list-code m i c n e =
+list-of-number m i c n e =
     let d : c - LISTMARK ≡ n = omega arith in
     cond-true (list (listAt m i (c - LISTMARK))) (reply (record { 0 = c })) (le-leb LISTMARK c (omega arith))
     ∙ ap (λ (k : ℕ). list (listAt m i k)) d
 
 -- any other for a reply
-pub reply-code : (m : Mem) (i c : ℕ) → c < LISTMARK → messageOf m i c ≡ reply (record { 0 = c })
+pub reply-of-number : (m : Mem) (i c : ℕ) → c < LISTMARK → messageOf m i c ≡ reply (record { 0 = c })
 unfolding messageOf
-reply-code m i c l = cond-false (list (listAt m i (c - LISTMARK))) (reply (record { 0 = c })) (lt-leb LISTMARK c l)
+reply-of-number m i c l = cond-false (list (listAt m i (c - LISTMARK))) (reply (record { 0 = c })) (lt-leb LISTMARK c l)

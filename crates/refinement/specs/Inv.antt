@@ -3,19 +3,18 @@ use Prim.Native.Nat.{ℕ, _+_, _-_, _/_, _%_, _^_, _<_, _≤_}
 use mathlib.Core.Bool.{true, false}
 use mathlib.Core.Logic.{_⊎_}
 use mathlib.Core.Path.{_≡_}
-use lib.Dec.{leb, eqb}
+use lib.Dec.{leb}
 use Rattle.base.specs.Below.{sumBelow, countBelow}
 use Rattle.disac4.specs.System.{System, Sound}
 use Rattle.disac4.specs.declared.Tally.{Tally}
 use Rattle.network.specs.Network.{loaded, labelCount, domainSize}
-use Rattle.cells.specs.Layout.{WORKERS, CURSORS, BOUNDS, LOG, WORK, OUT, WANTED, DOMAIN, HEAD, TAIL, LOGEND, SENDS, LISTS, HELD, POLLS, OUTEND, OUTREAD, LABELROOM}
+use Rattle.cells.specs.Layout.{WORKERS, CURSORS, BOUNDS, LOG, WORK, OUT, WANTED, HEAD, TAIL, LOGEND, SENDS, LISTS, HELD, POLLS, OUTEND, OUTREAD, LABELROOM}
 use Rattle.cells.specs.Memory.{Mem}
 use Rattle.index.specs.Index.{Paired}
 use Rattle.controller.specs.Controller.{Machine}
-use Rattle.cells.specs.View.{LISTED, LISTMARK}
+use Rattle.cells.specs.View.{LISTMARK, inDomain}
 
--- ---- the system fits the regions: so does each accepted plan's
-
+-- the system fits the regions: so does each accepted plan's
 pub record Small (sys : System) : Type 0 where
   pub sound : Sound sys
   pub few-values : (x : ℕ) → x < sys .net .variables → sys .net .size x ≤ 16
@@ -31,6 +30,7 @@ pub record LabelNumber (sys : System) (c : ℕ) : Type 0 where
   pub variable : c / 16 < sys .net .variables
   pub value : c % 16 < sys .net .size (c / 16)
 
+-- its queues are in order, and hold what they stand for
 pub record Row (sys : System) (m : Mem) (t : Tally) (i : ℕ) : Type 0 where
   pub queue : m WORKERS i HEAD ≤ m WORKERS i TAIL
   -- the list messages cut the log into parts that are not empty
@@ -51,6 +51,15 @@ pub record Row (sys : System) (m : Mem) (t : Tally) (i : ℕ) : Type 0 where
 abbrev pub listsOut : Mem → ℕ → ℕ → ℕ
 listsOut m i n = countBelow n (λ e. leb LISTMARK (m OUT i e))
 
+-- the labels in the domains
+abbrev pub remaining : System → Mem → ℕ
+remaining sys m = domainSize (sys .net) (inDomain m)
+
+-- the labels in the logs and in the domains
+abbrev pub accounted : System → Mem → ℕ
+accounted sys m = sumBelow (sys .workers) (λ i. m WORKERS i LOGEND) + remaining sys m
+
+-- what was pushed, counted, logged and put for the controller, each by where it came from
 pub record Totals (sys : System) (m : Mem) (t : Tally) : Type 0 where
   pub own-cursor : (i : ℕ) → i < sys .workers → m CURSORS i i ≡ 0
   pub cursor : (j i : ℕ) → j < sys .workers → i < sys .workers → m CURSORS j i ≤ m WORKERS j SENDS
@@ -61,9 +70,7 @@ pub record Totals (sys : System) (m : Mem) (t : Tally) : Type 0 where
   pub counted : (i : ℕ) → i < sys .workers
       → m WORKERS i LISTS ≡ m WORKERS i SENDS + sumBelow (sys .workers) (λ j. m CURSORS j i)
   -- each loaded label is in its domain or in one log
-  pub logged :
-      sumBelow (sys .workers) (λ i. m WORKERS i LOGEND) + domainSize (sys .net) (λ x v. eqb (m DOMAIN x v) LISTED)
-      ≡ labelCount (sys .net)
+  pub logged : accounted sys m ≡ labelCount (sys .net)
   -- every list message was put for the controller
   pub all-out : (i : ℕ) → i < sys .workers → listsOut m i (m WORKERS i OUTEND) ≡ m WORKERS i SENDS
   -- the controller has counted those that it read
@@ -91,8 +98,7 @@ pub record Replied (m : Mem) (t : Tally) (i : ℕ) : Type 0 where
 abbrev pub OutCounted : Mem → Tally → ℕ → Type 0
 OutCounted m t i = (m WORKERS i OUTEND ≤ m WORKERS i LISTS) ⊎ Replied m t i
 
--- ---- all of it
-
+-- all of it
 pub record Inv (sys : System) (s : Machine) : Type 0 where
   pub rows : (i : ℕ) → i < sys .workers → Row sys (s .mem) (s .tally) i
   pub totals : Totals sys (s .mem) (s .tally)
@@ -100,5 +106,5 @@ pub record Inv (sys : System) (s : Machine) : Type 0 where
   pub replied : (i : ℕ) → i < sys .workers → OutCounted (s .mem) (s .tally) i
   pub paired : Paired sys (s .mem)
   -- only loaded labels are in the domains
-  pub listed : (x v : ℕ) → eqb (s .mem DOMAIN x v) LISTED ≡ true → loaded (sys .net) x v ≡ true
+  pub listed : (x v : ℕ) → inDomain (s .mem) x v ≡ true → loaded (sys .net) x v ≡ true
   pub marks : s .tally .marks < 2 ^ sys .workers

@@ -1,5 +1,5 @@
 -- A list of turns in memory: the machine after it, and how many of its turns that pass a test changed something.
-use Prim.Native.Nat.{ℕ, _/_, _%_, _<_, _≤_}
+use Prim.Native.Nat.{ℕ, _<_, _≤_}
 use mathlib.Core.Bool.{Bool, true, false}
 use mathlib.Core.List.{List, _++_}
 use mathlib.Core.Option.{Option, none}
@@ -13,14 +13,14 @@ use Rattle.disac4.specs.System.{System, systemAt}
 use Rattle.disac4.specs.Turn.{Turn, turn}
 use Rattle.disac4.specs.declared.Report.{Report}
 use Rattle.disac4.specs.declared.Tally.{Tally}
-use Rattle.index.specs.Allowed.{Listed}
 use Rattle.index.specs.Index.{Ready, indexM}
-use Rattle.cells.specs.Layout.{WORKERS, WORK, HEAD, TAIL, WORKCELLS}
+use Rattle.cells.specs.Layout.{WORKCELLS}
 use Rattle.cells.specs.Memory.{clearedM, Mem, memOf}
 use Rattle.loading.specs.Load.{loadM}
 use Rattle.controller.specs.Controller.{Machine, machine}
 use Rattle.refinement.specs.Step.{readM, workerM, stepM}
 use Rattle.cells.specs.View.{view}
+use Rattle.treating.specs.Treat.{HeadListed}
 use Rattle.refinement.specs.declared.Progress.{Progress}
 use Rattle.plan.specs.Decode.{planFault}
 use Rattle.format.specs.Format.{workerCount}
@@ -64,8 +64,7 @@ pub record Playable (b cells : List ℕ) (t : Tally) : Type 0 where
   pub ready : Ready b cells
   pub marks : t .marks < 256
   pub workers : workerCount b ≤ 8
-  pub labels : (i : ℕ) → i < workerCount b → memOf cells WORKERS i HEAD < memOf cells WORKERS i TAIL
-      → Listed b (memOf cells WORK i (memOf cells WORKERS i HEAD) / 16) (memOf cells WORK i (memOf cells WORKERS i HEAD) % 16)
+  pub labels : (i : ℕ) → i < workerCount b → HeadListed b (memOf cells) i
 
 -- the action `d` of row `i`, on a memory
 abbrev pub workerOn : System → Tally → ℕ → ℕ → Mem → Option Mem

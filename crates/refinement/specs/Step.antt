@@ -1,7 +1,7 @@
 -- One turn in memory.
 use Prim.Native.Nat.{ℕ, _-_}
 use mathlib.Core.Bool.{cond, _||_, not}
-use mathlib.Core.Option.{Option, none, some}
+use mathlib.Core.Option.{Option, none, Option·map}
 use lib.Dec.{eqb}
 use Rattle.disac4.specs.Fold.{afterBy}
 use Rattle.disac4.specs.System.{System}
@@ -14,9 +14,9 @@ use Rattle.reads.specs.Reads.{readListM, readPollM}
 use Rattle.answers.specs.Answers.{answerM}
 use Rattle.treating.specs.Treat.{treatM}
 
+-- a worker's action leaves the tally as it is
 abbrev pub withMem : Tally → Option Mem → Option Machine
-withMem t none = none
-withMem t (some m) = some (record { mem = m; tally = t })
+withMem t = Option·map (λ (m : Mem). record { mem = m; tally = t })
 
 -- row `i` reads from actor `d`
 unfoldable pub readM : ℕ → ℕ → Machine → Option Mem

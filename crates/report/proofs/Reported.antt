@@ -23,10 +23,9 @@ use Rattle.disac4.specs.declared.Status.{Status}
 use Rattle.disac4.specs.declared.Status.the-variants.{Open, Closed, Bare}
 use Rattle.disac4.specs.declared.Tally.{Tally}
 use Rattle.cells.proofs.Overwritten.{written-all, written-length, written-next}
-use Rattle.cells.specs.Layout.{DOMAIN}
 use Rattle.cells.specs.Memory.{Mem}
 use Rattle.refinement.specs.Run.{reportM}
-use Rattle.cells.specs.View.{LISTED, view}
+use Rattle.cells.specs.View.{inDomain, view}
 use Rattle.refinement.specs.declared.Progress.{Progress}
 use Rattle.plan.proofs.Parts.{variables-read}
 use Rattle.plan.specs.Decode.{planOf}
@@ -34,13 +33,9 @@ use Rattle.format.specs.Format.{variableCount}
 use Rattle.plan.specs.Network.{networkOf}
 use Rattle.plan.specs.Plan.{sizeOf}
 
--- a value is in its variable's domain
-abbrev pub isListed : Mem → ℕ → ℕ → Bool
-isListed m x v = eqb (m DOMAIN x v) LISTED
-
 -- the row of a variable's domain
 abbrev pub domainRow : List ℕ → Mem → ℕ → ℕ
-domainRow b m x = rowOf (sizeOf (planOf b) x) (isListed m x)
+domainRow b m x = rowOf (sizeOf (planOf b) x) (inDomain m x)
 
 -- ---- the list cells
 
@@ -93,7 +88,7 @@ module _ (n : ℕ) (t : ℕ → Bool) where
 
 -- one more than a variable whose domain is empty
 abbrev pub emptyAt : List ℕ → Mem → ℕ → Option ℕ
-emptyAt b m x = cond (anyBelow (sizeOf (planOf b) x) (isListed m x)) none (some (suc x))
+emptyAt b m x = cond (anyBelow (sizeOf (planOf b) x) (inDomain m x)) none (some (suc x))
 
 module _ (b : List ℕ) (m : Mem) (x : ℕ) (before : firstBelow x (emptyAt b m) ≡ none) where
   empty-view : (t : Tally)
@@ -108,13 +103,13 @@ module _ (b : List ℕ) (m : Mem) (x : ℕ) (before : firstBelow x (emptyAt b m)
       add-one x
       ∙ ap (λ (o : Option ℕ). Option·getD o 0)
       (sym (first-at (variableCount b) (emptyAt b m) x (suc x) h before
-      (cond-false none (some (suc x)) (row-none (sizeOf (planOf b) x) (isListed m x) e))))
+      (cond-false none (some (suc x)) (row-none (sizeOf (planOf b) x) (inDomain m x) e))))
       ∙ sym (empty-view t)
 
   pub empty-next : (domainRow b m x ≡ 0 → ⊥) → firstBelow (x + 1) (emptyAt b m) ≡ none
   empty-next h =
       first-more x (emptyAt b m) before
-      (cond-true none (some (suc x)) (row-some (sizeOf (planOf b) x) (isListed m x) h))
+      (cond-true none (some (suc x)) (row-some (sizeOf (planOf b) x) (inDomain m x) h))
 
   pub empty-nowhere : x ≡ variableCount b → (t : Tally)
       → 0 ≡ lowestEmpty (systemAt b) (view (systemAt b) m t)

@@ -16,10 +16,9 @@ ghost use Rattle.disac4.specs.Report.{lowestEmpty, listCells};
 ghost use Rattle.disac4.specs.System.{systemAt};
 ghost use Rattle.disac4.specs.declared.Tally.{Tally};
 ghost use Rattle.index.specs.Index.{Ready};
-ghost use Rattle.cells.specs.Layout.{DOMAIN};
 ghost use Rattle.cells.specs.Memory.{memOf};
 ghost use Rattle.refinement.specs.Run.{reportM};
-ghost use Rattle.cells.specs.View.{LISTED, view};
+ghost use Rattle.cells.specs.View.{inDomain, view};
 ghost use Rattle.plan.specs.Decode.{planOf};
 ghost use Rattle.format.specs.Format.{variableCount};
 ghost use Rattle.plan.specs.Plan.{sizeOf};
@@ -27,7 +26,7 @@ ghost use Rattle.plan.specs.Plan.{sizeOf};
 // The row of the values in a variable's domain.
 fn domain_row(b: &[u8], cells: &[u16], x: usize) -> usize
     requires { ⌜ Ready (now b) (now cells) × (x < variableCount (now b)) ⌝ }
-    ensures { λ r. ⌜ (r ≡ rowOf (sizeOf (planOf (now (b .entry))) x) (λ v. eqb (memOf (now (cells .entry)) DOMAIN x v) LISTED)) × (r < 65536) ⌝ }
+    ensures { λ r. ⌜ (r ≡ rowOf (sizeOf (planOf (now (b .entry))) x) (inDomain (memOf (now (cells .entry))) x)) × (r < 65536) ⌝ }
 {
     let values = parts::size(b, cells, x);
     layout::row_holding(cells, layout::DOMAIN, x, values, layout::LISTED)

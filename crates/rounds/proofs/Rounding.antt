@@ -17,7 +17,7 @@ use Rattle.disac4.specs.Turn.{Turn, step, play}
 use Rattle.rounds.proofs.RoundsLeft.{left, left-loaded, left-closed, left-lowers, left-open}
 use Rattle.engine.proofs.RunLaws.{workers-are}
 use Rattle.refinement.proofs.Start.{fits-regions}
-use Rattle.refinement.proofs.Underway.{under-view, plays-none, plays-then, goes-after}
+use Rattle.refinement.proofs.Underway.{under-view, going-view, plays-none, plays-then, goes-after}
 use Rattle.rounds.specs.Rounds.{Begun}
 use Rattle.refinement.specs.Run.{viewOf, Going, Plays}
 use Rattle.controller.specs.Controller.{machine}
@@ -52,8 +52,7 @@ module _ (b cells₀ : List ℕ) (g₀ : Progress) (start : Begun b cells₀ g�
     plays = plays-none b cells₀ g₀;
     whole =
         ap (left sys)
-        (under-view b (start .going .sound) (start .going .before) (start .going .turns) cells₀ g₀ (start .going .at)
-        ∙ ap (final sys) (start .fresh))
+        (going-view b cells₀ g₀ (start .going) ∙ ap (final sys) (start .fresh))
         ∙ left-loaded sys sound;
   }
 
@@ -67,7 +66,7 @@ module _ (b cells₀ : List ℕ) (g₀ : Progress) (start : Begun b cells₀ g�
 
     seen : stateAt b cells g ≡ play sys (load sys) played
     unfolding final
-    seen = under-view b (start .going .sound) (rounding-goes .before) played cells g (rounding-goes .at)
+    seen = going-view b cells g rounding-goes
 
     reached : Reached sys (stateAt b cells g)
     reached = (played, sym seen)

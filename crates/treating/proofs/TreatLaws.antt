@@ -28,8 +28,8 @@ use Rattle.index.specs.Index.{owns, ownLinked, nextOwn}
 use Rattle.cells.specs.Layout.{WORKERS, WORK, DOMAIN, COUNTERS, HEAD, TAIL, LABELROOM}
 use Rattle.cells.specs.Lists.{deleteM}
 use Rattle.cells.specs.Memory.{Mem, store}
-use Rattle.treating.specs.Treat.{SupportRow, loseM, touchM, touchVariableM, touchVariablesM, hasWork, treatM}
-use Rattle.cells.specs.View.{LISTED, counterRow}
+use Rattle.treating.specs.Treat.{SupportRow, loseM, touchM, touchVariableM, touchVariablesM, hasWork, HeadListed, treatM}
+use Rattle.cells.specs.View.{LISTED, inDomain, counterRow}
 
 -- ---- a count goes down
 
@@ -66,7 +66,7 @@ module _ (sys : System) (i y w x v : ℕ) (m : Mem) where
 
   not-allowed : sys .net .allows x v y w ≡ false → m ≡ touchM sys i y w x v m
   unfolding touchM
-  not-allowed a = second-fails (eqb (m DOMAIN x v) LISTED) (loseM i x v y m) m a
+  not-allowed a = second-fails (inDomain m x v) (loseM i x v y m) m a
 
   not-listed : (m DOMAIN x v ≡ LISTED → ⊥) → m ≡ touchM sys i y w x v m
   unfolding touchM
@@ -231,7 +231,5 @@ module _ (sys : System) (i : ℕ) (m : Mem) where
 -- it was loaded
 pub head-listed : (b : List ℕ) (i : ℕ) (m : Mem) {head tail c : ℕ} → head ≡ m WORKERS i HEAD → tail ≡ m WORKERS i TAIL
     → head < tail → c ≡ m WORK i head
-    → (m WORKERS i HEAD < m WORKERS i TAIL
-    → Listed b (m WORK i (m WORKERS i HEAD) / 16) (m WORK i (m WORKERS i HEAD) % 16))
-    → Listed b (c / 16) (c % 16)
+    → HeadListed b m i → Listed b (c / 16) (c % 16)
 head-listed b i m p q l e f = rw (e, p) (f (omega arith))

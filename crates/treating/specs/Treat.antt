@@ -1,16 +1,18 @@
 -- Treating a label in memory: the treating worker's variables that share a constraint with it, ascending, and their values.
 use Prim.Native.Nat.{ℕ, suc, _+_, _-_, _/_, _%_, _<_}
 use mathlib.Core.Bool.{Bool, cond, _&&_}
+use mathlib.Core.List.{List}
 use mathlib.Core.Option.{Option, none, some}
 use mathlib.Core.Path.{_≡_}
 use lib.Dec.{ltb, eqb}
 use Rattle.base.specs.Below.{loop}
 use Rattle.base.specs.Row.{bit}
 use Rattle.disac4.specs.System.{System}
-use Rattle.cells.specs.Layout.{WORKERS, WORK, DOMAIN, COUNTERS, HEAD, TAIL, LABELROOM}
+use Rattle.index.specs.Allowed.{Listed}
+use Rattle.cells.specs.Layout.{WORKERS, WORK, COUNTERS, HEAD, TAIL, LABELROOM}
 use Rattle.cells.specs.Lists.{deleteM}
 use Rattle.cells.specs.Memory.{Mem, store}
-use Rattle.cells.specs.View.{LISTED, counterRow}
+use Rattle.cells.specs.View.{inDomain, counterRow}
 
 -- what is asked for once in a variable: `row` holds those of the first `n` values of `x` that had label `w` of `y` as a
 -- support, and their counters against `y` stand in row `at`
@@ -28,7 +30,7 @@ loseM i x v y m =
 -- label `v` of `x`, if it is in its domain and had label `w` of `y` as a support
 unfoldable pub touchM : System → ℕ → ℕ → ℕ → ℕ → ℕ → Mem → Mem
 touchM sys i y w x v m =
-    cond (eqb (m DOMAIN x v) LISTED) (cond (sys .net .allows x v y w) (loseM i x v y m) m) m
+    cond (inDomain m x v) (cond (sys .net .allows x v y w) (loseM i x v y m) m) m
 
 -- the values of `x`, if row `i` owns it and it shares a constraint with `y`
 unfoldable pub touchVariableM : System → ℕ → ℕ → ℕ → ℕ → Mem → Mem
@@ -42,6 +44,10 @@ touchVariablesM sys i y w = loop (sys .net .variables) (touchVariableM sys i y w
 -- whether row `i` has a label to treat, within the row
 unfoldable pub hasWork : ℕ → Mem → Bool
 hasWork i m = ltb (m WORKERS i HEAD) (m WORKERS i TAIL) && ltb (m WORKERS i HEAD) LABELROOM
+
+-- where row `i` has work, its oldest label is one of the plan's
+abbrev pub HeadListed : List ℕ → Mem → ℕ → Type 0
+HeadListed b m i = m WORKERS i HEAD < m WORKERS i TAIL → Listed b (m WORK i (m WORKERS i HEAD) / 16) (m WORK i (m WORKERS i HEAD) % 16)
 
 -- row `i` takes the oldest label from its work list
 unfoldable pub treatM : System → ℕ → Mem → Option Mem

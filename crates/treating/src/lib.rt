@@ -4,7 +4,7 @@ use cells::lists;
 use index::parts;
 ghost use mathlib.Core.Bool.{true};
 ghost use mathlib.Core.Path.{_≡_};
-ghost use Prim.Native.Nat.{ℕ, _<_, _≤_, _/_, _%_};
+ghost use Prim.Native.Nat.{ℕ, _<_, _≤_};
 ghost use lib.ListN.{length};
 ghost use Rattle.base.specs.Below.{loop};
 ghost use Rattle.base.specs.Row.{bit};
@@ -12,9 +12,9 @@ ghost use Rattle.disac4.specs.System.{System, systemAt};
 ghost use Rattle.index.specs.Allowed.{Listed};
 ghost use Rattle.index.specs.Index.{ownLinked, Ready};
 ghost use Rattle.cells.specs.Acts.{Acts};
-ghost use Rattle.cells.specs.Layout.{WORKERS, WORK, HEAD, TAIL, WORKCELLS};
+ghost use Rattle.cells.specs.Layout.{WORKCELLS};
 ghost use Rattle.cells.specs.Memory.{memOf};
-ghost use Rattle.treating.specs.Treat.{SupportRow, loseM, touchM, touchVariableM, touchVariablesM, treatM};
+ghost use Rattle.treating.specs.Treat.{SupportRow, loseM, touchM, touchVariableM, touchVariablesM, HeadListed, treatM};
 ghost use Rattle.cells.specs.View.{counterRow};
 
 // Label v of x loses one from its count, in a row of counters; at 0 row i deletes it.
@@ -80,7 +80,7 @@ fn touch_variables(b: &[u8], cells: &mut [u16], i: usize, y: usize, w: usize)
 
 // Row i takes the oldest label from its work list: 1 if there is one, and 0 if not.
 pub fn treat(b: &[u8], cells: &mut [u16], i: usize) -> usize
-    requires { ⌜ Ready (now b) (now cells) × (i < 8) × (memOf (now cells) WORKERS i HEAD < memOf (now cells) WORKERS i TAIL → Listed (now b) (memOf (now cells) WORK i (memOf (now cells) WORKERS i HEAD) / 16) (memOf (now cells) WORK i (memOf (now cells) WORKERS i HEAD) % 16)) ⌝ }
+    requires { ⌜ Ready (now b) (now cells) × (i < 8) × HeadListed (now b) (memOf (now cells)) i ⌝ }
     ensures { λ r. ⌜ Acts (treatM (systemAt (now (b .entry))) i) (memOf (now (cells .entry))) (memOf (now (cells .exit))) r ⌝ }
 {
     let head = layout::get(cells, layout::WORKERS, i, layout::HEAD);

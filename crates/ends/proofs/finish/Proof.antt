@@ -1,6 +1,7 @@
 -- `ends::finish` ends a run. Assumes nothing.
 use denote.Ref.{now}
-use Rattle.ends.proofs.Finishing.{going-ready, finishes}
+use Rattle.ends.proofs.Finishing.{finishes}
+use Rattle.refinement.proofs.Underway.{going-ready}
 use borrow.Author.Needs.{needs}
 use Rattle.ends.proofs.finish.Statement.{statement}
 use Rattle.ends.proofs.finish.Tie as tie

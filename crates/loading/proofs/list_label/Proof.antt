@@ -5,7 +5,7 @@ use mathlib.Core.Path.{refl}
 use native.Mathlib.Omega.{arith}
 use denote.Ref.{now}
 use Rattle.disac4.specs.System.{systemAt}
-use Rattle.cells.proofs.RegionsKept.{same, stored}
+use Rattle.cells.proofs.RegionsKept.{kept-same, kept-stored}
 use Rattle.index.proofs.Kept.{ready-kept}
 use Rattle.index.proofs.Labels.{located, label-small}
 use Rattle.loading.proofs.LoadLaws.{label-deleted, label-kept}
@@ -27,7 +27,7 @@ owner-requires c κs =
     let s = p .before .before .before .before in (
       located (now (s .args .b)) _
           (ready-kept (now (s .args .b)) (now (s .args .cells)) _ (s .pre .0) (p .put .kept .0) (p .put .ensures)
-          (stored DOMAIN (s .args .x) (s .args .v) LISTED (omega arith) same)),
+          (kept-stored DOMAIN (s .args .x) (s .args .v) LISTED (omega arith) kept-same)),
       s .pre .1 .variable,
     )
 

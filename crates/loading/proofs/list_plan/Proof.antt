@@ -5,7 +5,7 @@ use denote.Ref.{now}
 use Rattle.disac4.specs.System.{systemAt}
 use Rattle.cells.proofs.Done.{Done, done-none, done-more, done-all}
 use Rattle.index.proofs.Kept.{ready-done}
-use Rattle.loading.proofs.Kept.{list-variable-kept}
+use Rattle.loading.proofs.Kept.{index-behind, list-variable-kept}
 use Rattle.index.proofs.Labels.{variables-are}
 use Rattle.loading.specs.Load.{listVariableM, listM}
 use Rattle.loading.proofs.list_plan.Statement.{statement}
@@ -27,7 +27,7 @@ list-variable-requires : tie.Need-list-variable-requires Inv-loop μ-loop
 list-variable-requires c κs =
     let l = c .before .before in
     let s = l .before .before .before .before in (
-      ready-done (now (s .args .b)) (s .pre) (l .loop .inv) (list-variable-kept _),
+      ready-done (now (s .args .b)) (s .pre) (l .loop .inv) (λ x m. index-behind (list-variable-kept _ x m)),
       omega (arith, l .before .variable-count .ensures .0),
     )
 

@@ -9,7 +9,7 @@ use Rattle.cells.proofs.Done.{Done, done-none, done-more, done-all}
 use Rattle.cells.specs.Memory.{memOf}
 use Rattle.index.proofs.Kept.{ready-done}
 use Rattle.index.proofs.Labels.{size-is}
-use Rattle.loading.proofs.Kept.{list-label-kept}
+use Rattle.loading.proofs.Kept.{index-behind, list-label-kept}
 use Rattle.loading.specs.Load.{listLabelM, listValueM, listValuesM}
 use Rattle.loading.proofs.list_values.Statement.{statement}
 use Rattle.loading.proofs.list_values.Tie as tie
@@ -35,7 +35,7 @@ list-label-requires c κs =
     let l = t .before in
     let z = l .before in
     let s = z .before .before .before .before in (
-      ready-done (now (s .args .b)) (s .pre .0) (l .loop .inv) (λ v. list-label-kept _ (s .args .x) v _),
+      ready-done (now (s .args .b)) (s .pre .0) (l .loop .inv) (λ v m. index-behind (list-label-kept _ (s .args .x) v _ m)),
       record { variable = s .pre .1; value = omega (arith, t .loop-test .taken, z .size .ensures .0) },
     )
 

@@ -6,7 +6,7 @@ use Rattle.base.proofs.Row.{row-low}
 use Rattle.cells.proofs.Ranges.{may-get}
 use Rattle.cells.specs.Memory.{memOf}
 use Rattle.index.proofs.Places.{few-sections}
-use Rattle.report.proofs.Reported.{isListed}
+use Rattle.cells.specs.View.{inDomain}
 use Rattle.report.proofs.domain_row.Statement.{statement}
 use Rattle.report.proofs.domain_row.Tie as tie
 
@@ -26,7 +26,7 @@ returns c =
       omega (
         arith,
         c .row-holding .ensures,
-        row-low (z .size .result) (isListed (memOf (now (a .cells))) (a .x)) (z .size .ensures .1),
+        row-low (z .size .result) (inDomain (memOf (now (a .cells))) (a .x)) (z .size .ensures .1),
       ),
     )
 

@@ -8,7 +8,7 @@ use denote.Ref.{now}
 use Rattle.disac4.proofs.Allowed.{may-work}
 use Rattle.disac4.specs.Round.{others, workerRound}
 use Rattle.disac4.specs.Turn.{turn}
-use Rattle.engine.proofs.Advancing.{counts-room}
+use Rattle.refinement.proofs.Underway.{going-small}
 use Rattle.engine.proofs.Working.{works-then, worked-plays, running-by, running-after}
 use Rattle.engine.specs.Play.{Running}
 use Rattle.rounds.proofs.worker_round.Statement.{statement}
@@ -72,7 +72,7 @@ room e =
     let d = e .before .before .before .before in
     let t = treated d in
     let s = start (read t) in
-    let c = counts-room (now (s .args .b)) (now (s .args .cells)) (s .args .g) (s .pre .0) in
+    let c = going-small (now (s .args .b)) (now (s .args .cells)) (s .args .g) (s .pre .0) in
     omega (arith, c .0, c .1, read t .reads .ensures .1, t .work-turn .ensures .1, d .work-turn2 .ensures .1, e .work-turn3 .ensures .1)
 
 add-t19 : tie.Need-add-t19

@@ -6,7 +6,7 @@ use lib.ListN.{length}
 use Rattle.base.proofs.Loops.{loop-more}
 use Rattle.base.specs.Below.{loop}
 use Rattle.disac4.specs.System.{System}
-use Rattle.cells.proofs.RegionsKept.{repeated}
+use Rattle.cells.proofs.RegionsKept.{kept-repeated}
 use Rattle.index.proofs.Kept.{row-heads}
 use Rattle.treating.proofs.Kept.{touch-kept}
 use Rattle.cells.specs.Layout.{HEADS}
@@ -42,7 +42,7 @@ loop-less c = omega arith
 row-stays : (sys : System) (i y w x v : ℕ) (m n : Mem) → n ≡ loop v (touchM sys i y w x) m → counterRow n x y ≡ counterRow m x y
 row-stays sys i y w x v m n e =
     ap (λ (n : Mem). counterRow n x y) e
-    ∙ row-heads m _ x y (repeated (touchM sys i y w x) (touch-kept sys i y w x) v m .static HEADS x y (omega arith))
+    ∙ row-heads m _ x y (kept-repeated (touchM sys i y w x) (touch-kept sys i y w x) v m .kept HEADS x y (omega arith))
 
 loop-again : tie.Need-loop-again Inv-loop μ-loop
 loop-again c =

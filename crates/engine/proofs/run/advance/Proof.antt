@@ -4,7 +4,8 @@ use Prim.Native.Nat.{ℕ, _+_}
 use native.Mathlib.Omega.{arith}
 use lib.Dec.{eqb}
 use denote.Ref.{now}
-use Rattle.engine.proofs.Advancing.{counts-room, part-of}
+use Rattle.engine.proofs.Advancing.{part-of}
+use Rattle.refinement.proofs.Underway.{going-small}
 use Rattle.engine.proofs.Working.{running-by, worked-plays}
 use borrow.Author.Needs.{needs}
 use Rattle.engine.proofs.run.advance.Statement.{statement}
@@ -39,7 +40,7 @@ add-t14 : tie.Need-add-t14
 add-t14 c =
     let w = c .before .before .before in
     let s = w .before .before .before .before .before .before in
-    let room = counts-room (now (s .args .b)) (now (s .args .cells)) (s .args .g) (s .pre .0) in
+    let room = going-small (now (s .args .b)) (now (s .args .cells)) (s .args .g) (s .pre .0) in
     omega (arith, room .0, w .work-turn .ensures .1)
 
 if-action-requires : tie.Need-if-action-requires
@@ -50,7 +51,7 @@ add-t16 c =
     let i = c .before in
     let w = i .before .before .before .before in
     let s = w .before .before .before .before .before .before in
-    let room = counts-room (now (s .args .b)) (now (s .args .cells)) (s .args .g) (s .pre .0) in
+    let room = going-small (now (s .args .b)) (now (s .args .cells)) (s .args .g) (s .pre .0) in
     omega (
       arith,
       room .1,

@@ -5,7 +5,8 @@ use native.Mathlib.Omega.{arith}
 use lib.Dec.{eqb}
 use denote.Ref.{now}
 use Rattle.cells.proofs.Acting.{acts-few}
-use Rattle.engine.proofs.Advancing.{playable, counts-room, part-of, advanced}
+use Rattle.engine.proofs.Advancing.{playable, part-of, advanced}
+use Rattle.refinement.proofs.Underway.{going-small}
 use borrow.Author.Needs.{needs}
 use Rattle.engine.proofs.run.control.Statement.{statement}
 use Rattle.engine.proofs.run.control.Tie as tie
@@ -19,7 +20,7 @@ add-t12 : tie.Need-add-t12
 add-t12 c =
     let h = c .before .before .before .before in
     let s = h .before .before .before .before .before in
-    let room = counts-room (now (s .args .b)) (now (s .args .cells)) (s .args .g) (s .pre .0) in
+    let room = going-small (now (s .args .b)) (now (s .args .cells)) (s .args .g) (s .pre .0) in
     omega (arith, room .0, acts-few (h .control-turn .ensures))
 
 if-action-requires : tie.Need-if-action-requires
@@ -30,7 +31,7 @@ add-t14 c =
     let i = c .before in
     let h = i .before .before .before .before .before in
     let s = h .before .before .before .before .before in
-    let room = counts-room (now (s .args .b)) (now (s .args .cells)) (s .args .g) (s .pre .0) in
+    let room = going-small (now (s .args .b)) (now (s .args .cells)) (s .args .g) (s .pre .0) in
     omega (
       arith,
       room .2,
