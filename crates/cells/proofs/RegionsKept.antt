@@ -7,7 +7,7 @@ use lib.Dec.{ltb}
 use Rattle.base.proofs.Loops.{loop-keeps}
 use Rattle.base.specs.Below.{loop}
 use Rattle.cells.proofs.Stores.{store-apart}
-use Rattle.cells.specs.Layout.{WORKERS, LOG, WORK, DOMAIN, TAIL, LOGEND}
+use Rattle.cells.specs.Layout.{WORKERS, LOG, WORK, DOMAIN, TAIL, LOGEND, LABELROOM}
 use Rattle.cells.specs.Lists.{pushM, deleteM}
 use Rattle.cells.specs.Memory.{Mem, store}
 use Rattle.cells.specs.View.{labelNumber}
@@ -48,7 +48,7 @@ push-kept : {R : ℕ → Type 0} (r col i c : ℕ) {m n : Mem} → ((s : ℕ) �
     → RegionsKept R m (pushM r col i c n)
 unfolding pushM
 push-kept r col i c {n = n} behind h p =
-    either (ltb (n WORKERS i col) 512)
+    either (ltb (n WORKERS i col) LABELROOM)
     (stored WORKERS i col (n WORKERS i col + 1) (λ g. omega (arith, behind WORKERS g))
     (stored r i (n WORKERS i col) c (λ g. omega (arith, behind r g)) p))
     p

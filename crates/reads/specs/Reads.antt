@@ -10,10 +10,11 @@ use Rattle.cells.specs.Memory.{Mem, store}
 
 -- ---- row `i` reads from row `j`
 
--- where the next list message of row `j` for row `i` begins and ends in the log
+-- where the next list message of row `j` for row `i` begins in the log
 abbrev pub listStart : ℕ → ℕ → Mem → ℕ
 listStart j i m = m BOUNDS j (m CURSORS j i)
 
+-- and where it ends
 abbrev pub listEnd : ℕ → ℕ → Mem → ℕ
 listEnd j i m = m BOUNDS j (m CURSORS j i + 1)
 
@@ -22,6 +23,7 @@ unfoldable pub takenWith : ℕ → ℕ → ℕ → ℕ → ℕ → ℕ → Mem �
 takenWith j i read from to lists m =
     store (store (copyM j i from (to - from) m) CURSORS j i (read + 1)) WORKERS i LISTS (lists + 1)
 
+-- the next list message of row `j` is read by row `i`
 unfoldable pub takenM : ℕ → ℕ → Mem → Mem
 unfolding takenWith
 takenM j i m = takenWith j i (m CURSORS j i) (listStart j i m) (listEnd j i m) (m WORKERS i LISTS) m
@@ -34,11 +36,13 @@ hasList j i m =
     && leb (listEnd j i m) LABELROOM
     && ltb (m WORKERS i LISTS) LISTSMAX
 
+-- the read of a list message
 unfoldable pub readListM : ℕ → ℕ → Mem → Option Mem
 readListM j i m = cond (hasList j i m) (some (takenM j i m)) none
 
 -- ---- row `i` reads from the controller, which has sent `n` polls
 
+-- the read of a poll: the next one is held
 unfoldable pub readPollM : ℕ → ℕ → Mem → Option Mem
 readPollM i n m =
     cond (ltb (m WORKERS i POLLS) n)

@@ -10,7 +10,7 @@ use Rattle.cells.proofs.RegionsKept.{same, either, repeated, stored, delete-kep
 use Rattle.index.proofs.Kept.{IndexKept}
 use Rattle.treating.specs.Treat.{loseM, touchM, touchVariableM, touchVariablesM}
 
-pub lose-kept : (i x v y : ℕ) (m : Mem) → IndexKept m (loseM i x v y m)
+lose-kept : (i x v y : ℕ) (m : Mem) → IndexKept m (loseM i x v y m)
 unfolding loseM
 lose-kept i x v y m =
     let p : IndexKept m (store m COUNTERS (counterRow m x y) v (m COUNTERS (counterRow m x y) v - 1)) =
