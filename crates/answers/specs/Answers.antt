@@ -11,6 +11,7 @@ use Rattle.cells.specs.Memory.{Mem, store}
 unfoldable pub answeredWith : ℕ → ℕ → ℕ → Mem → Mem
 answeredWith i held outs m = store (store (store m OUT i outs held) WORKERS i OUTEND (outs + 1)) WORKERS i HELD 0
 
+-- the held poll of row `i` is replied to
 unfoldable pub answeredM : ℕ → Mem → Mem
 unfolding answeredWith
 answeredM i m = answeredWith i (m WORKERS i HELD) (m WORKERS i OUTEND) m
@@ -31,5 +32,6 @@ mayAnswer i m =
     && eqb (m WORKERS i LISTS) (m WANTED 0 (m WORKERS i HELD))
     && ltb (m WORKERS i OUTEND) OUTROOM
 
+-- Answer of row `i`
 unfoldable pub answerM : ℕ → Mem → Option Mem
 answerM i m = cond (mayAnswer i m) (some (answeredM i m)) none

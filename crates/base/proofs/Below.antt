@@ -1,7 +1,7 @@
 -- Laws of the tests and lists below a bound.
-use Prim.Native.Nat.{ℕ, zero, suc, _+_, _*_, _<_, _≤_}
+use Prim.Native.Nat.{ℕ, zero, suc, _+_, _-_, _*_, _<_, _≤_}
 use mathlib.Core.Bool.{Bool, true, false, _&&_, _||_, not, false≢true}
-use mathlib.Core.List.{List, [], _∷_, _++_}
+use mathlib.Core.List.{List, [], _∷_, _++_, map, map-append}
 use mathlib.Core.Logic.{_⊎_, ⊎-elim}
 use mathlib.Core.Option.{Option, none, some}
 use mathlib.Core.Path.{_≡_, refl, sym, _∙_, ap, ap₂, subst}
@@ -23,6 +23,10 @@ below-cases h = eq-or-lt-of-le (le-of-suc-le-suc h)
 -- what holds at a number and before it holds up to it
 pub up-to : (P : ℕ → Type 0) (x : ℕ) → P x → ((n : ℕ) → n < x → P n) → (n : ℕ) → n < x + 1 → P n
 up-to P x last before n h = elim (ℕ-discrete n x) [ yes e ↦ subst P (sym e) last | no d ↦ before n (omega arith) ]
+
+-- what holds at a number other than 0 holds at one more than the number before it
+pub at-suc : (P : ℕ → Type 0) (n : ℕ) → (n ≡ 0 → ⊥) → P n → P (suc (n - 1))
+at-suc P n h p = subst P (omega arith) p
 
 -- an index that passes makes some pass
 pub any-below : (n : ℕ) (t : ℕ → Bool) (i : ℕ) → i < n → t i ≡ true → anyBelow n t ≡ true
@@ -104,6 +108,12 @@ module _ {ℓ} {A : Type ℓ} where
         gather-length n c f (λ i p. h i (le-step p)),
         h n (le-refl (suc n)),
       )
+
+  -- a function of every member of gathered parts
+  pub map-gather : {B : Type ℓ} (h : A → B) (n : ℕ) (f : ℕ → List A) → gatherBelow n (λ i. map h (f i)) ≡ map h (gatherBelow n f)
+  map-gather h zero f = refl
+  map-gather h (suc n) f =
+      ap (λ l. l ++ map h (f n)) (map-gather h n f) ∙ sym (map-append h (gatherBelow n f) (f n))
 
   -- results that agree below the bound are listed alike
   pub list-ext : (n : ℕ) (f g : ℕ → A) → ((i : ℕ) → i < n → f i ≡ g i) → listBelow n f ≡ listBelow n g

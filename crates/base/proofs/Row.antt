@@ -9,10 +9,11 @@ use borrow.Author.Tests.{eqb-true, eqb-false, eq-eqb, ne-eqb}
 use lib.Dec.{eqb}
 use lib.Bits.{bitAnd, and-step, and-self, and-le-l}
 use lib.Pow.{pow-mono, pow-pos, shr-shr, high}
-use Rattle.base.proofs.Bools.{decided}
+use Rattle.base.proofs.Below.{some-below, any-below}
+use Rattle.base.proofs.Bools.{decided, refuted}
 use Rattle.base.proofs.Choice.{cond-true, cond-false}
-use Rattle.base.proofs.Sums.{sum-ext, sum-more, sum-times, sum-first, count-ext, count-le}
-use Rattle.base.specs.Below.{countBelow, one}
+use Rattle.base.proofs.Sums.{sum-ext, sum-more, sum-times, sum-first, sum-none, sum-some, count-ext, count-le}
+use Rattle.base.specs.Below.{anyBelow, countBelow, one}
 use Rattle.base.specs.Row.{isOdd, bit, rowOf, withoutLowest, rowCountIn, rowCount}
 
 -- ---- a row by halves: whether it is odd, and the rest
@@ -150,6 +151,31 @@ row-more n r p t e q = sum-more r p n (λ w. cond (t w) (2 ^ w) 0) e q
 -- a row of at most 16 values
 pub row-low : (n : ℕ) (t : ℕ → Bool) → n ≤ 16 → rowOf n t < 65536
 row-low n t h = omega (arith, row-small n t, pow-mono h)
+
+module _ (n : ℕ) (t : ℕ → Bool) where
+  -- an empty row is of no value
+  pub row-none : rowOf n t ≡ 0 → anyBelow n t ≡ false
+  unfolding rowOf
+  row-none e =
+      refuted (anyBelow n t) (λ p.
+      let r = some-below n t p in
+      omega (
+        arith,
+        sum-none n (λ w. cond (t w) (2 ^ w) 0) e (r .0) (r .1),
+        cond-true (2 ^ r .0) 0 (r .2),
+        pow-pos (r .0),
+      ))
+
+  -- any other row has one
+  pub row-some : (rowOf n t ≡ 0 → ⊥) → anyBelow n t ≡ true
+  unfolding rowOf
+  row-some h =
+      let r = sum-some n (λ w. cond (t w) (2 ^ w) 0) (omega arith) in
+      any-below n t (r .0) (r .1) (held (r .0) (t (r .0)) (r .2))
+    where
+      held : (w : ℕ) (b : Bool) → 0 < cond b (2 ^ w) 0 → b ≡ true
+      held w true l = refl
+      held w false l = absurd (omega arith)
 
 -- `2 ^ n - 1` is the row of all values below n
 pub row-full : (n : ℕ) → 2 ^ n - 1 ≡ rowOf n (λ w. true)

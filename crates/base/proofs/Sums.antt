@@ -1,6 +1,6 @@
 -- Laws of sums below a bound.
 use Prim.Native.Nat.{ℕ, zero, suc, _+_, _*_, _<_, _≤_}
-use mathlib.Core.Bool.{Bool, true, false, _&&_, not}
+use mathlib.Core.Bool.{Bool, true, false, cond, _&&_, not}
 use mathlib.Core.Logic.{⊎-elim}
 use mathlib.Core.Path.{_≡_, refl, sym, ap, ap₂}
 use native.Mathlib.Nat.{not-suc-le-zero, eq-or-lt-of-le, le-of-suc-le-suc, le-step, le-refl}
@@ -125,6 +125,11 @@ sum-less (suc n) f g h i l s =
 pub one-le : (b : Bool) → one b ≤ 1
 one-le true = le-refl 1
 one-le false = le-step (le-refl 0)
+
+-- two tests count as the second does, where the first holds
+pub one-and : (c a : Bool) → one (c && a) ≡ cond c (one a) 0
+one-and true a = refl
+one-and false a = refl
 
 -- a count is at most its bound
 pub count-le : (n : ℕ) (t : ℕ → Bool) → countBelow n t ≤ n

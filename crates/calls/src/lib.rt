@@ -54,7 +54,7 @@ pub fn run_round(plan: &[u8], work: &mut [u16], lists: &mut [u16]) -> Answer
         Checked::Declined(d) => Answer::Declined(d),
         Checked::Accepted(f) => {
             let p = f.workers;
-            Answer::Reported(runs::play_rounds(plan, work, lists, p))
+            Answer::Reported(runs::play_until_closed(plan, work, lists, p))
         }
     }
 }

@@ -5,7 +5,7 @@ use borrow.Author.Tests.{le-ltb}
 use Rattle.base.proofs.Choice.{cond-false}
 use Rattle.base.specs.Below.{loop}
 use Rattle.cells.proofs.Stores.{push-stores}
-use Rattle.cells.specs.Layout.{WORKERS, LOG, WORK, DOMAIN, TAIL, LOGEND}
+use Rattle.cells.specs.Layout.{WORKERS, LOG, WORK, DOMAIN, TAIL, LOGEND, LABELROOM}
 use Rattle.cells.specs.Lists.{pushM, deleteM, copyM}
 use Rattle.cells.specs.Memory.{Mem, store}
 use Rattle.cells.specs.View.{labelNumber}
@@ -13,15 +13,15 @@ use Rattle.cells.specs.View.{labelNumber}
 -- ---- a push
 
 module _ (r col i c e : ℕ) (m : Mem) (q : e ≡ m WORKERS i col) where
-  pub pushed : (m₁ m₂ : Mem) → e < 512 → m₁ ≡ store m r i e c → m₂ ≡ store m₁ WORKERS i col (e + 1) → m₂ ≡ pushM r col i c m
+  pub pushed : (m₁ m₂ : Mem) → e < LABELROOM → m₁ ≡ store m r i e c → m₂ ≡ store m₁ WORKERS i col (e + 1) → m₂ ≡ pushM r col i c m
   pushed m₁ m₂ h p₁ p₂ =
       p₂ ∙ ap (λ (n : Mem). store n WORKERS i col (e + 1)) p₁
       ∙ ap (λ (k : ℕ). store (store m r i k c) WORKERS i col (k + 1)) q
       ∙ sym (push-stores r col i c m (rw q at h))
 
-  pub unpushed : 512 ≤ e → m ≡ pushM r col i c m
+  pub unpushed : LABELROOM ≤ e → m ≡ pushM r col i c m
   unfolding pushM
-  unpushed h = sym (cond-false _ m (le-ltb (m WORKERS i col) 512 (rw q at h)))
+  unpushed h = sym (cond-false _ m (le-ltb (m WORKERS i col) LABELROOM (rw q at h)))
 
 -- ---- a deletion
 

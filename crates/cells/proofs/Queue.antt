@@ -52,7 +52,7 @@ module _ {A : Type 0} where
       (queue-same q (queue (q′ .start) (q .stop) (q′ .place)) h a refl) (ap (q′ .place) z)
 
   -- the oldest taken
-  pub queue-taken : (q q′ : Queue A) → QueueKept q q′ → q .start < q .stop → q′ .start ≡ q .start + 1 → q′ .stop ≡ q .stop
+  queue-taken : (q q′ : Queue A) → QueueKept q q′ → q .start < q .stop → q′ .start ≡ q .start + 1 → q′ .stop ≡ q .stop
       → listed q ≡ q .place (q .start) ∷ listed q′
   unfolding listed
   queue-taken q q′ h l a b =
@@ -79,7 +79,7 @@ module _ {A : Type 0} where
       ]
 
   -- it is empty exactly if it ends where it begins
-  pub queue-empty : (q : Queue A) → q .start ≤ q .stop → isEmpty (listed q) ≡ eqb (q .start) (q .stop)
+  queue-empty : (q : Queue A) → q .start ≤ q .stop → isEmpty (listed q) ≡ eqb (q .start) (q .stop)
   queue-empty q l =
       elim (ℕ-discrete (q .start) (q .stop)) [
         | yes e ↦ ap isEmpty (queue-none q (omega arith)) ∙ sym (eq-eqb (q .start) (q .stop) e)

@@ -3,19 +3,20 @@ use Prim.Native.Nat.{ℕ, zero, suc, _+_, _*_, _^_, _<_, _≤_}
 use mathlib.Core.Bool.{Bool, true, false, cond, _&&_}
 use mathlib.Core.List.{List}
 use mathlib.Core.Logic.{⊎-elim}
-use mathlib.Core.Path.{_≡_, refl, sym, _∙_, ap, subst, fun-ext}
+use mathlib.Core.Path.{_≡_, refl, sym, _∙_, ap, subst}
 use native.Mathlib.Decide.{ℕ-discrete, decLt}
 use native.Mathlib.Nat.{mul-le-mul-right}
 use native.Mathlib.Omega.{arith}
-use borrow.Author.Tests.{leb-true, lt-ltb, ltb-true, eq-eqb, eqb-true}
-use lib.Dec.{leb, ltb, eqb}
+use borrow.Author.Tests.{leb-true, lt-ltb, ltb-true}
+use lib.Dec.{leb, ltb}
 use lib.ListN.{length, getD, set, List·getD-eq-default}
 use lib.Seq.{getD-set-same, getD-set-other}
 use Rattle.base.proofs.Below.{all-below, below-cases}
-use Rattle.base.proofs.Bools.{and-left, and-right, and-intro, clash}
+use Rattle.base.proofs.Bools.{and-left, and-right, and-intro}
 use Rattle.base.proofs.Choice.{cond-true}
 use Rattle.base.specs.Below.{allBelow}
-use Rattle.cells.specs.Layout.{BEHIND, regions, region, regionAt, address, Fits}
+use Rattle.cells.proofs.Stores.{store-is}
+use Rattle.cells.specs.Layout.{BEHIND, WORKCELLS, regions, region, regionAt, address, Fits}
 use Rattle.cells.specs.Memory.{memOf, store}
 use Rattle.cells.specs.declared.Region.{Region}
 
@@ -33,8 +34,8 @@ next-apart r h =
     (all-below BEHIND (λ r. leb (ends (regionAt r)) (regionAt (suc r) .base)) apart r h)
 
 -- behind the table all is one region
-pub past-table : (r : ℕ) → BEHIND ≤ r → regionAt r ≡ region BEHIND 24576 1 (2 ^ 64)
-past-table r h = List·getD-eq-default regions (region BEHIND 24576 1 (2 ^ 64)) h
+pub past-table : (r : ℕ) → BEHIND ≤ r → regionAt r ≡ region BEHIND WORKCELLS 1 (2 ^ 64)
+past-table r h = List·getD-eq-default regions (region BEHIND WORKCELLS 1 (2 ^ 64)) h
 
 before : (r s : ℕ) → r < BEHIND → r < s → ends (regionAt r) ≤ regionAt s .base
 before r zero h l = omega arith
@@ -55,7 +56,7 @@ within : (g : Region) (i j : ℕ) → i < g .rows → j < g .cols → address g 
 within g i j h l = omega (arith, mul-le-mul-right (g .cols) h)
 
 -- a place of a region of the table is one of the needed cells
-pub place-low : (r i j : ℕ) → r < BEHIND → i < regionAt r .rows → j < regionAt r .cols → address (regionAt r) i j < 24576
+pub place-low : (r i j : ℕ) → r < BEHIND → i < regionAt r .rows → j < regionAt r .cols → address (regionAt r) i j < WORKCELLS
 place-low r i j h row col = omega (arith, within (regionAt r) i j row col, before r BEHIND h h)
 
 -- within a region, two places are one only if row and column are
@@ -69,14 +70,9 @@ same-place n i j i′ j′ h h′ e =
       ]
     ]
 
-module _ (cells : List ℕ) (r i j : ℕ) (low : r < BEHIND) (row : i < regionAt r .rows) (col : j < regionAt r .cols)
-    (long : 24576 ≤ length cells) where
-  -- the place lies in the cells
-  in-cells : address (regionAt r) i j < length cells
-  in-cells = omega (arith, within (regionAt r) i j row col, before r BEHIND low low)
-
+module _ (r i j : ℕ) (low : r < BEHIND) (row : i < regionAt r .rows) (col : j < regionAt r .cols) where
   -- another place of a region is another cell
-  other-cell : (s k l : ℕ) → k < regionAt s .rows → l < regionAt s .cols → (s ≡ r → l ≡ j → k ≡ i → ⊥)
+  other-cell : (s k l : ℕ) → k < regionAt s .rows → l < regionAt s .cols → (s ≡ r → k ≡ i → l ≡ j → ⊥)
       → address (regionAt s) k l ≡ address (regionAt r) i j → ⊥
   other-cell s k l row′ col′ n e =
       elim (ℕ-discrete s r) [
@@ -93,57 +89,44 @@ module _ (cells : List ℕ) (r i j : ℕ) (low : r < BEHIND) (row : i < regionAt
           subst (λ (t : ℕ). address (regionAt t) k l ≡ address (regionAt r) i j) p e in
           let c′ : l < regionAt r .cols = subst (λ (t : ℕ). l < regionAt t .cols) p col′ in
           let q = same-place (regionAt r .cols) k l i j c′ col (omega arith) in
-          n p (q .1) (q .0)
+          n p (q .0) (q .1)
 
-  -- a read
-  pub mem-get : memOf cells r i j ≡ getD cells (address (regionAt r) i j) 0
-  unfolding memOf
-  mem-get = cond-true _ 0 (and-intro (lt-ltb i (regionAt r .rows) row) (lt-ltb j (regionAt r .cols) col))
+-- a read
+mem-get : (cells : List ℕ) (r i j : ℕ) → i < regionAt r .rows → j < regionAt r .cols
+    → memOf cells r i j ≡ getD cells (address (regionAt r) i j) 0
+unfolding memOf
+mem-get cells r i j row col =
+    cond-true _ 0 (and-intro (lt-ltb i (regionAt r .rows) row) (lt-ltb j (regionAt r .cols) col))
 
-  -- a store
-  pub mem-put : (v : ℕ) → memOf (set cells (address (regionAt r) i j) v) ≡ store (memOf cells) r i j v
+module _ (cells : List ℕ) (r i j v : ℕ) (low : r < BEHIND) (row : i < regionAt r .rows) (col : j < regionAt r .cols)
+    (long : WORKCELLS ≤ length cells) where
+  -- the cells after a store
+  abbrev new : List ℕ
+  new = set cells (address (regionAt r) i j) v
+
+  -- it puts its value
+  put-here : memOf new r i j ≡ v
+  put-here =
+      mem-get new r i j row col
+      ∙ getD-set-same cells (address (regionAt r) i j) v 0 (omega (arith, place-low r i j low row col))
+
+  -- and leaves every other point alone
+  put-apart : (s k l : ℕ) → (s ≡ r → k ≡ i → l ≡ j → ⊥) → memOf new s k l ≡ memOf cells s k l
   unfolding memOf
-  mem-put v = fun-ext λ s. fun-ext λ k. fun-ext λ l. at-place s k l
+  put-apart s k l n = go (ltb k (regionAt s .rows) && ltb l (regionAt s .cols)) refl
     where
-      inside : ℕ → ℕ → ℕ → Bool
-      inside s k l = ltb k (regionAt s .rows) && ltb l (regionAt s .cols)
+      go : (b : Bool) → ltb k (regionAt s .rows) && ltb l (regionAt s .cols) ≡ b
+          → cond b (getD new (address (regionAt s) k l) 0) 0 ≡ cond b (getD cells (address (regionAt s) k l) 0) 0
+      go true e =
+          getD-set-other cells (address (regionAt r) i j) (address (regionAt s) k l) v 0
+          (other-cell r i j low row col s k l
+          (ltb-true k (regionAt s .rows) (and-left (ltb k (regionAt s .rows)) (ltb l (regionAt s .cols)) e))
+          (ltb-true l (regionAt s .cols) (and-right (ltb k (regionAt s .rows)) (ltb l (regionAt s .cols)) e)) n)
+      go false e = refl
 
-      here : ℕ → ℕ → ℕ → Bool
-      here s k l = eqb s r && eqb l j && eqb k i
-
-      new : List ℕ
-      new = set cells (address (regionAt r) i j) v
-
-      apart-here : (s k l : ℕ) → here s k l ≡ false → s ≡ r → l ≡ j → k ≡ i → ⊥
-      apart-here s k l e p q t = clash (and-intro (and-intro (eq-eqb s r p) (eq-eqb l j q)) (eq-eqb k i t)) e
-
-      at-place : (s k l : ℕ)
-          → cond (inside s k l) (getD new (address (regionAt s) k l) 0) 0
-          ≡ cond (here s k l) v (cond (inside s k l) (getD cells (address (regionAt s) k l) 0) 0)
-      at-place s k l = go (inside s k l) refl (here s k l) refl
-        where
-          go : (a : Bool) → inside s k l ≡ a → (b : Bool) → here s k l ≡ b
-              → cond a (getD new (address (regionAt s) k l) 0) 0
-              ≡ cond b v (cond a (getD cells (address (regionAt s) k l) 0) 0)
-          go a e true f =
-              let p : s ≡ r = eqb-true s r (and-left (eqb s r) (eqb l j) (and-left (eqb s r && eqb l j) (eqb k i) f)) in
-              let q : l ≡ j = eqb-true l j (and-right (eqb s r) (eqb l j) (and-left (eqb s r && eqb l j) (eqb k i) f)) in
-              let t : k ≡ i = eqb-true k i (and-right (eqb s r && eqb l j) (eqb k i) f) in
-              cond-true (getD new (address (regionAt s) k l) 0) 0 (sym e ∙ in-range p q t) ∙ at-changed p q t
-            where
-              in-range : s ≡ r → l ≡ j → k ≡ i → inside s k l ≡ true
-              in-range p q t =
-                  rw (p, q, t) (and-intro (lt-ltb i (regionAt r .rows) row) (lt-ltb j (regionAt r .cols) col))
-
-              at-changed : s ≡ r → l ≡ j → k ≡ i → getD new (address (regionAt s) k l) 0 ≡ v
-              at-changed p q t = rw (p, q, t) (getD-set-same cells (address (regionAt r) i j) v 0 in-cells)
-          go true e false f =
-              getD-set-other cells (address (regionAt r) i j) (address (regionAt s) k l) v 0
-              (other-cell s k l
-              (ltb-true k (regionAt s .rows) (and-left (ltb k (regionAt s .rows)) (ltb l (regionAt s .cols)) e))
-              (ltb-true l (regionAt s .cols) (and-right (ltb k (regionAt s .rows)) (ltb l (regionAt s .cols)) e))
-              (apart-here s k l f))
-          go false e false f = refl
+  -- so it is a store in the memory
+  mem-put : memOf new ≡ store (memOf cells) r i j v
+  mem-put = store-is (memOf cells) r i j v (memOf new) put-here put-apart
 
 -- ---- the same for a region that the code names
 
@@ -159,21 +142,16 @@ module _ (cells : List ℕ) (g : Region) (i j : ℕ) (fits : Fits cells g i j) w
   col-known = subst (λ (h : Region). j < h .cols) (sym (fits .known)) (fits .col)
 
   -- a place is one of the needed cells
-  pub place-needed : address g i j < 24576
+  pub place-needed : address g i j < WORKCELLS
   place-needed =
-      by-table (λ h. address h i j < 24576)
-      (omega (
-        arith,
-        within (regionAt (g .id)) i j row-known col-known,
-        before (g .id) BEHIND (fits .writable) (fits .writable),
-      ))
+      by-table (λ h. address h i j < WORKCELLS) (place-low (g .id) i j (fits .writable) row-known col-known)
 
   pub get-law : memOf cells (g .id) i j ≡ getD cells (address g i j) 0
   get-law =
       by-table (λ h. memOf cells (g .id) i j ≡ getD cells (address h i j) 0)
-      (mem-get cells (g .id) i j (fits .writable) row-known col-known (fits .long))
+      (mem-get cells (g .id) i j row-known col-known)
 
   pub put-law : (v : ℕ) → memOf (set cells (address g i j) v) ≡ store (memOf cells) (g .id) i j v
   put-law v =
       by-table (λ h. memOf (set cells (address h i j) v) ≡ store (memOf cells) (g .id) i j v)
-      (mem-put cells (g .id) i j (fits .writable) row-known col-known (fits .long) v)
+      (mem-put cells (g .id) i j v (fits .writable) row-known col-known (fits .long))

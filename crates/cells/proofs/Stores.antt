@@ -1,13 +1,14 @@
 -- Stores, pushes and copies: what is at a point after them.
 use Prim.Native.Nat.{ℕ, _+_, _<_}
 use mathlib.Core.Bool.{Bool, true, false, cond, _&&_}
-use mathlib.Core.Path.{_≡_, refl, _∙_}
+use mathlib.Core.Path.{_≡_, refl, sym, _∙_, fun-ext}
+use native.Mathlib.Decide.{ℕ-discrete}
 use borrow.Author.Tests.{eqb-true, eq-eqb, lt-ltb}
 use lib.Dec.{ltb, eqb}
 use Rattle.base.proofs.Bools.{and-left, and-right, and-intro, refuted}
 use Rattle.base.proofs.Choice.{cond-true, cond-false}
 use Rattle.base.proofs.Loops.{loop-same}
-use Rattle.cells.specs.Layout.{WORKERS, LOG, WORK, TAIL}
+use Rattle.cells.specs.Layout.{WORKERS, LOG, WORK, TAIL, LABELROOM}
 use Rattle.cells.specs.Lists.{pushM, copyLabelM, copyM}
 use Rattle.cells.specs.Memory.{Mem, store}
 
@@ -30,21 +31,42 @@ module _ (m : Mem) (r i j v : ℕ) where
   pub store-apart : (s k l : ℕ) → (s ≡ r → ⊥) → store m r i j v s k l ≡ m s k l
   store-apart s k l apart = store-other s k l (λ e x y. apart e)
 
+  -- what has the value there, and all else as before, is the store
+  pub store-is : (n : Mem) → n r i j ≡ v → ((s k l : ℕ) → (s ≡ r → k ≡ i → l ≡ j → ⊥) → n s k l ≡ m s k l)
+      → n ≡ store m r i j v
+  store-is n here there = fun-ext λ s. fun-ext λ k. fun-ext λ l. at-point s k l
+    where
+      at-point : (s k l : ℕ) → n s k l ≡ store m r i j v s k l
+      at-point s k l =
+          elim (ℕ-discrete s r) [
+            | yes p ↦ elim (ℕ-discrete k i) [
+              | yes q ↦ elim (ℕ-discrete l j) [
+                | yes t ↦ rw (p, q, t) (here ∙ sym store-same)
+                | no d ↦ kept (λ p q t. d t)
+              ]
+              | no d ↦ kept (λ p q t. d q)
+            ]
+            | no d ↦ kept (λ p q t. d p)
+          ]
+        where
+          kept : (s ≡ r → k ≡ i → l ≡ j → ⊥) → n s k l ≡ store m r i j v s k l
+          kept d = there s k l d ∙ sym (store-other s k l d)
+
 -- the point is neither in row `i` of a region nor the end that a column of the worker's row keeps
-abbrev pub Beside : ℕ → ℕ → ℕ → ℕ → ℕ → ℕ → Type 0
-Beside q col i r a b = (r ≡ q → a ≡ i → ⊥) × (r ≡ WORKERS → a ≡ i → b ≡ col → ⊥)
+abbrev pub OffList : ℕ → ℕ → ℕ → ℕ → ℕ → ℕ → Type 0
+OffList q col i r a b = (r ≡ q → a ≡ i → ⊥) × (r ≡ WORKERS → a ≡ i → b ≡ col → ⊥)
 
 module _ (q col i c : ℕ) (m : Mem) where
   -- with room, a push is two stores
-  pub push-stores : m WORKERS i col < 512
+  pub push-stores : m WORKERS i col < LABELROOM
       → pushM q col i c m ≡ store (store m q i (m WORKERS i col) c) WORKERS i col (m WORKERS i col + 1)
   unfolding pushM
-  push-stores h = cond-true _ m (lt-ltb (m WORKERS i col) 512 h)
+  push-stores h = cond-true _ m (lt-ltb (m WORKERS i col) LABELROOM h)
 
   -- a push changes its row and the column of its end alone
-  pub push-other : (r a b : ℕ) → Beside q col i r a b → pushM q col i c m r a b ≡ m r a b
+  pub push-other : (r a b : ℕ) → OffList q col i r a b → pushM q col i c m r a b ≡ m r a b
   unfolding pushM
-  push-other r a b h = go (ltb (m WORKERS i col) 512)
+  push-other r a b h = go (ltb (m WORKERS i col) LABELROOM)
     where
       go : (t : Bool)
           → cond t (store (store m q i (m WORKERS i col) c) WORKERS i col (m WORKERS i col + 1)) m r a b ≡ m r a b
@@ -54,7 +76,7 @@ module _ (q col i c : ℕ) (m : Mem) where
       go false = refl
 
 -- a copy changes the reader's work list alone
-pub copy-other : (j i from n : ℕ) (m : Mem) (r a b : ℕ) → Beside WORK TAIL i r a b → copyM j i from n m r a b ≡ m r a b
+pub copy-other : (j i from n : ℕ) (m : Mem) (r a b : ℕ) → OffList WORK TAIL i r a b → copyM j i from n m r a b ≡ m r a b
 unfolding copyM
 copy-other j i from n m r a b h =
     loop-same (λ o. o r a b) n (copyLabelM j i from) (λ k l o. push-other WORK TAIL i (o LOG j (from + k)) o r a b h) m

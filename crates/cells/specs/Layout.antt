@@ -69,10 +69,11 @@ BEHIND = 14
 
 -- ---- the columns of a worker's row
 
--- the work list is what stands from HEAD to TAIL
+-- where the work list begins
 abbrev pub HEAD : ℕ
 HEAD = 0
 
+-- where it ends
 abbrev pub TAIL : ℕ
 TAIL = 1
 
@@ -96,10 +97,11 @@ HELD = 5
 abbrev pub POLLS : ℕ
 POLLS = 6
 
--- messages put for the controller, and those that it has read
+-- messages put for the controller
 abbrev pub OUTEND : ℕ
 OUTEND = 7
 
+-- those of them that it has read
 abbrev pub OUTREAD : ℕ
 OUTREAD = 8
 
@@ -108,6 +110,10 @@ OUTREAD = 8
 -- the work cells that a run needs, `workNeed` of disac4 and WORK_CELLS in its code: the table's regions lie within
 abbrev pub WORKCELLS : ℕ
 WORKCELLS = 24576
+
+-- the list cells that a run needs, `listNeed` of disac4 and LIST_CELLS in its code
+abbrev pub LISTCELLS : ℕ
+LISTCELLS = 32
 
 -- labels that a row of LOG or WORK has room for: as many as a plan may have
 abbrev pub LABELROOM : ℕ
@@ -131,9 +137,11 @@ LISTSMAX = 65535
 
 -- ---- the table
 
+-- a region by its parts
 abbrev pub region : ℕ → ℕ → ℕ → ℕ → Region
 region id base rows cols = record { id = id; base = base; rows = rows; cols = cols }
 
+-- the regions, each at its number: one begins where the one before it ends
 abbrev pub regions : List Region
 regions =
     region WORKERS 0 8 16
@@ -152,6 +160,7 @@ regions =
     ∷ region FOLLOW 23496 32 32
     ∷ []
 
+-- the region of a number: past the table, all the cells behind the needed ones
 abbrev pub regionAt : ℕ → Region
 regionAt r = getD regions r (region BEHIND WORKCELLS 1 (2 ^ 64))
 

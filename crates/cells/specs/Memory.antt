@@ -6,14 +6,16 @@ use lib.Dec.{ltb, eqb}
 use lib.ListN.{getD}
 use Rattle.cells.specs.Layout.{BEHIND, regionAt, address}
 
+-- a number for each region, row and column
 abbrev pub Mem : Type 0
 Mem = ℕ → ℕ → ℕ → ℕ
 
--- 0 outside of the region
+-- what the cells hold, and 0 outside of the regions
 unfoldable pub memOf : List ℕ → Mem
 memOf cells r i j =
     cond (ltb i (regionAt r .rows) && ltb j (regionAt r .cols)) (getD cells (address (regionAt r) i j) 0) 0
 
+-- `v` at row `i` and column `j` of region `r`, all else as before
 abbrev pub store : Mem → ℕ → ℕ → ℕ → ℕ → Mem
 store m r i j v r′ i′ j′ = cond (eqb r′ r && eqb j′ j && eqb i′ i) v (m r′ i′ j′)
 

@@ -13,8 +13,9 @@ use Rattle.base.specs.Row.{bit}
 use Rattle.disac4.specs.System.{System}
 use Rattle.disac4.specs.declared.Poll.{Poll}
 use Rattle.disac4.specs.declared.Tally.{Tally}
-use Rattle.cells.specs.Layout.{WANTED, WORKERS, OUT, OUTEND, OUTREAD}
+use Rattle.cells.specs.Layout.{WANTED, WORKERS, OUT, OUTEND, OUTREAD, OUTROOM, POLLROOM, LISTSMAX}
 use Rattle.cells.specs.Memory.{Mem, memOf, store}
+use Rattle.cells.specs.View.{LISTMARK}
 use Rattle.controller.proofs.Marks.{mark-small}
 use Rattle.controller.specs.Controller.{askedT, asksT, countedT, withMark, markedT, toldT, hasOut, outReadM, askM, Machine, machine, pollM, hearM}
 
@@ -40,26 +41,26 @@ unfolding markedT
 marked-as p i r n t e f = rw (e, f)
 
 module _ (p i c : ℕ) (t : Tally) where
-  pub told-list : {u : Tally} → 1024 ≤ c → u ≡ countedT t → u ≡ toldT p i c t
+  pub told-list : {u : Tally} → LISTMARK ≤ c → u ≡ countedT t → u ≡ toldT p i c t
   unfolding toldT
-  told-list h e = rw (le-leb 1024 c h) e
+  told-list h e = rw (le-leb LISTMARK c h) e
 
-  module _ (h₁ : c < 1024) where
+  module _ (h₁ : c < LISTMARK) where
     pub told-closed : not (t .polling) ≡ true → t ≡ toldT p i c t
     unfolding toldT
-    told-closed h = rw (lt-leb 1024 c h₁, not-true (t .polling) h)
+    told-closed h = rw (lt-leb LISTMARK c h₁, not-true (t .polling) h)
 
     module _ (h₂ : not (t .polling) ≡ false) {same : Bool} (q : same ≡ eqb c (t .timestamp .0)) where
       pub told-late : not same ≡ true → t ≡ toldT p i c t
       unfolding toldT
-      told-late h = rw (lt-leb 1024 c h₁, not-false (t .polling) h₂, ← q, not-true same h)
+      told-late h = rw (lt-leb LISTMARK c h₁, not-false (t .polling) h₂, ← q, not-true same h)
 
       pub told-reply : {u : Tally} → not same ≡ false → u ≡ markedT p i t → u ≡ toldT p i c t
       unfolding toldT
       told-reply h e =
           e
           ∙ sym
-          (cond-false (countedT t) _ (lt-leb 1024 c h₁)
+          (cond-false (countedT t) _ (lt-leb LISTMARK c h₁)
           ∙ cond-true _ t (not-false (t .polling) h₂)
           ∙ cond-true (markedT p i t) t (sym q ∙ not-false same h))
 
@@ -81,11 +82,11 @@ module _ (t : Tally) (u : Tally) (e : u ≡ askedT t) (q : Poll) (f : (q .number
   poll-put m m′ p = rw (p, f .0, f .1, e)
 
 module _ (t : Tally) {b : Bool} (q : b ≡ asksT t) where
-  pub asks-room : not b ≡ false → t .timestamp .0 < 519
+  pub asks-room : not b ≡ false → t .timestamp .0 < POLLROOM
   unfolding asksT
   asks-room h =
-      ltb-true (t .timestamp .0) 519
-      (and-right (not (t .polling)) (ltb (t .timestamp .0) 519) (sym q ∙ not-false b h))
+      ltb-true (t .timestamp .0) POLLROOM
+      (and-right (not (t .polling)) (ltb (t .timestamp .0) POLLROOM) (sym q ∙ not-false b h))
 
   module _ (cells : List ℕ) where
     pub poll-idle : not b ≡ true → pollM (machine cells t) ≡ none
@@ -99,14 +100,14 @@ module _ (t : Tally) {b : Bool} (q : b ≡ asksT t) where
 
 -- ---- read, controller
 
-module _ (t : Tally) (read end : ℕ) {b : Bool} (q : b ≡ ltb read end && ltb read 520 && ltb (t .lists .0) 65535) where
+module _ (t : Tally) (read end : ℕ) {b : Bool} (q : b ≡ ltb read end && ltb read OUTROOM && ltb (t .lists .0) LISTSMAX) where
   -- where it finds a message, it has room for its place and for the count
-  pub hear-room : not b ≡ false → (read < 520) × (t .lists .0 < 65535)
+  pub hear-room : not b ≡ false → (read < OUTROOM) × (t .lists .0 < LISTSMAX)
   hear-room h =
       let found = sym q ∙ not-false b h in
-      let unread = and-left (ltb read end && ltb read 520) (ltb (t .lists .0) 65535) found in (
-        ltb-true read 520 (and-right (ltb read end) (ltb read 520) unread),
-        ltb-true (t .lists .0) 65535 (and-right (ltb read end && ltb read 520) (ltb (t .lists .0) 65535) found),
+      let unread = and-left (ltb read end && ltb read OUTROOM) (ltb (t .lists .0) LISTSMAX) found in (
+        ltb-true read OUTROOM (and-right (ltb read end) (ltb read OUTROOM) unread),
+        ltb-true (t .lists .0) LISTSMAX (and-right (ltb read end && ltb read OUTROOM) (ltb (t .lists .0) LISTSMAX) found),
       )
 
   module _ (sys : System) (i : ℕ) (cells : List ℕ) (q₁ : read ≡ memOf cells WORKERS i OUTREAD)

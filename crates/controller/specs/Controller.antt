@@ -1,12 +1,15 @@
 -- The controller's actions in memory: poll and read, on the work cells and the tally beside them. A test against a region's
 -- size stands for room that the refinement shows is never lacking.
-use Prim.Native.Nat.{ℕ, _+_, _^_}
+use Prim.Native.Nat.{ℕ, _+_, _^_, _<_, _≤_}
 use mathlib.Core.Bool.{Bool, true, false, cond, _&&_, not}
 use mathlib.Core.List.{List}
 use mathlib.Core.Option.{Option, none, some}
+use mathlib.Core.Path.{_≡_}
 use lib.Dec.{leb, ltb, eqb}
+use lib.ListN.{length}
 use Rattle.base.specs.Row.{bit}
-use Rattle.cells.specs.Layout.{OUT, WANTED, WORKERS, OUTEND, OUTREAD, OUTROOM, POLLROOM, LISTSMAX}
+use Rattle.cells.specs.Acts.{Acts}
+use Rattle.cells.specs.Layout.{OUT, WANTED, WORKERS, OUTEND, OUTREAD, WORKCELLS, OUTROOM, POLLROOM, LISTSMAX}
 use Rattle.cells.specs.Memory.{Mem, memOf, store}
 use Rattle.cells.specs.View.{LISTMARK}
 use Rattle.disac4.specs.System.{System}
@@ -17,6 +20,7 @@ pub record Machine : Type 0 where
   pub mem : Mem
   pub tally : Tally
 
+-- those of a run's cells and tally
 abbrev pub machine : List ℕ → Tally → Machine
 machine cells t = record { mem = memOf cells; tally = t }
 
@@ -36,6 +40,7 @@ askedT t = record {
 unfoldable pub asksT : Tally → Bool
 asksT t = not (t .polling) && ltb (t .timestamp .0) POLLROOM
 
+-- the wanted count of the next poll is put at its number
 unfoldable pub askM : Tally → Mem → Mem
 askM t m = store m WANTED 0 (t .timestamp .0 + 1) (t .lists .0)
 
@@ -80,6 +85,7 @@ unfoldable pub hasOut : ℕ → Tally → Mem → Bool
 hasOut i t m =
     ltb (m WORKERS i OUTREAD) (m WORKERS i OUTEND) && ltb (m WORKERS i OUTREAD) OUTROOM && ltb (t .lists .0) LISTSMAX
 
+-- one message more of row `i` is read
 unfoldable pub outReadM : ℕ → Mem → Mem
 outReadM i m = store m WORKERS i OUTREAD (m WORKERS i OUTREAD + 1)
 
@@ -92,3 +98,12 @@ hearM sys i s =
       tally = toldT (sys .workers) i (s .mem OUT i (s .mem WORKERS i OUTREAD)) (s .tally);
     }))
     none
+
+-- what the code of that read asks: the needed cells, and a tally, a count of workers and a row of at most eight
+abbrev pub Hearable : List ℕ → Tally → ℕ → ℕ → Type 0
+Hearable cells t p i = (WORKCELLS ≤ length cells) × (t .marks < 256) × (i < 8) × (p ≤ 8)
+
+-- and what it does to cells and tally, of `p` workers: it gives 1 where something changed
+abbrev pub Heard : List ℕ → Tally → ℕ → ℕ → List ℕ → Tally → ℕ → Type 0
+Heard before t p i after u r =
+    (sys : System) → sys .workers ≡ p → Acts (hearM sys i) (machine before t) (machine after u) r

@@ -21,11 +21,10 @@ ghost use mathlib.Core.Path.{_≡_};
 ghost use Prim.Native.Nat.{_<_, _≤_};
 ghost use lib.Dec.{ltb, eqb};
 ghost use lib.ListN.{length};
-ghost use Rattle.disac4.specs.System.{System};
 ghost use Rattle.cells.specs.Acts.{Acts};
 ghost use Rattle.cells.specs.Layout.{WANTED, WORKCELLS, OUTROOM, POLLROOM, LISTSMAX};
 ghost use Rattle.cells.specs.Memory.{memOf, store};
-ghost use Rattle.controller.specs.Controller.{askedT, asksT, countedT, withMark, markedT, toldT, machine, pollM, hearM};
+ghost use Rattle.controller.specs.Controller.{askedT, asksT, countedT, withMark, markedT, toldT, machine, pollM, Hearable, Heard};
 
 // What an action of the controller gives: 1 where it changed something, and the tally after it.
 pub struct Controlled {
@@ -184,8 +183,8 @@ fn has_out(read: usize, end: usize, lists: u16) -> bool
 
 // Read: the controller takes the next message of row `i`, of `p` workers.
 pub fn hear(cells: &mut [u16], t: Tally, p: usize, i: usize) -> Controlled
-    requires { ⌜ (WORKCELLS ≤ length (now cells)) × (t .marks < 256) × (i < 8) × (p ≤ 8) ⌝ }
-    ensures { λ r. ⌜ ((sys : System) → sys .workers ≡ p → Acts (hearM sys i) (machine (now (cells .entry)) t) (machine (now (cells .exit)) (r .tally)) (r .changed)) ⌝ }
+    requires { ⌜ Hearable (now cells) t p i ⌝ }
+    ensures { λ r. ⌜ Heard (now (cells .entry)) t p i (now (cells .exit)) (r .tally) (r .changed) ⌝ }
 {
     let lists = t.lists;
     let read = get(cells, WORKERS, i, OUTREAD);

@@ -18,11 +18,11 @@ ghost use Rattle.plan.specs.Plan.{sizeOf};
 ghost use Rattle.format.specs.Format.{variableCount};
 ghost use Rattle.index.specs.Index.{Ready};
 ghost use Rattle.cells.specs.Memory.{memOf};
-ghost use Rattle.counting.specs.Count.{Rows, supportRow, countPairM, countBothM, countVariableM, countSupportsM};
+ghost use Rattle.counting.specs.Count.{FirstRows, supportRow, countPairM, countBothM, countVariableM, countSupportsM};
 
 // Rows without a value.
 fn no_rows() -> [u16; 16]
-    ensures { λ r. ⌜ Rows (λ w. 0) 16 r ⌝ }
+    ensures { λ r. ⌜ FirstRows (λ w. 0) 16 r ⌝ }
 {
     [0; 16]
 }
@@ -30,7 +30,7 @@ fn no_rows() -> [u16; 16]
 // Puts value v into the row of each value that the row of v holds. The rows have lower values only, so its bit is added.
 fn gather(rows: &mut [u16; 16], row: usize, v: usize)
     requires { ⌜ (length (now rows) ≡ 16) × (v < 16) × ((w : ℕ) → w < 16 → getD (now rows) w 0 < 2 ^ v) ⌝ }
-    ensures { λ _. ⌜ Rows (λ w. getD (now (rows .entry)) w 0 + cond (bit row w) (2 ^ v) 0) 16 (now (rows .exit)) ⌝ }
+    ensures { λ _. ⌜ FirstRows (λ w. getD (now (rows .entry)) w 0 + cond (bit row w) (2 ^ v) 0) 16 (now (rows .exit)) ⌝ }
 {
     let mut w = 0;
     while w < 16 {
@@ -42,8 +42,8 @@ fn gather(rows: &mut [u16; 16], row: usize, v: usize)
 // The rows of the values of x against y, which shares a constraint with x. On the way the rows of y against x are gathered
 // in `others`: that of a value of y has the values of x whose rows hold it.
 fn support_rows(b: &[u8], cells: &[u16], x: usize, y: usize, others: &mut [u16; 16]) -> [u16; 16]
-    requires { ⌜ Ready (now b) (now cells) × (shareConstraint (planOf (now b)) x y ≡ true) × Rows (λ w. 0) 16 (now others) ⌝ }
-    ensures { λ r. ⌜ Rows (supportRow (networkOf (planOf (now (b .entry)))) x y) (sizeOf (planOf (now (b .entry))) x) r × Rows (supportRow (networkOf (planOf (now (b .entry)))) y x) (sizeOf (planOf (now (b .entry))) y) (now (others .exit)) ⌝ }
+    requires { ⌜ Ready (now b) (now cells) × (shareConstraint (planOf (now b)) x y ≡ true) × FirstRows (λ w. 0) 16 (now others) ⌝ }
+    ensures { λ r. ⌜ FirstRows (supportRow (networkOf (planOf (now (b .entry)))) x y) (sizeOf (planOf (now (b .entry))) x) r × FirstRows (supportRow (networkOf (planOf (now (b .entry)))) y x) (sizeOf (planOf (now (b .entry))) y) (now (others .exit)) ⌝ }
 {
     let n = parts::size(b, cells, x);
     let mut rows = no_rows();
@@ -59,7 +59,7 @@ fn support_rows(b: &[u8], cells: &[u16], x: usize, y: usize, others: &mut [u16; 
 
 // The counters of the values of x against y, whose rows are given. Every count is made by the function that calls itself.
 fn put_counts(b: &[u8], cells: &mut [u16], x: usize, y: usize, rows: &[u16; 16])
-    requires { ⌜ Ready (now b) (now cells) × (shareConstraint (planOf (now b)) x y ≡ true) × Rows (supportRow (networkOf (planOf (now b))) x y) (sizeOf (planOf (now b)) x) (now rows) ⌝ }
+    requires { ⌜ Ready (now b) (now cells) × (shareConstraint (planOf (now b)) x y ≡ true) × FirstRows (supportRow (networkOf (planOf (now b))) x y) (sizeOf (planOf (now b)) x) (now rows) ⌝ }
     ensures { λ _. ⌜ memOf (now (cells .exit)) ≡ countPairM (systemAt (now (b .entry))) x y (memOf (now (cells .entry))) ⌝ }
 {
     let n = parts::size(b, cells, x);

@@ -21,7 +21,7 @@ use Rattle.plan.specs.Decode.{planFault}
 module _ (b : List ℕ) (sound : planFault b ≡ none) (m : Mem) (ts : List Turn) (cells : List ℕ) (g : Progress)
     (at : At b m ts cells g) where
   -- the report of the cells is that of the turns
-  pub report-of-turns : reportM (systemAt b) (memOf cells) g ≡ reportOf (systemAt b) ts
+  report-of-turns : reportM (systemAt b) (memOf cells) g ≡ reportOf (systemAt b) ts
   unfolding reportM reportOf
   report-of-turns = λ i. record {
     status = statusOf (systemAt b) (under-view b sound m ts cells g at i);
@@ -32,7 +32,7 @@ module _ (b : List ℕ) (sound : planFault b ≡ none) (m : Mem) (ts : List Turn
   }
 
   -- so are the list cells
-  pub lists-of-turns : (lists : List ℕ)
+  lists-of-turns : (lists : List ℕ)
       → overwrite (listCells (systemAt b) (view (systemAt b) (memOf cells) (g .tally))) lists
       ≡ overwrite (listCells (systemAt b) (final (systemAt b) ts)) lists
   lists-of-turns lists = ap (λ (st : State). overwrite (listCells (systemAt b) st) lists) (under-view b sound m ts cells g at)

@@ -4,7 +4,9 @@ use mathlib.Core.List.{List, []}
 use mathlib.Core.Option.{none}
 use mathlib.Core.Path.{_≡_, refl, sym, _∙_, ap, subst}
 use lib.ListN.{length, replicate}
+use Rattle.cells.specs.Layout.{WORKCELLS}
 use Rattle.cells.specs.Memory.{Mem, memOf, clearedM}
+use Rattle.controller.proofs.ControllerLaws.{stands}
 use Rattle.controller.specs.Controller.{machine}
 use Rattle.disac4.specs.Fold.{playBy, gatherBy, countBy}
 use Rattle.disac4.specs.Outcome.{overwrite, workNeed}
@@ -23,7 +25,7 @@ module _ (b c₀ c₁ c₂ : List ℕ) (sound : planFault b ≡ none) (cleared :
   ground = made ∙ ap (indexM b) (ap memOf cleared ∙ cleared-memory c₀)
 
   -- cleared and indexed cells are ready to load the plan
-  pub start-ready : 24576 ≤ length c₂ → Ready b c₂
+  pub start-ready : WORKCELLS ≤ length c₂ → Ready b c₂
   unfolding clearedM
   start-ready long = record {
     sound = sound;
@@ -35,7 +37,7 @@ module _ (b c₀ c₁ c₂ : List ℕ) (sound : planFault b ≡ none) (cleared :
   pub start-made : (c₃ : List ℕ) (t : Tally) → memOf c₃ ≡ loadM (systemAt b) (memOf c₂) → t ≡ freshTally
       → machine c₃ t ≡ startM b (memOf c₀)
   unfolding startM
-  start-made c₃ t e f = λ i. record { mem = (e ∙ ap (loadM (systemAt b)) ground) i; tally = f i }
+  start-made c₃ t e f = stands c₃ t (startM b (memOf c₀)) (e ∙ ap (loadM (systemAt b)) ground) f
 
 -- a loaded plan has played no turns
 pub begins : (b : List ℕ) (m : Mem) (cells : List ℕ) (t : Tally) → machine cells t ≡ startM b m

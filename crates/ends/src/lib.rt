@@ -11,7 +11,7 @@ ghost use mathlib.Core.Option.{none};
 ghost use mathlib.Core.Path.{_≡_};
 ghost use Prim.Native.Nat.{_≤_};
 ghost use lib.ListN.{length};
-ghost use Rattle.cells.specs.Layout.{WORKCELLS};
+ghost use Rattle.cells.specs.Layout.{WORKCELLS, LISTCELLS};
 ghost use Rattle.cells.specs.Memory.{memOf};
 ghost use Rattle.controller.specs.Controller.{machine};
 ghost use Rattle.plan.specs.Decode.{planFault};
@@ -57,7 +57,7 @@ pub fn load(plan: &[u8], work: &mut [u16]) -> Progress
 
 // Ends a run that has played its turns.
 pub fn finish(b: &[u8], cells: &mut [u16], lists: &mut [u16], g: Progress) -> Report
-    requires { ⌜ Going (now b) (now cells) g × (32 ≤ length (now lists)) ⌝ }
+    requires { ⌜ Going (now b) (now cells) g × (LISTCELLS ≤ length (now lists)) ⌝ }
     ensures { λ r. ⌜ Finishes (now (b .entry)) (now (cells .entry)) (now (lists .entry)) g (now (cells .exit)) (now (lists .exit)) r ⌝ }
 {
     report::write_lists(b, cells, lists);

@@ -6,12 +6,13 @@ use mathlib.Core.Option.{none}
 use mathlib.Core.Path.{_≡_, sym, _∙_, ap}
 use native.Mathlib.Nat.{pow-le-pow-right}
 use native.Mathlib.Omega.{arith}
+use Rattle.base.proofs.Sums.{one-and}
 use Rattle.base.specs.Below.{one}
 use Rattle.disac4.specs.Fold.{isSome, afterBy}
 use Rattle.disac4.specs.Report.{isSend, isPoll}
 use Rattle.disac4.specs.System.{systemOf, systemAt}
 use Rattle.disac4.specs.Turn.{Turn, turn}
-use Rattle.engine.proofs.RunLaws.{workers-are, one-and}
+use Rattle.engine.proofs.RunLaws.{workers-are}
 use Rattle.refinement.proofs.Start.{fits-regions}
 use Rattle.refinement.proofs.Underway.{going-inv, going-ready, at-next}
 use Rattle.index.specs.Allowed.{Listed}

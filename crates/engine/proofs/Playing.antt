@@ -1,7 +1,7 @@
 -- A loop that plays the list `f i` in step `i`, for each `i` below `n`.
-use Prim.Native.Nat.{ℕ, zero, suc, _+_, _<_, _≤_}
-use mathlib.Core.List.{List, _++_, map, map-append}
-use mathlib.Core.Path.{_≡_, refl, sym, _∙_, ap, subst}
+use Prim.Native.Nat.{ℕ, _+_, _<_, _≤_}
+use mathlib.Core.List.{List}
+use mathlib.Core.Path.{_≡_, refl, _∙_, subst}
 use native.Mathlib.Numerals.{add-one}
 use native.Mathlib.Omega.{arith}
 use lib.ListN.{length}
@@ -38,10 +38,3 @@ module _ {b : List ℕ} {n : ℕ} {f : ℕ → List Turn} {cells₀ : List ℕ} 
   all-played h =
       let e : k ≡ n = omega (arith, p .passed) in
       subst (λ (j : ℕ). Plays b (gatherBelow j f) cells₀ g₀ cells g) e (p .plays)
-
--- a function of every member of joined lists
-pub map-gather : {A B : Type 0} (h : A → B) (n : ℕ) (f : ℕ → List A)
-    → gatherBelow n (λ i. map h (f i)) ≡ map h (gatherBelow n f)
-map-gather h zero f = refl
-map-gather h (suc n) f =
-    ap (λ l. l ++ map h (f n)) (map-gather h n f) ∙ sym (map-append h (gatherBelow n f) (f n))

@@ -1,6 +1,6 @@
 -- From what the actions' code ensures to what the code of a turn ensures.
 use Prim.Native.Nat.{ℕ, _-_, _<_, _≤_}
-use mathlib.Core.Bool.{Bool, true, false, cond, _&&_}
+use mathlib.Core.Bool.{true, false, cond}
 use mathlib.Core.List.{List}
 use mathlib.Core.Option.{Option, none}
 use mathlib.Core.Path.{_≡_, refl, sym, _∙_, ap}
@@ -13,7 +13,7 @@ use Rattle.base.specs.Below.{one}
 use Rattle.disac4.proofs.Allowed.{worker-bound, worker-does, controller-does, reads-worker}
 use Rattle.disac4.proofs.Fold.{some-map, getD-map}
 use Rattle.disac4.specs.System.{System, systemOf, systemAt}
-use Rattle.disac4.specs.Turn.{turn, pollAction, allowed}
+use Rattle.disac4.specs.Turn.{turn, treatAction, sendAction, answerAction, pollAction, allowed}
 use Rattle.disac4.specs.declared.Tally.{Tally}
 use Rattle.cells.specs.Acts.{Acts}
 use Rattle.cells.specs.Memory.{Mem}
@@ -30,22 +30,22 @@ use Rattle.format.specs.Format.{workerCount}
 -- ---- a worker's action, by its number
 
 module _ (sys : System) (t : Tally) (i d : ℕ) (m : Mem) where
-  pub worker-treats : d ≡ 9 → workerOn sys t i d m ≡ treatM sys i m
+  pub worker-treats : d ≡ treatAction → workerOn sys t i d m ≡ treatM sys i m
   unfolding workerM
-  worker-treats e = cond-true _ _ (eq-eqb d 9 e)
+  worker-treats e = cond-true _ _ (eq-eqb d treatAction e)
 
-  pub worker-sends : (d ≡ 9 → ⊥) → d ≡ 10 → workerOn sys t i d m ≡ sendM i m
+  pub worker-sends : (d ≡ treatAction → ⊥) → d ≡ sendAction → workerOn sys t i d m ≡ sendM i m
   unfolding workerM
-  worker-sends n e = cond-false _ _ (ne-eqb d 9 n) ∙ cond-true _ _ (eq-eqb d 10 e)
+  worker-sends n e = cond-false _ _ (ne-eqb d treatAction n) ∙ cond-true _ _ (eq-eqb d sendAction e)
 
-  pub worker-answers : (d ≡ 9 → ⊥) → (d ≡ 10 → ⊥) → d ≡ 11 → workerOn sys t i d m ≡ answerM i m
+  pub worker-answers : (d ≡ treatAction → ⊥) → (d ≡ sendAction → ⊥) → d ≡ answerAction → workerOn sys t i d m ≡ answerM i m
   unfolding workerM
-  worker-answers n o e = cond-false _ _ (ne-eqb d 9 n) ∙ (cond-false _ _ (ne-eqb d 10 o) ∙ cond-true _ _ (eq-eqb d 11 e))
+  worker-answers n o e = cond-false _ _ (ne-eqb d treatAction n) ∙ (cond-false _ _ (ne-eqb d sendAction o) ∙ cond-true _ _ (eq-eqb d answerAction e))
 
-  pub worker-reads : (d ≡ 9 → ⊥) → (d ≡ 10 → ⊥) → (d ≡ 11 → ⊥) → workerOn sys t i d m ≡ readOn t i d m
+  pub worker-reads : (d ≡ treatAction → ⊥) → (d ≡ sendAction → ⊥) → (d ≡ answerAction → ⊥) → workerOn sys t i d m ≡ readOn t i d m
   unfolding workerM
   worker-reads n o p =
-      cond-false _ _ (ne-eqb d 9 n) ∙ (cond-false _ _ (ne-eqb d 10 o) ∙ cond-false _ _ (ne-eqb d 11 p))
+      cond-false _ _ (ne-eqb d treatAction n) ∙ (cond-false _ _ (ne-eqb d sendAction o) ∙ cond-false _ _ (ne-eqb d answerAction p))
 
 module _ (t : Tally) (i d : ℕ) (m : Mem) where
   pub read-polls : d ≡ 0 → readOn t i d m ≡ readPollM i (t .timestamp .0) m
@@ -84,34 +84,27 @@ module _ (sys : System) (actor action : ℕ) (s : Machine) where
     unfolding stepM
     acts = cond-false none _ (or-false running (not-of-true ok))
 
-    pub turn-polls : actor ≡ 0 → action ≡ 12 → turnOn sys actor action s ≡ pollM s
-    turn-polls e f = acts ∙ (cond-true _ _ (eq-eqb actor 0 e) ∙ cond-true _ _ (eq-eqb action 12 f))
+    pub turn-polls : actor ≡ 0 → action ≡ pollAction → turnOn sys actor action s ≡ pollM s
+    turn-polls e f = acts ∙ (cond-true _ _ (eq-eqb actor 0 e) ∙ cond-true _ _ (eq-eqb action pollAction f))
 
-    pub turn-hears : actor ≡ 0 → (action ≡ 12 → ⊥) → turnOn sys actor action s ≡ hearM sys (action - 1) s
-    turn-hears e f = acts ∙ (cond-true _ _ (eq-eqb actor 0 e) ∙ cond-false _ _ (ne-eqb action 12 f))
+    pub turn-hears : actor ≡ 0 → (action ≡ pollAction → ⊥) → turnOn sys actor action s ≡ hearM sys (action - 1) s
+    turn-hears e f = acts ∙ (cond-true _ _ (eq-eqb actor 0 e) ∙ cond-false _ _ (ne-eqb action pollAction f))
 
     pub turn-works : (actor ≡ 0 → ⊥) → turnOn sys actor action s ≡ withMem (s .tally) (workerM sys (actor - 1) action s)
     turn-works e = acts ∙ cond-false _ _ (ne-eqb actor 0 e)
-
--- ---- counting a turn
-
--- a changing turn of a kind counts as the turn does, if it is of that kind
-pub one-and : (c a : Bool) → one (c && a) ≡ cond c (one a) 0
-one-and true a = refl
-one-and false a = refl
 
 -- ---- what an allowed turn's numbers are
 
 module _ (p actor action : ℕ) (few : p ≤ 8) (ok : allowed p (turn actor action) ≡ true) where
   -- a worker's turn
-  pub may-work : (actor ≡ 0 → ⊥) → (actor - 1 < p) × (action < 12)
-  may-work n =
+  pub worker-numbers : (actor ≡ 0 → ⊥) → (actor - 1 < p) × (action < pollAction)
+  worker-numbers n =
       let w = worker-does p (turn actor action) ok (ne-eqb actor 0 n) in
       (omega (arith, w .0), worker-bound p actor action few (w .1))
 
   -- the controller's read
-  pub may-hear : actor ≡ 0 → (action ≡ 12 → ⊥) → (0 < action) × (action ≤ p)
-  may-hear e n =
+  pub read-numbers : actor ≡ 0 → (action ≡ pollAction → ⊥) → (0 < action) × (action ≤ p)
+  read-numbers e n =
       reads-worker p action (controller-does p (turn actor action) ok (eq-eqb actor 0 e)) (ne-eqb action pollAction n)
 
 -- the system of a plan has as many workers as its head says

@@ -16,10 +16,10 @@ use Rattle.cells.specs.Memory.{memOf}
 use Rattle.controller.specs.Controller.{machine}
 use Rattle.disac4.specs.Report.{isSend, isPoll}
 use Rattle.disac4.specs.System.{systemAt}
-use Rattle.disac4.specs.Turn.{Turn, turn, allowed}
+use Rattle.disac4.specs.Turn.{Turn, turn, sendAction, pollAction, allowed}
 use Rattle.disac4.specs.declared.Tally.{Tally}
 use Rattle.engine.proofs.Advancing.{playable, advanced}
-use Rattle.engine.proofs.RunLaws.{workers-are, acts-beside, turn-closed, turn-works, may-work}
+use Rattle.engine.proofs.RunLaws.{workers-are, acts-beside, turn-closed, turn-works, worker-numbers}
 use Rattle.engine.specs.Play.{Running, Grows, Works}
 use Rattle.format.specs.Format.{workerCount}
 use Rattle.refinement.proofs.Underway.{plays-none, plays-then, goes-after}
@@ -93,16 +93,16 @@ running-playable b cells t r = subst (Playable b cells) (r .same) (playable b ce
 -- ---- one turn of a worker
 
 -- what it adds to sends and polls
-sends-by : (k d r : ℕ) → (k ≡ 0 → ⊥) → cond (isSend (turn k d)) r 0 ≡ cond (eqb d 10) r 0
-sends-by k d r n = ap (λ (c : Bool). cond (not c && eqb d 10) r 0) (ne-eqb k 0 n)
+sends-by : (k d r : ℕ) → (k ≡ 0 → ⊥) → cond (isSend (turn k d)) r 0 ≡ cond (eqb d sendAction) r 0
+sends-by k d r n = ap (λ (c : Bool). cond (not c && eqb d sendAction) r 0) (ne-eqb k 0 n)
 
 polls-none : (k d r : ℕ) → (k ≡ 0 → ⊥) → cond (isPoll (turn k d)) r 0 ≡ 0
-polls-none k d r n = ap (λ (c : Bool). cond (c && eqb d 12) r 0) (ne-eqb k 0 n)
+polls-none k d r n = ap (λ (c : Bool). cond (c && eqb d pollAction) r 0) (ne-eqb k 0 n)
 
 module _ (b cells : List ℕ) (t : Tally) (k d : ℕ) (run : Running b cells t) (some : k ≡ 0 → ⊥) where
   -- from what the code of a turn ensures
   worked : (cells′ : List ℕ) (r : ℕ) → Acts (turnOn (systemAt b) k d) (machine cells t) (machine cells′ t) r
-      → Works b (turn k d ∷ []) cells t cells′ r (cond (eqb d 10) r 0)
+      → Works b (turn k d ∷ []) cells t cells′ r (cond (eqb d sendAction) r 0)
   unfolding Works
   worked cells′ r does g g′ a =
       advanced b cells cells′ g g′ k d r (run .going .sound) (rw (a .before, a .after) does) (a .changes)
@@ -110,29 +110,29 @@ module _ (b cells : List ℕ) (t : Tally) (k d : ℕ) (run : Running b cells t) 
       (omega (arith, a .polls, polls-none k d r some))
 
   -- in a closed plan it is idle
-  pub worked-closed : t .closed ≡ true → Works b (turn k d ∷ []) cells t cells 0 (cond (eqb d 10) 0 0)
+  pub worked-closed : t .closed ≡ true → Works b (turn k d ∷ []) cells t cells 0 (cond (eqb d sendAction) 0 0)
   worked-closed e = worked cells 0 (idle _ _ (turn-closed (systemAt b) k d (machine cells t) e))
 
   module _ {p : ℕ} (q : p ≡ workerCount b) (ok : allowed p (turn k d) ≡ true) where
     -- in an open one it does what its action does
     pub worked-open : (cells′ : List ℕ) (r : ℕ) → t .closed ≡ false
         → Acts (workerOn (systemAt b) t (k - 1) d) (memOf cells) (memOf cells′) r
-        → Works b (turn k d ∷ []) cells t cells′ r (cond (eqb d 10) r 0)
+        → Works b (turn k d ∷ []) cells t cells′ r (cond (eqb d sendAction) r 0)
     worked-open cells′ r e act =
         worked cells′ r
         (acts-as (turn-works (systemAt b) k d (machine cells t) e (rw (workers-are b, ← q) ok) some)
         (acts-beside (workerM (systemAt b) (k - 1) d) t act))
 
     -- what the code of its action asks
-    pub may-act : Playable b cells t × (k - 1 < workerCount b) × (d < 12)
+    pub may-act : Playable b cells t × (k - 1 < workerCount b) × (d < pollAction)
     may-act =
         let can = running-playable b cells t run in
-        let w = may-work p k d (omega (arith, can .workers)) ok some in
+        let w = worker-numbers p k d (omega (arith, can .workers)) ok some in
         (can, omega (arith, w .0), w .1)
 
 -- a read sends nothing
-pub no-send : (j r : ℕ) → j < 9 → cond (eqb j 10) r 0 ≡ 0
-no-send j r low = cond-false r 0 (ne-eqb j 10 (omega arith))
+pub no-send : (j r : ℕ) → j < 9 → cond (eqb j sendAction) r 0 ≡ 0
+no-send j r low = cond-false r 0 (ne-eqb j sendAction (omega arith))
 
 -- ---- a loop that plays the list `f i` in step `i`, for each `i` below `n`, each with at most one changing turn
 

@@ -12,7 +12,7 @@ ghost use mathlib.Core.Path.{_≡_};
 ghost use Prim.Native.Nat.{_<_, _≤_};
 ghost use lib.Dec.{eqb};
 ghost use lib.ListN.{length};
-ghost use Rattle.disac4.specs.Turn.{allowed, turn};
+ghost use Rattle.disac4.specs.Turn.{allowed, turn, sendAction, pollAction};
 ghost use Rattle.cells.specs.Acts.{Acts};
 ghost use Rattle.cells.specs.Layout.{WORKCELLS};
 ghost use Rattle.cells.specs.Memory.{memOf};
@@ -36,7 +36,7 @@ fn read(cells: &mut [u16], t: Tally, i: usize, d: usize) -> usize
 
 // The action `d` of row `i`.
 fn work(b: &[u8], cells: &mut [u16], t: Tally, i: usize, d: usize) -> usize
-    requires { ⌜ Playable (now b) (now cells) t × (i < workerCount (now b)) × (d < 12) ⌝ }
+    requires { ⌜ Playable (now b) (now cells) t × (i < workerCount (now b)) × (d < pollAction) ⌝ }
     ensures { λ r. ⌜ Acts (workerOn (systemAt (now (b .entry))) t i d) (memOf (now (cells .entry))) (memOf (now (cells .exit))) r ⌝ }
 {
     if d == TREAT_ACTION {
@@ -54,7 +54,7 @@ fn work(b: &[u8], cells: &mut [u16], t: Tally, i: usize, d: usize) -> usize
 // One turn of worker k, which is an allowed one of p workers: 1 where it changed something.
 pub fn work_turn(b: &[u8], cells: &mut [u16], t: Tally, p: usize, k: usize, d: usize) -> usize
     requires { ⌜ Running (now b) (now cells) t × (p ≡ workerCount (now b)) × (0 < k) × (allowed p (turn k d) ≡ true) ⌝ }
-    ensures { λ r. ⌜ Works (now (b .entry)) (turn k d ∷ []) (now (cells .entry)) t (now (cells .exit)) r (cond (eqb d 10) r 0) × (r ≤ 1) ⌝ }
+    ensures { λ r. ⌜ Works (now (b .entry)) (turn k d ∷ []) (now (cells .entry)) t (now (cells .exit)) r (cond (eqb d sendAction) r 0) × (r ≤ 1) ⌝ }
 {
     if t.closed {
         return 0;

@@ -75,7 +75,7 @@ module _ (b : List ℕ) (c x v y w : ℕ) (h : c < constraintCount b)
       (and-true (permits (planOf b) (constraintOf (planOf b) c .relation) x v y w) refl ∙ permits-read)
 
 -- along the chain of two variables in order, the constraints' bytes decide
-pub accepts-read : (b : List ℕ) → planFault b ≡ none → (c x v y w : ℕ) → c < constraintCount b → over b x y c ≡ true
+accepts-read : (b : List ℕ) → planFault b ≡ none → (c x v y w : ℕ) → c < constraintCount b → over b x y c ≡ true
     → x ≤ y → Listed b x v → Listed b y w
     → acceptsAt b x v y w c ≡ permitsAt b (constraintStart b c) (sectionStart b (suc x)) v (sectionStart b (suc y)) w
 accepts-read b none-found c x v y w h p l one other = go (over-ends b c _ _ e x y p)

@@ -1,6 +1,5 @@
 -- Each side of a pair of variables has its own row of counters.
-use Prim.Native.Nat.{ℕ, _+_, _*_, _-_, _<_, _≤_}
-use mathlib.Core.Bool.{Bool}
+use Prim.Native.Nat.{ℕ, _*_, _-_, _<_, _≤_}
 use mathlib.Core.Path.{_≡_, ap}
 use native.Mathlib.Omega.{arith}
 use borrow.Author.Tests.{lt-ltb, le-ltb}
@@ -10,9 +9,9 @@ use Rattle.cells.specs.Memory.{Mem}
 use Rattle.cells.specs.View.{counterRow}
 
 module _ (m : Mem) (x y : ℕ) where
-  pub row-higher : y < x → counterRow m x y ≡ 2 * m HEADS x y - 1 + 1
+  pub row-higher : 0 < m HEADS x y → y < x → counterRow m x y ≡ 2 * m HEADS x y
   unfolding counterRow
-  row-higher h = ap (λ (t : Bool). 2 * m HEADS x y - 1 + one t) (lt-ltb y x h)
+  row-higher low h = omega (arith, ap one (lt-ltb y x h))
 
   pub row-lower : x ≤ y → counterRow m x y ≡ 2 * m HEADS x y - 1
   unfolding counterRow

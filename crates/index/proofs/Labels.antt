@@ -15,10 +15,11 @@ use Rattle.plan.specs.Plan.{Variable, sizeOf}
 use Rattle.index.proofs.Nearest.{last-any}
 use Rattle.index.proofs.Owners.{owner-range}
 use Rattle.index.proofs.Pairing.{paired}
-use Rattle.index.proofs.Permitted.{linked-chain, linked-inside}
+use Rattle.index.proofs.Linked.{linked-chain, linked-inside}
 use Rattle.index.proofs.Places.{few-sections, few-values}
 use Rattle.index.specs.Allowed.{Listed}
 use Rattle.index.specs.Index.{over, owns, ownLinked, Indexed, Located, Ready}
+use Rattle.cells.specs.Layout.{WORKCELLS}
 use Rattle.cells.specs.Memory.{Mem, memOf}
 use Rattle.cells.specs.View.{Numbered}
 
@@ -67,7 +68,7 @@ module _ (b : List ℕ) (sound : planFault b ≡ none) where
 
 -- so the row can be read
 pub linked-row : (b cells : List ℕ) → Ready b cells → (x y : ℕ) → shareConstraint (planOf b) x y ≡ true
-    → (24576 ≤ length cells) × (x < 32) × (y < 32) × Numbered (memOf cells) x y
+    → (WORKCELLS ≤ length cells) × (x < 32) × (y < 32) × Numbered (memOf cells) x y
 linked-row b cells ready x y e =
     omega (
       arith,

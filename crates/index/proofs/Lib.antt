@@ -7,10 +7,10 @@ pub mod Ends
 pub mod Kept
 pub mod Labels
 pub mod Leads
+pub mod Linked
 pub mod Nearest
 pub mod Own
 pub mod OwnChains
 pub mod Owners
 pub mod Pairing
-pub mod Permitted
 pub mod Places

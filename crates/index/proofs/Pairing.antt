@@ -11,7 +11,7 @@ use lib.Dec.{eqb}
 use Rattle.disac4.specs.System.{systemOf, systemAt}
 use Rattle.index.proofs.Ends.{Ends, ends, over-ends}
 use Rattle.index.proofs.Nearest.{last-low, last-settled, last-passes}
-use Rattle.index.proofs.Permitted.{linked-chain}
+use Rattle.index.proofs.Linked.{linked-chain}
 use Rattle.index.proofs.Places.{few-sections}
 use Rattle.index.specs.Index.{over, chainBelow, Indexed, Paired}
 use Rattle.cells.specs.Layout.{HEADS}

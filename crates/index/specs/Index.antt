@@ -118,5 +118,6 @@ lastLeadsM b k = leadsM b (variableCount b - suc k)
 unfoldable pub ownM : List ℕ → Mem → Mem
 ownM b = loop (variableCount b) (lastLeadsM b)
 
+-- the whole index: the starts of the sections, the chains of constraints, and the chains of own variables
 unfoldable pub indexM : List ℕ → Mem → Mem
 indexM b m = ownM b (chainsM b (placesM b m))

@@ -37,11 +37,7 @@ pub fn counter_row(cells: &[u16], x: usize, y: usize) -> usize
     ensures { λ r. ⌜ (r ≡ counterRow (memOf (now (cells .entry))) x y) × (r ≤ 256) ⌝ }
 {
     let head = layout::get(cells, layout::HEADS, x, y);
-    if y < x {
-        2 * head - 1 + 1
-    } else {
-        2 * head - 1
-    }
+    if y < x { 2 * head } else { 2 * head - 1 }
 }
 
 // Whether two variables share a constraint of the plan that the cells index.

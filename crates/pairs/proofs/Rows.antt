@@ -1,59 +1,29 @@
--- The rows of values that the constraints of a chain permit, and the row that they leave together.
+-- The row of values that a constraint permits, read from either of its variables.
 use Prim.Native.Nat.{ℕ, suc, _+_, _-_, _*_, _/_, _%_, _^_, _<_, _≤_}
-use mathlib.Core.Bool.{Bool, true, false, _&&_, _||_, and-comm, or-comm}
+use mathlib.Core.Bool.{Bool, true, false, _||_, and-comm, or-comm}
 use mathlib.Core.List.{List}
 use mathlib.Core.Logic.{⊎-elim}
 use mathlib.Core.Option.{none}
-use mathlib.Core.Path.{_≡_, refl, sym, _∙_, ap, ap₂, subst}
-use native.Mathlib.Nat.{add-comm, mul-le-mul-right}
+use mathlib.Core.Path.{_≡_, refl, sym, _∙_, ap, ap₂}
+use native.Mathlib.Nat.{add-comm}
 use native.Mathlib.Decide.{ℕ-discrete}
 use native.Mathlib.Omega.{arith}
 use borrow.Author.Tests.{ltb-true, ltb-false, leb-true, le-leb}
-use lib.Bits.{bitAnd, and-le-l}
 use lib.Dec.{leb, ltb, eqb}
-use lib.Pow.{pow-pos}
-use Rattle.base.proofs.Bools.{decided, bool-ext, and-true}
+use Rattle.base.proofs.Bools.{decided, bool-ext}
 use Rattle.base.proofs.Choice.{cond-true, cond-false}
-use Rattle.base.proofs.Row.{bit-and, bit-low, bit-high, row-bit, row-doubled, row-ext, row-full, row-low, row-of-bits}
-use Rattle.base.specs.Below.{one}
+use Rattle.base.proofs.Row.{bit-low, bit-high, row-bit, row-ext, row-full}
 use Rattle.base.specs.Bytes.{byteAt, wordAt}
 use Rattle.base.specs.Row.{bit, rowOf}
 use Rattle.format.specs.Format.{variableCount, constraintCount, kindAt, tableRowAt, tableByteAt, limitAt, figureAt}
 use Rattle.index.proofs.Accepted.{acceptsAt, permits-table, permits-limit, permitted}
-use Rattle.index.proofs.Along.{Along, along-start, along-next, Rest, rest-start, rest-next}
 use Rattle.index.proofs.Ends.{over-turned}
 use Rattle.index.specs.Allowed.{permitsAt, permitsFrom, limited, inColumn, Listed}
-use Rattle.index.specs.Index.{over, chainBelow, Placed}
+use Rattle.index.specs.Index.{over, Placed}
 use Rattle.plan.proofs.Limits.{unrecorded-allows, recorded-judges}
 use Rattle.plan.specs.Decode.{planFault, planOf}
-use Rattle.plan.specs.Network.{unrecorded, withinLimit, spares, accepts, pairAllowed}
+use Rattle.plan.specs.Network.{unrecorded, withinLimit, spares, accepts}
 use Rattle.plan.specs.Plan.{constraintOf}
-
--- ---- a row that is put together from its highest value down
-
--- the row holds the values from `n` on that pass the test, counted from there; those below `n` make it whole
-pub record Upper (t : ℕ → Bool) (values row n : ℕ) : Type 0 where
-  pub low : n ≤ values
-  pub whole : row * 2 ^ n + rowOf n t ≡ rowOf values t
-
-module _ (t : ℕ → Bool) (values : ℕ) where
-  pub upper-start : Upper t values 0 values
-  upper-start = record { low = omega arith; whole = omega arith }
-
-  -- the value that is next
-  pub upper-here : (row n : ℕ) → (n ≡ 0 → ⊥) → Upper t values row n → Upper t values row (suc (n - 1))
-  upper-here row n h u = subst (Upper t values row) (omega arith) u
-
-  pub upper-next : (row n : ℕ) → Upper t values row (suc n) → (p : ℕ) → p ≡ one (t n) → Upper t values (2 * row + p) n
-  upper-next row n u p e =
-      rw e (record { low = omega (arith, u .low); whole = row-doubled n row t ∙ u .whole })
-
-  pub upper-small : (row n : ℕ) → values ≤ 16 → Upper t values row n → row < 65536
-  upper-small row n h u = omega (arith, u .whole, row-low values t h, mul-le-mul-right row (pow-pos n))
-
-  pub upper-all : (row n : ℕ) → n ≡ 0 → Upper t values row n → row ≡ rowOf values t
-  unfolding rowOf
-  upper-all row n e u = omega (arith, rw e at (u .whole))
 
 -- ---- the row of one constraint
 
@@ -163,43 +133,3 @@ permitted-from b none-found c x v y w at here there p q r h o one other =
     ∙ permitted b none-found c y w x v at there here p r q h (over-turned b y x c ∙ o) (ltb-false x y l) other one
     ∙ accepts-turned b y w x v c)
     (decided (ltb x y))
-
--- ---- the row that the constraints of a chain leave
-
--- of the first `values` of `y`, the row holds those that the constraints behind the walk permit
-pub record Left (b : List ℕ) (x v y values row n : ℕ) : Type 0 where
-  pub along : Along b x y n
-  pub small : row < 2 ^ values
-  pub rest : (w : ℕ) → w < values → Rest b x v y w (bit row w) n
-
-module _ (b : List ℕ) (x v y values : ℕ) where
-  -- at first, all of them
-  pub left-start : (p : ℕ) → p ≡ 2 ^ values → (n : ℕ) → n ≡ chainBelow b x y (constraintCount b) → Left b x v y values (p - 1) n
-  left-start p q n e =
-      rw q
-      (record {
-        along = along-start b x y n e;
-        small = omega (arith, pow-pos values);
-        rest = λ w h. rw (row-full values, row-bit values (λ u. true) w h) (rest-start b x v y w n e);
-      })
-
-  -- then those that the next constraint permits too
-  pub left-next : (row c : ℕ) → Left b x v y values row (suc c) → (r : ℕ)
-      → ((w : ℕ) → w < values → bit r w ≡ acceptsAt b x v y w c) → (n : ℕ) → n ≡ chainBelow b x y c
-      → Left b x v y values (bitAnd row r) n
-  left-next row c a r f n e = record {
-    along = along-next b x y c (a .along) n e;
-    small = omega (arith, and-le-l row r, a .small);
-    rest = λ w h.
-        rest-next b x v y w (bit row w) c (a .rest w h) (bit (bitAnd row r) w)
-        (bit-and row r w ∙ ap (λ (t : Bool). bit row w && t) (f w h)) n e;
-  }
-
-  pub left-here : (row n : ℕ) → (n ≡ 0 → ⊥) → Left b x v y values row n → Left b x v y values row (suc (n - 1))
-  left-here row n h a = subst (Left b x v y values row) (omega arith) a
-
-  -- in the end, the allowed ones
-  pub left-all : (row : ℕ) → Left b x v y values row 0 → row ≡ rowOf values (pairAllowed (planOf b) x v y)
-  left-all row a =
-      sym (row-of-bits values row (a .small))
-      ∙ row-ext values (bit row) (pairAllowed (planOf b) x v y) (λ w h. sym (a .rest w h ∙ and-true (bit row w) refl))

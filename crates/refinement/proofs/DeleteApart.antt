@@ -4,7 +4,7 @@ use mathlib.Core.Bool.{Bool, true, false, cond}
 use mathlib.Core.Path.{_≡_, refl, _∙_}
 use native.Mathlib.Omega.{arith}
 use Rattle.disac4.specs.System.{System}
-use Rattle.cells.proofs.Stores.{store-same, store-other, Beside, push-other}
+use Rattle.cells.proofs.Stores.{store-same, store-other, OffList, push-other}
 use Rattle.cells.specs.Layout.{WORKERS, LOG, WORK, DOMAIN, COUNTERS, TAIL, LOGEND}
 use Rattle.cells.specs.Lists.{pushM, deleteM}
 use Rattle.cells.specs.Memory.{Mem, store}
@@ -25,7 +25,7 @@ deleteIf z i x v m = cond z (deleteM i x v m) m
 
 module _ (sys : System) (i x v : ℕ) (m : Mem) where
   -- beside the two lists, deleting a label is a store
-  delete-stores : (r a b : ℕ) → Beside WORK TAIL i r a b → Beside LOG LOGEND i r a b
+  delete-stores : (r a b : ℕ) → OffList WORK TAIL i r a b → OffList LOG LOGEND i r a b
       → deleteM i x v m r a b ≡ store m DOMAIN x v 0 r a b
   unfolding deleteM
   delete-stores r a b work log =

@@ -13,7 +13,7 @@ use Rattle.base.specs.Below.{sumBelow}
 use Rattle.disac4.specs.System.{System}
 use Rattle.disac4.specs.declared.Tally.{Tally}
 use Rattle.cells.proofs.Queue.{labels-length}
-use Rattle.cells.proofs.Stores.{store-same, store-other, store-apart, Beside, copy-other}
+use Rattle.cells.proofs.Stores.{store-same, store-other, store-apart, OffList, copy-other}
 use Rattle.cells.specs.Layout.{WORKERS, CURSORS, BOUNDS, LOG, WORK, OUT, WANTED, DOMAIN, HEADS, HEAD, TAIL, LOGEND, SENDS, LISTS, OUTEND, OUTREAD}
 use Rattle.cells.specs.Lists.{copyM}
 use Rattle.cells.specs.Memory.{Mem, store}
@@ -38,7 +38,7 @@ copied j i m = copyM j i (listStart j i m) (listLength j i m) m
 
 module _ (j i : ℕ) (m : Mem) where
   -- what stands beside the reader's work list is not copied over
-  uncopied : (r k c : ℕ) → Beside WORK TAIL i r k c → copied j i m r k c ≡ m r k c
+  uncopied : (r k c : ℕ) → OffList WORK TAIL i r k c → copied j i m r k c ≡ m r k c
   uncopied = copy-other j i (listStart j i m) (listLength j i m) m
 
   -- every region but three

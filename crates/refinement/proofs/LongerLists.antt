@@ -10,7 +10,7 @@ use Rattle.base.proofs.Loops.{loop-carries}
 use Rattle.disac4.specs.System.{System}
 use Rattle.network.specs.Network.{Label, label}
 use Rattle.cells.proofs.Queue.{labels-same, labels-none, labels-last, labels-length, label-of-number}
-use Rattle.cells.proofs.Stores.{store-same, store-other, Beside, push-stores, push-other, copy-other}
+use Rattle.cells.proofs.Stores.{store-same, store-other, OffList, push-stores, push-other, copy-other}
 use Rattle.cells.specs.Layout.{WORKERS, LOG, WORK, DOMAIN, TAIL, LOGEND, LABELROOM}
 use Rattle.cells.specs.Lists.{pushM, deleteM, copyLabelM, copyM}
 use Rattle.cells.specs.Memory.{Mem, store}
@@ -189,10 +189,10 @@ module _ (sys : System) (i : ℕ) where
       logged : Mem
       logged = pushM LOG LOGEND i c out
 
-      logged-other : (r b : ℕ) → Beside LOG LOGEND i r i b → logged r i b ≡ out r i b
+      logged-other : (r b : ℕ) → OffList LOG LOGEND i r i b → logged r i b ≡ out r i b
       logged-other r b e = push-other LOG LOGEND i c out r i b e
 
-      worked-other : (r b : ℕ) → Beside WORK TAIL i r i b → pushM WORK TAIL i c logged r i b ≡ logged r i b
+      worked-other : (r b : ℕ) → OffList WORK TAIL i r i b → pushM WORK TAIL i c logged r i b ≡ logged r i b
       worked-other r b e = push-other WORK TAIL i c logged r i b e
 
   -- a label joins both if it is deleted

@@ -1,18 +1,15 @@
 -- The list cells and the report, from the rows of the domains in memory.
-use Prim.Native.Nat.{ℕ, suc, _+_, _^_, _<_, _≤_}
-use mathlib.Core.Bool.{Bool, true, false, cond}
+use Prim.Native.Nat.{ℕ, suc, _+_, _<_, _≤_}
+use mathlib.Core.Bool.{Bool, cond}
 use mathlib.Core.List.{List, _++_}
 use mathlib.Core.Option.{Option, none, some, Option·getD}
-use mathlib.Core.Path.{_≡_, refl, sym, _∙_, ap, ap₂}
+use mathlib.Core.Path.{_≡_, sym, _∙_, ap, ap₂}
 use native.Mathlib.Numerals.{add-one}
-use native.Mathlib.Omega.{arith}
 use lib.Dec.{eqb}
 use lib.ListN.{length, set, drop}
-use lib.Pow.{pow-pos}
-use Rattle.base.proofs.Below.{some-below, any-below, length-list-below, first-at, first-more}
-use Rattle.base.proofs.Bools.{refuted}
+use Rattle.base.proofs.Below.{length-list-below, first-at, first-more}
 use Rattle.base.proofs.Choice.{cond-true, cond-false}
-use Rattle.base.proofs.Sums.{sum-none, sum-some}
+use Rattle.base.proofs.Row.{row-none, row-some}
 use Rattle.base.specs.Below.{anyBelow, listBelow, firstBelow}
 use Rattle.base.specs.Row.{rowOf}
 use Rattle.disac4.specs.Outcome.{overwrite}
@@ -60,31 +57,6 @@ module _ (b : List ℕ) (m : Mem) (k : ℕ) (lists : List ℕ) where
       ∙ ap (λ (n : ℕ). overwrite (listBelow n (domainRow b m)) lists) (e ∙ sym (variables-read b))
 
 -- ---- empty domains
-
-module _ (n : ℕ) (t : ℕ → Bool) where
-  -- an empty row is of no value
-  row-none : rowOf n t ≡ 0 → anyBelow n t ≡ false
-  unfolding rowOf
-  row-none e =
-      refuted (anyBelow n t) (λ p.
-      let r = some-below n t p in
-      omega (
-        arith,
-        sum-none n (λ w. cond (t w) (2 ^ w) 0) e (r .0) (r .1),
-        cond-true (2 ^ r .0) 0 (r .2),
-        pow-pos (r .0),
-      ))
-
-  -- any other row has one
-  row-some : (rowOf n t ≡ 0 → ⊥) → anyBelow n t ≡ true
-  unfolding rowOf
-  row-some h =
-      let r = sum-some n (λ w. cond (t w) (2 ^ w) 0) (omega arith) in
-      any-below n t (r .0) (r .1) (held (r .0) (t (r .0)) (r .2))
-    where
-      held : (w : ℕ) (b : Bool) → 0 < cond b (2 ^ w) 0 → b ≡ true
-      held w true l = refl
-      held w false l = absurd (omega arith)
 
 -- one more than a variable whose domain is empty
 abbrev pub emptyAt : List ℕ → Mem → ℕ → Option ℕ

@@ -16,6 +16,7 @@ ghost use Rattle.disac4.specs.Report.{lowestEmpty, listCells};
 ghost use Rattle.disac4.specs.System.{systemAt};
 ghost use Rattle.disac4.specs.declared.Tally.{Tally};
 ghost use Rattle.index.specs.Index.{Ready};
+ghost use Rattle.cells.specs.Layout.{LISTCELLS};
 ghost use Rattle.cells.specs.Memory.{memOf};
 ghost use Rattle.refinement.specs.Run.{reportM};
 ghost use Rattle.cells.specs.View.{inDomain, view};
@@ -34,7 +35,7 @@ fn domain_row(b: &[u8], cells: &[u16], x: usize) -> usize
 
 // Puts each variable's row into its list cell; the cells behind keep what they had.
 pub fn write_lists(b: &[u8], cells: &[u16], lists: &mut [u16])
-    requires { ⌜ Ready (now b) (now cells) × (32 ≤ length (now lists)) ⌝ }
+    requires { ⌜ Ready (now b) (now cells) × (LISTCELLS ≤ length (now lists)) ⌝ }
     ensures { λ _. ⌜ ((t : Tally) → now (lists .exit) ≡ overwrite (listCells (systemAt (now (b .entry))) (view (systemAt (now (b .entry))) (memOf (now (cells .entry))) t)) (now (lists .entry))) ⌝ }
 {
     let variables = read::variable_count(b);

@@ -10,6 +10,7 @@ use Rattle.disac4.specs.Turn.{Turn}
 use Rattle.disac4.specs.declared.Answer.the-variants.{Reported}
 use Rattle.disac4.specs.declared.Report.{Report}
 use Rattle.ends.proofs.Finishing.{work-of-turns}
+use Rattle.cells.specs.Layout.{WORKCELLS}
 use Rattle.cells.specs.Memory.{Mem, memOf}
 use Rattle.rounds.specs.Rounds.{Begun}
 use Rattle.refinement.specs.Run.{At, Plays, Finishes}
@@ -17,9 +18,9 @@ use Rattle.refinement.specs.declared.Progress.{Progress}
 use Rattle.plan.specs.Decode.{planFault}
 
 -- a plan is loaded: what the engine asks
-pub loaded : (b : List ℕ) (m : Mem) (cells : List ℕ) (g : Progress) → planFault b ≡ none → 24576 ≤ length cells → At b m [] cells g
+pub begun : (b : List ℕ) (m : Mem) (cells : List ℕ) (g : Progress) → planFault b ≡ none → WORKCELLS ≤ length cells → At b m [] cells g
     → Begun b cells g
-loaded b m cells g sound long at = record {
+begun b m cells g sound long at = record {
   going = record { sound = sound; long = long; before = m; turns = []; at = at };
   fresh = refl;
 }

@@ -21,6 +21,7 @@ sentWith i sends end outs lists m =
     WORKERS i OUTEND (outs + 1))
     WORKERS i LISTS (lists + 1)
 
+-- what row `i` has to send is sent
 unfoldable pub sentM : ℕ → Mem → Mem
 unfolding sentWith
 sentM i m = sentWith i (m WORKERS i SENDS) (m WORKERS i LOGEND) (m WORKERS i OUTEND) (m WORKERS i LISTS) m
@@ -33,5 +34,6 @@ maySend i m =
     && ltb (m WORKERS i OUTEND) OUTROOM
     && ltb (m WORKERS i LISTS) LISTSMAX
 
+-- Send of row `i`
 unfoldable pub sendM : ℕ → Mem → Option Mem
 sendM i m = cond (maySend i m) (some (sentM i m)) none

@@ -1,5 +1,5 @@
 -- Laws that the code of a treatment meets its definitions in memory by.
-use Prim.Native.Nat.{ℕ, zero, suc, _+_, _-_, _/_, _%_, _<_, _≤_}
+use Prim.Native.Nat.{ℕ, suc, _+_, _-_, _/_, _%_, _<_, _≤_}
 use mathlib.Core.Bool.{Bool, true, false, cond}
 use mathlib.Core.List.{List}
 use mathlib.Core.Logic.{⊎-elim}
@@ -8,7 +8,7 @@ use mathlib.Core.Path.{_≡_, refl, sym, _∙_, ap}
 use native.Mathlib.Omega.{arith}
 use borrow.Author.Tests.{lt-ltb, ltb-true, eq-eqb, ne-eqb, eqb-true}
 use lib.Dec.{eqb}
-use Rattle.base.proofs.Bools.{decided, and-left, and-right, and-intro, and-false, refuted}
+use Rattle.base.proofs.Bools.{decided, and-left, and-right, and-intro, refuted}
 use Rattle.base.proofs.Choice.{cond-true, cond-false}
 use Rattle.base.proofs.Row.{row-bit}
 use Rattle.base.specs.Below.{loop}
@@ -17,14 +17,10 @@ use Rattle.disac4.specs.System.{System, systemOf, systemAt}
 use Rattle.network.specs.Network.{supports}
 use Rattle.plan.proofs.Pairs.{allowed-symmetric}
 use Rattle.plan.specs.Decode.{planOf}
-use Rattle.format.specs.Format.{variableCount}
 use Rattle.plan.specs.Network.{pairAllowed, shareConstraint, networkOf}
 use Rattle.plan.specs.Plan.{sizeOf}
-use Rattle.index.proofs.Labels.{own-linked}
-use Rattle.index.proofs.Permitted.{supports-allowed}
-use Rattle.index.proofs.Own.{next-none, next-here, next-past, next-above}
+use Rattle.index.proofs.Linked.{supports-allowed}
 use Rattle.index.specs.Allowed.{Listed}
-use Rattle.index.specs.Index.{owns, ownLinked, nextOwn}
 use Rattle.cells.specs.Layout.{WORKERS, WORK, DOMAIN, COUNTERS, HEAD, TAIL, LABELROOM}
 use Rattle.cells.specs.Lists.{deleteM}
 use Rattle.cells.specs.Memory.{Mem, store}
@@ -113,95 +109,6 @@ module _ (sys : System) (i y w x : ℕ) (m : Mem) where
   pub not-owned : eqb (sys .owner x) (suc i) ≡ false → m ≡ touchVariableM sys i y w x m
   unfolding touchVariableM
   not-owned o = sym (cond-false _ _ o)
-
--- ---- the chain of a row's variables
-
--- where the chain goes on with `next`: every variable before it is done, and all are at its end
-pub record Reached (b : List ℕ) (i y w : ℕ) (start m : Mem) (next : ℕ) : Type 0 where
-  pub done : next ≡ 0 → m ≡ loop (variableCount b) (touchVariableM (systemAt b) i y w) start
-  pub before : (x : ℕ) → next ≡ suc x → m ≡ loop x (touchVariableM (systemAt b) i y w) start
-  pub inside : (x : ℕ) → next ≡ suc x → x < variableCount b
-  pub mine : (x : ℕ) → next ≡ suc x → ownLinked b i y x ≡ true
-
-module _ (b : List ℕ) (i y w : ℕ) (m : Mem) where
-  abbrev touched-below : ℕ → Mem
-  touched-below n = loop n (touchVariableM (systemAt b) i y w) m
-
-  -- a variable that is not in the chain leaves all as it is
-  passed : (x : ℕ) → ownLinked b i y x ≡ false → touched-below x ≡ touched-below (suc x)
-  unfolding loop systemOf networkOf owns
-  passed x p =
-      ⊎-elim (not-owned (systemAt b) i y w x (touched-below x))
-      (not-linked (systemAt b) i y w x (touched-below x))
-      (and-false (owns b i x) (shareConstraint (planOf b) x y) (sym (own-linked b i y x) ∙ p))
-
-  -- before the last `n` variables, the chain goes on with the next of them
-  pub reached : (m₁ : Mem) (n : ℕ) → n ≤ variableCount b → m₁ ≡ touched-below (variableCount b - n)
-      → Reached b i y w m m₁ (nextOwn b i y n)
-  reached m₁ zero h e = record {
-    done = λ p. let all : variableCount b - 0 ≡ variableCount b = omega arith in e ∙ ap touched-below all;
-    before = λ x p. absurd (omega (arith, next-none b i y));
-    inside = λ x p. absurd (omega (arith, next-none b i y));
-    mine = λ x p. absurd (omega (arith, next-none b i y));
-  }
-  reached m₁ (suc n) h e = ⊎-elim here (λ p. there p (reached m₁ n (omega arith))) (decided (ownLinked b i y z))
-    where
-      z : ℕ
-      z = variableCount b - suc n
-
-      here : ownLinked b i y z ≡ true → Reached b i y w m m₁ (nextOwn b i y (suc n))
-      here p =
-          let same : (x : ℕ) → nextOwn b i y (suc n) ≡ suc x → z ≡ x = λ x q. omega (arith, next-here b i y n p) in
-          record {
-            done = λ q. absurd (omega (arith, next-here b i y n p));
-            before = λ x q. e ∙ ap touched-below (same x q);
-            inside = λ x q. omega (arith, same x q);
-            mine = λ x q. ap (ownLinked b i y) (sym (same x q)) ∙ p;
-          }
-
-      there : ownLinked b i y z ≡ false
-          → (m₁ ≡ touched-below (variableCount b - n) → Reached b i y w m m₁ (nextOwn b i y n))
-          → Reached b i y w m m₁ (nextOwn b i y (suc n))
-      there p ih =
-          let one : suc z ≡ variableCount b - n = omega arith in
-          rw (next-past b i y n p) (ih (e ∙ passed z p ∙ ap touched-below one))
-
-  -- at the chain's start nothing is done
-  pub reached-start : (next : ℕ) → next ≡ nextOwn b i y (variableCount b) → Reached b i y w m m next
-  unfolding loop
-  reached-start next q =
-      let none-done : 0 ≡ variableCount b - variableCount b = omega arith in
-      rw q (reached m (variableCount b) (omega arith) (ap touched-below none-done))
-
-  -- one variable of the chain more
-  pub reached-next : (m₁ m₂ : Mem) (x next : ℕ) → x < variableCount b → m₁ ≡ touched-below x
-      → m₂ ≡ touchVariableM (systemAt b) i y w x m₁ → next ≡ nextOwn b i y (variableCount b - suc x)
-      → Reached b i y w m m₂ next
-  unfolding loop
-  reached-next m₁ m₂ x next h e p q =
-      let more : suc x ≡ variableCount b - (variableCount b - suc x) = omega arith in
-      rw q
-      (reached m₂ (variableCount b - suc x) (omega arith)
-      (p ∙ ap (touchVariableM (systemAt b) i y w x) e ∙ ap touched-below more))
-
--- how many variables are left from the chain's next one on
-abbrev pub left : ℕ → ℕ → ℕ
-left n zero = 0
-left n (suc x) = n - x
-
--- they become fewer: the chain goes upwards
-pub left-falls : (b : List ℕ) (i y x next : ℕ) → x < variableCount b → next ≡ nextOwn b i y (variableCount b - suc x)
-    → left (variableCount b) next < variableCount b - x
-left-falls b i y x next h e =
-    ⊎-elim (λ p. end (e ∙ p)) (λ p. on (omega (arith, e))) (next-above b i y (variableCount b - suc x))
-  where
-    end : next ≡ 0 → left (variableCount b) next < variableCount b - x
-    end p = omega (arith, ap (left (variableCount b)) p)
-
-    on : suc x < next → left (variableCount b) next < variableCount b - x
-    on p =
-        let q : next ≡ suc (next - 1) = omega arith in
-        omega (arith, ap (left (variableCount b)) q)
 
 -- ---- the label at the head of the work list
 

@@ -40,9 +40,9 @@ enum-known-d c = search needs
 enum-known-f : tie.Need-enum-known-f
 enum-known-f c = search needs
 
-play-rounds-requires : tie.Need-play-rounds-requires
+play-until-closed-requires : tie.Need-play-until-closed-requires
 unfolding workNeed listNeed
-play-rounds-requires c κs =
+play-until-closed-requires c κs =
     let t = c .before .before .before in
     let passes = passed _ _ _ _ (nothing t) in (
       passes .2,
@@ -71,7 +71,7 @@ same-length-4 c = search needs
 returns-2 : tie.Need-returns-2
 returns-2 c =
     let p = c .before .before .before .before in
-    rw (round-without-list _ _ _, run-played _ _ _ _ _ (nothing (p .before .before .before .before))) (p .play-rounds .ensures)
+    rw (round-without-list _ _ _, run-played _ _ _ _ _ (nothing (p .before .before .before .before))) (p .play-until-closed .ensures)
 
 pub run-round-spec : {M : Type 1} → statement M
 run-round-spec =
@@ -81,7 +81,7 @@ run-round-spec =
     check-run-requires
     enum-known-d
     enum-known-f
-    play-rounds-requires
+    play-until-closed-requires
     same-length
     same-length-2
     returns

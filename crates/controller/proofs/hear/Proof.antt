@@ -6,6 +6,7 @@ use borrow.Author.Needs.{needs}
 use Rattle.controller.proofs.ControllerLaws.{stands, hear-room, hear-idle, hear-takes}
 use Rattle.cells.proofs.Acting.{idle, acts}
 use Rattle.cells.proofs.Ranges.{may-get, may-put}
+use Rattle.cells.specs.Layout.{OUTROOM, LISTSMAX}
 use Rattle.controller.proofs.hear.Statement.{statement}
 use Rattle.controller.proofs.hear.Tie as tie
 
@@ -37,7 +38,7 @@ module _ (c : tie.Else1) where
   abbrev start : tie.Start
   start = at-get .before .before .before .before
 
-  room : (at-get .get .result < 520) × (start .args .t .lists .0 < 65535)
+  room : (at-get .get .result < OUTROOM) × (start .args .t .lists .0 < LISTSMAX)
   room = hear-room (start .args .t) _ _ (c .before .has-out .ensures) (c .if1 .left)
 
 get-requires-3 : tie.Need-get-requires-3

@@ -14,11 +14,11 @@ use Rattle.base.specs.Row.{bit}
 use Rattle.counting.proofs.CountLaws.{rows-more}
 use Rattle.counting.proofs.gather.Statement.{statement}
 use Rattle.counting.proofs.gather.Tie as tie
-use Rattle.counting.specs.Count.{Rows}
+use Rattle.counting.specs.Count.{FirstRows}
 
 abbrev Inv-loop : tie.InvT-loop
 Inv-loop rows₀ row v w₀ rows w =
-    (w ≤ 16) × Rows (λ k. getD rows₀ k 0 + cond (bit row k) (2 ^ v) 0) w rows × ((k : ℕ) → w ≤ k → getD rows k 0 ≡ getD rows₀ k 0)
+    (w ≤ 16) × FirstRows (λ k. getD rows₀ k 0 + cond (bit row k) (2 ^ v) 0) w rows × ((k : ℕ) → w ≤ k → getD rows k 0 ≡ getD rows₀ k 0)
 
 abbrev μ-loop : tie.MeasureT-loop
 μ-loop rows₀ row v w₀ rows w = 16 - w

@@ -17,7 +17,7 @@ use Rattle.counting.proofs.put_counts.Tie as tie
 use Rattle.counting.specs.Count.{supportRow, countValueM, countPairM}
 use Rattle.disac4.specs.System.{systemOf, systemAt}
 use Rattle.index.proofs.Labels.{linked-row}
-use Rattle.index.proofs.Permitted.{linked-inside, supports-counted}
+use Rattle.index.proofs.Linked.{linked-inside, supports-counted}
 use Rattle.network.specs.Network.{supportCount}
 use Rattle.plan.specs.Decode.{planOf}
 use Rattle.plan.specs.Network.{networkOf}

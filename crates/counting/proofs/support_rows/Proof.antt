@@ -10,14 +10,14 @@ use Rattle.base.specs.Row.{rowOf}
 use Rattle.counting.proofs.CountLaws.{size-low, supports-fit, rows-more, gathered, gathered-small, gathered-more, gathered-all}
 use Rattle.counting.proofs.support_rows.Statement.{statement}
 use Rattle.counting.proofs.support_rows.Tie as tie
-use Rattle.counting.specs.Count.{Rows, supportRow}
-use Rattle.index.proofs.Permitted.{linked-inside}
+use Rattle.counting.specs.Count.{FirstRows, supportRow}
+use Rattle.index.proofs.Linked.{linked-inside}
 use Rattle.plan.specs.Decode.{planOf}
 use Rattle.plan.specs.Network.{networkOf}
 
 abbrev Inv-loop : tie.InvT-loop
 Inv-loop b cells x y others₀ n rows₀ v₀ others rows v =
-    (v ≤ n) × Rows (supportRow (networkOf (planOf b)) x y) v rows × Rows (gathered (planOf b) x y v) 16 others
+    (v ≤ n) × FirstRows (supportRow (networkOf (planOf b)) x y) v rows × FirstRows (gathered (planOf b) x y v) 16 others
 
 abbrev μ-loop : tie.MeasureT-loop
 μ-loop b cells x y others₀ n rows₀ v₀ others rows v = n - v

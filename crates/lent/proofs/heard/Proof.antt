@@ -45,7 +45,7 @@ use denote.Triple.Walked.{says, needs, Stays, stay-none, gave-slice, walkOf, goe
 use denote.Exit.{yes}
 use denote.Signature.{plain}
 use Rattle.disac4.specs.declared.Tally.{Tally}
-use Rattle.lent.proofs.Lent.{Asked, Told}
+use Rattle.controller.specs.Controller.{Hearable, Heard}
 use Rattle.controller.specs.declared.Controlled.{Controlled}
 use Rattle.disac4.proofs.Tally as T
 use Rattle.disac4.proofs.Tally.Laws as T′
@@ -129,7 +129,7 @@ module _ {M : Type 1} (𝓤 : URA M) (H : Heap 𝓤) (A : Atoms 𝓤) (W : Given
   abbrev to-hear : ℕ → ℕ → GName → Hear 𝓤 H A at-mem run .Ghost
   to-hear ν l δ = (((κ, (ν ∷ [], tt)), (q, (fullShare, tt)), tt, sent l δ, (s ∷ [], (vptr l 0 ∷ [], (vint w64 p ∷ [], (vint w64 i ∷ [], tt))))), tt)
 
-  goes : Asked ys h p i → (ν l : ℕ) (δ : GName)
+  goes : Hearable ys h p i → (ν l : ℕ) (δ : GName)
       → ent 𝓤 (⋆ 𝓤 H A ((‵ (flft κ q) ⊛ ‵ (flft (ν ∷ []) fullShare)) ∷ ‵ (MutSlice (named 0) κ u16 .own x (s ∷ [])) ∷ ‵ (MutRef (named 1) (ν ∷ []) T.the-row .own (ref l δ h) (vptr l 0 ∷ [])) ∷ [])) (Hear 𝓤 H A at-mem run .pre (to-hear ν l δ))
   goes asked ν l δ =
       qed W ((‵ (flft κ q) ⊛ ‵ (flft (ν ∷ []) fullShare)) ∷ ‵ (MutSlice (named 0) κ u16 .own x (s ∷ [])) ∷ ‵ (MutRef (named 1) (ν ∷ []) T.the-row .own (ref l δ h) (vptr l 0 ∷ [])) ∷ []) ∵ says ! asked $
@@ -137,7 +137,7 @@ module _ {M : Type 1} (𝓤 : URA M) (H : Heap 𝓤) (A : Atoms 𝓤) (W : Given
       nothing ! $ owned ! usize (Is usize) (uint-makes 𝓤 H A W w64) i _ (refl, i-fits) $ fjoin ! $ owned ! usize (Is usize) (uint-makes 𝓤 H A W w64) p _ (refl, p-fits) $ fjoin ! $
       move ! (2 ∷ 0 ∷ []) $ fjoin ! $ move ! (1 ∷ 0 ∷ []) $ fjoin ! $ done !
 
-  exits : (n : ℕ) (t : Tally) (zs : List ℕ) → Told ys h p i zs (answer n t) → length zs ≡ length ys → Is R.the-row (answer n t) (LL.vals R.the-type R′.the-laws (answer n t))
+  exits : (n : ℕ) (t : Tally) (zs : List ℕ) → Heard ys h p i zs t n → length zs ≡ length ys → Is R.the-row (answer n t) (LL.vals R.the-type R′.the-laws (answer n t))
       → ent 𝓤 (sep 𝓤 (A .lft κ q) (sem 𝓤 H A (finally u16 γ zs))) (Post (LL.val R.the-type R′.the-laws (answer n t)))
   exits n t zs e l is =
       qed W (‵ (flft κ q) ∷ ‵ (finally u16 γ zs) ∷ []) ∵
@@ -148,7 +148,7 @@ module _ {M : Type 1} (𝓤 : URA M) (H : Heap 𝓤) (A : Atoms 𝓤) (W : Given
       owned ! R.the-row (Is R.the-row) (LL.makes R.the-type R′.the-plain 𝓤 H A) (answer n t) _ is $ move ! (1 ∷ 0 ∷ []) $ done !
 
   module _ (C : Calls 𝓤 H) (Λ : Loops 𝓤 H) (fm : FmC 𝓤 H (W .laws) C) (known : Triple 𝓤 (C #hear) (Hear 𝓤 H A at-mem run)) where
-    walk : Room u16 (length ys) → Asked ys h p i → ent 𝓤 (onEntry 𝓤 H A heard.signature (κ, tt) (q, tt) a vals) (WpFn 𝓤 H C Λ code.function (s ∷ val-of h ∷ vint w64 p ∷ vint w64 i ∷ []) Post)
+    walk : Room u16 (length ys) → Hearable ys h p i → ent 𝓤 (onEntry 𝓤 H A heard.signature (κ, tt) (q, tt) a vals) (WpFn 𝓤 H C Λ code.function (s ∷ val-of h ∷ vint w64 p ∷ vint w64 i ∷ []) Post)
     walk room asked =
         qed W ((‵ (flft κ q) ⊛ ‵ ftrue) ∷ ‵ (owns (MutSlice (named 0) κ u16 ∷ T.the-row ∷ usize ∷ usize ∷ []) a vals) ∷ []) ∵ enter ! C Λ code.function (s ∷ val-of h ∷ vint w64 p ∷ vint w64 i ∷ []) _ $
         alloc1 ! (λ l₀. alloc1 ! (λ l₁. alloc1 ! (λ l₂. alloc1 ! (λ l₃. alloc1 ! (λ l₄. alloc1 ! (λ l₅. alloc1 ! (λ l₆. alloc1 ! (λ l₇. alloc1 ! (λ l₈. alloc1 ! (λ l₉. alloc1 ! (λ l₁₀. alloc0 ! $ params1 ! $
@@ -168,8 +168,8 @@ module _ {M : Type 1} (𝓤 : URA M) (H : Heap 𝓤) (A : Atoms 𝓤) (W : Given
         calls-at ! fm (Hear 𝓤 H A at-mem run) known (to-hear ν l₅ δ) (and-then ! (load ! (from ! (stop !)) (look ! 8 refl)) (and-then ! (load ! (from ! (stop !)) (look ! 6 refl)) (and-then ! (load ! (from ! (stop !)) (look ! 17 refl)) (and-then ! (load ! (from ! (stop !)) (look ! 15 refl)) (no-more !))))) (λ w.
         use1 W (later (some (λ (n : ℕ). ((‵ (flft κ q) ⊛ ‵ (flft (ν ∷ []) fullShare) ⊛ ‵ ftrue) ⊛ ‵ (usize .own n (w ∷ []))) ⊛ raw (ensured 𝓤 H A hear.ended (hear.clauses 𝓤 H A at-mem run) (κ, (ν ∷ [], tt)) (sent l₅ δ) tt n)))) (id⊢ 𝓤 _) $ await ! tt $ pick ! (λ n.
         -- what `hear` says, at some last cells and some last tally
-        split ! $ move ! (1 ∷ []) $ use1 W (some (λ (zs : List ℕ × (Tally × (Unit {0} × (Unit {0} × Unit {0})))). ‵ (lasts hear.ended (κ, (ν ∷ [], tt)) (sent l₅ δ) zs) ⊛ raw (fact 𝓤 (Told ys h p i (zs .0) (answer n (zs .1 .0)))))) (id⊢ 𝓤 _) $ pick ! (λ zs.
-        split ! $ move ! (1 ∷ []) $ learns ! (Told ys h p i (zs .0) (answer n (zs .1 .0))) (λ e. fsplit ! $ fsplit ! $ move ! (1 ∷ []) $ feqL ! (λ l. move ! (1 ∷ []) $ fsplit ! $
+        split ! $ move ! (1 ∷ []) $ use1 W (some (λ (zs : List ℕ × (Tally × (Unit {0} × (Unit {0} × Unit {0})))). ‵ (lasts hear.ended (κ, (ν ∷ [], tt)) (sent l₅ δ) zs) ⊛ raw (fact 𝓤 (Heard ys h p i (zs .0) (zs .1 .0) n)))) (id⊢ 𝓤 _) $ pick ! (λ zs.
+        split ! $ move ! (1 ∷ []) $ learns ! (Heard ys h p i (zs .0) (zs .1 .0) n) (λ e. fsplit ! $ fsplit ! $ move ! (1 ∷ []) $ feqL ! (λ l. move ! (1 ∷ []) $ fsplit ! $
         -- [the last tally; …; the last cells; the tokens and the result; …; what is lent; _10; …]
         move ! (3 ∷ []) $ split ! $ split ! $ move ! (1 ∷ []) $ split ! $ move ! (3 ∷ []) $ peeks ! usize (Is usize) (shows 𝓤 H A usize) n (w ∷ []) (λ is.
         land ! (from ! (stop !)) (init ! 18 refl (uint-lawful 𝓤 H A W w64 .typed n _ is .0)) $ rewrite ! 18 (λ (u : Val). ‵ (fat fullShare (tyInt w64) l₆ 0 u)) (ap only (is .0)) refl $ drop ! $
@@ -189,7 +189,7 @@ module _ {M : Type 1} (𝓤 : URA M) (H : Heap 𝓤) (A : Atoms 𝓤) (W : Given
   heard-walks : (C : Calls 𝓤 H) (Λ : Loops 𝓤 H) → FmC 𝓤 H (W .laws) C → Triple 𝓤 (C #hear) (Hear 𝓤 H A mem run) → Walks 𝓤 H A heard.ended stayed (WpFn 𝓤 H C Λ code.function) (heard.clauses 𝓤 H A mem run)
   heard-walks C Λ fm known = walked 𝓤 H A heard.ended stayed (heard.clauses 𝓤 H A mem run) (WpFn 𝓤 H C Λ code.function)
       (λ κs. (slice-vals, (LL.vals T.the-type T′.the-laws, (uint-vals w64, (uint-vals w64, tt))))) (λ κs. (mut-slice-tells (named 0) (κs .0) u16, (LL.tells T.the-type T′.the-laws, (uint-tells w64, (uint-tells w64, tt)))))
-      (λ κs qs bounds a g are. needs 𝓤 (Asked (a .0 .now) (a .1 .0) (a .1 .1 .0) (a .1 .1 .1 .0)) _
+      (λ κs qs bounds a g are. needs 𝓤 (Hearable (a .0 .now) (a .1 .0) (a .1 .1 .0) (a .1 .1 .1 .0)) _
       (walk 𝓤 H A W mem run (κs .0) (qs .0) (a .0 .ptr .0) (a .0 .ptr .1) (a .0 .name) (a .0 .now) (a .1 .0) (a .1 .1 .0) (a .1 .1 .1 .0) (are .1 .1 .0 .1) (are .1 .1 .1 .0 .1) (are .1 .0) C Λ fm known (are .0 .0 .1)))
 
 heard-meets : {M : Type 1} (𝓤 : URA M) (H : Heap 𝓤) (A : Atoms 𝓤) → Given 𝓤 H A → (mem : Memory → SProp 𝓤) (run : Routine → Fun 𝓤) (𝓣 : Tables 𝓤 H) → Triple 𝓤 (𝓣 .C #hear) (Hear 𝓤 H A mem run)

@@ -11,7 +11,7 @@ use Rattle.base.proofs.Row.{row-rest, row-small}
 use Rattle.cells.specs.Layout.{COUNTERS}
 use Rattle.cells.specs.Memory.{memOf}
 use Rattle.index.proofs.Labels.{linked-row}
-use Rattle.index.proofs.Permitted.{linked-inside}
+use Rattle.index.proofs.Linked.{linked-inside}
 use Rattle.loading.proofs.counted_row.Statement.{statement}
 use Rattle.loading.proofs.counted_row.Tie as tie
 

@@ -6,8 +6,10 @@ use denote.Ref.{now}
 use lib.Pow.{pow-pos}
 use mathlib.Core.Path.{_∙_, ap}
 use native.Mathlib.Omega.{arith}
+use Rattle.base.proofs.Below.{at-suc}
 use Rattle.base.specs.Below.{one}
-use Rattle.pairs.proofs.Rows.{Upper, upper-start, upper-here, upper-next, upper-small, upper-all, limit-free}
+use Rattle.pairs.proofs.Rows.{limit-free}
+use Rattle.pairs.proofs.Upper.{Upper, upper-start, upper-next, upper-small, upper-all}
 use Rattle.pairs.proofs.limit_row.Statement.{statement}
 use Rattle.pairs.proofs.limit_row.Tie as tie
 use Rattle.index.specs.Allowed.{limited}
@@ -77,7 +79,7 @@ module _ (c : tie.After-row-if Inv-loop μ-loop) where
   more =
       let t = limited (now (s .args .b)) (s .args .limit) (s .args .f) (s .args .place) in
       upper-next t (s .args .values) (l .loop .row) (l .loop .w - 1)
-      (upper-here t (s .args .values) (l .loop .row) (l .loop .w) (c .before .before .before .loop-test .taken) (l .loop .inv))
+      (at-suc (Upper t (s .args .values) (l .loop .row)) (l .loop .w) (c .before .before .before .loop-test .taken) (l .loop .inv))
       (c .row-if .result)
       (c .row-if .ensures
       ∙ ap one

@@ -10,6 +10,7 @@ use mathlib.Core.List.{List}
 use mathlib.Core.Path.{_≡_, refl, sym, _∙_, ap, subst}
 use native.Mathlib.Numerals.{add-one}
 use native.Mathlib.Omega.{arith}
+use Rattle.base.proofs.Below.{at-suc}
 use Rattle.base.specs.Row.{bit, rowOf}
 use Rattle.format.specs.Format.{variableCount, constraintCount}
 use Rattle.cells.proofs.Ranges.{may-get}
@@ -17,9 +18,10 @@ use Rattle.index.proofs.Accepted.{acceptsAt}
 use Rattle.index.proofs.Along.{along-over}
 use Rattle.index.proofs.Labels.{located, label-small}
 use Rattle.index.proofs.Nearest.{last-low}
-use Rattle.index.proofs.Permitted.{linked-inside, supports-allowed}
+use Rattle.index.proofs.Linked.{linked-inside, supports-allowed}
 use Rattle.index.proofs.Places.{few-sections}
-use Rattle.pairs.proofs.Rows.{permitted-from, Left, left-start, left-here, left-next, left-all}
+use Rattle.pairs.proofs.Left.{Left, left-start, left-next, left-all}
+use Rattle.pairs.proofs.Rows.{permitted-from}
 use Rattle.pairs.proofs.support_row.Statement.{statement}
 use Rattle.pairs.proofs.support_row.Tie as tie
 use Rattle.index.specs.Allowed.{permitsFrom}
@@ -132,7 +134,7 @@ module _ (c : tie.After-place3 Inv-loop μ-loop) where
   y = s l .args .y
 
   left : Left b x v y (sized l .size .result) (l .loop .row) (suc (l .loop .next - 1))
-  left = left-here b x v y (sized l .size .result) (l .loop .row) (l .loop .next) (c .before .loop-test .taken) (l .loop .inv)
+  left = at-suc (Left b x v y (sized l .size .result) (l .loop .row)) (l .loop .next) (c .before .loop-test .taken) (l .loop .inv)
 
   at-placed : Placed b (c .place3 .result) (suc (variableCount b + (l .loop .next - 1)))
   at-placed =

@@ -4,10 +4,12 @@ use Prim.Native.Nat.{ℕ, _+_, _-_, _*_, _%_}
 use denote.Ref.{now}
 use mathlib.Core.Path.{_∙_, ap}
 use native.Mathlib.Omega.{arith}
+use Rattle.base.proofs.Below.{at-suc}
 use Rattle.base.specs.Below.{one}
 use Rattle.base.specs.Bytes.{byteAt}
 use Rattle.base.specs.Row.{bit}
-use Rattle.pairs.proofs.Rows.{Upper, upper-start, upper-here, upper-next, upper-small, upper-all, column-byte}
+use Rattle.pairs.proofs.Rows.{column-byte}
+use Rattle.pairs.proofs.Upper.{Upper, upper-start, upper-next, upper-small, upper-all}
 use Rattle.pairs.proofs.table_column.Statement.{statement}
 use Rattle.pairs.proofs.table_column.Tie as tie
 use Rattle.index.specs.Allowed.{inColumn}
@@ -63,7 +65,7 @@ module _ (c : tie.After-row-if Inv-loop μ-loop) where
   more =
       let t = inColumn (now (s .args .b)) (s .args .at) (s .args .v) in
       upper-next t (s .args .values) (l .loop .row) (l .loop .w - 1)
-      (upper-here t (s .args .values) (l .loop .row) (l .loop .w) (c .before .before .before .loop-test .taken) (l .loop .inv))
+      (at-suc (Upper t (s .args .values) (l .loop .row)) (l .loop .w) (c .before .before .before .loop-test .taken) (l .loop .inv))
       (c .row-if .result)
       (c .row-if .ensures
       ∙ ap one

@@ -8,7 +8,7 @@ use lib.Dec.{eqb}
 use denote.Ref.{now}
 use Rattle.disac4.specs.Round.{others}
 use Rattle.disac4.specs.Turn.{turn}
-use Rattle.engine.proofs.Playing.{map-gather}
+use Rattle.base.proofs.Below.{map-gather}
 use Rattle.engine.proofs.Working.{Working, none-worked, working-on, one-worked, all-worked, running-playable}
 use Rattle.rounds.proofs.reads.Statement.{statement}
 use Rattle.rounds.proofs.reads.Tie as tie

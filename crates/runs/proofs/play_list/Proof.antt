@@ -3,7 +3,7 @@ use borrow.Author.Needs.{needs}
 use mathlib.Core.Path.{_∙_}
 use native.Mathlib.Omega.{arith}
 use Rattle.refinement.proofs.Underway.{goes-after}
-use Rattle.runs.proofs.Runs.{loaded, ends}
+use Rattle.runs.proofs.Runs.{begun, ends}
 use Rattle.runs.proofs.play_list.Statement.{statement}
 use Rattle.runs.proofs.play_list.Tie as tie
 
@@ -14,7 +14,7 @@ play-turns-requires : tie.Need-play-turns-requires
 play-turns-requires c κs =
     let l = c .before .before .before in
     let s = l .before .before .before .before .before .before in (
-      loaded _ _ _ _ (s .pre .0) (omega (arith, s .pre .1, l .load .kept .1 .0)) (l .load .ensures) .going,
+      begun _ _ _ _ (s .pre .0) (omega (arith, s .pre .1, l .load .kept .1 .0)) (l .load .ensures) .going,
       s .pre .3,
       s .pre .4,
     )
@@ -24,7 +24,7 @@ finish-requires c κs =
     let t = c .before .before .before .before in
     let l = t .before .before .before .before in
     let s = l .before .before .before .before .before .before in (
-      goes-after _ _ _ _ _ _ (loaded _ _ _ _ (s .pre .0) (omega (arith, s .pre .1, l .load .kept .1 .0)) (l .load .ensures) .going)
+      goes-after _ _ _ _ _ _ (begun _ _ _ _ (s .pre .0) (omega (arith, s .pre .1, l .load .kept .1 .0)) (l .load .ensures) .going)
           (t .play-turns .kept .1 .1 .0) (t .play-turns .ensures),
       s .pre .2,
     )

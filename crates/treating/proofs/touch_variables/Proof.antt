@@ -17,17 +17,17 @@ use Rattle.cells.proofs.Ranges.{may-get}
 use Rattle.cells.specs.Memory.{memOf}
 use Rattle.index.proofs.Kept.{ready-kept}
 use Rattle.treating.proofs.Kept.{touch-variable-kept}
-use Rattle.treating.proofs.TreatLaws.{Reached, reached-start, reached-next, left, left-falls}
+use Rattle.treating.proofs.Chain.{ChainReached, reached-start, reached-next, chainLeft, chain-falls}
 use Rattle.treating.specs.Treat.{touchVariableM, touchVariablesM}
 use Rattle.treating.proofs.touch_variables.Statement.{statement}
 use Rattle.treating.proofs.touch_variables.Tie as tie
 
 abbrev Inv-loop : tie.InvT-loop
 Inv-loop b cells₀ i y w next₀ cells next =
-    Ready b cells × (length cells ≡ length cells₀) × Reached b i y w (memOf cells₀) (memOf cells) next
+    Ready b cells × (length cells ≡ length cells₀) × ChainReached b i y w (memOf cells₀) (memOf cells) next
 
 abbrev μ-loop : tie.MeasureT-loop
-μ-loop b cells₀ i y w next₀ cells next = left (variableCount b) next
+μ-loop b cells₀ i y w next₀ cells next = chainLeft (variableCount b) next
 
 get-requires : tie.Need-get-requires Inv-loop μ-loop
 get-requires c κs =
@@ -118,8 +118,8 @@ loop-less c =
     let a = s t .args in
     omega (
       arith,
-      left-falls (b t) (a .i) (a .y) (x t) (c .get2 .result) (inside t) (follows c),
-      ap (left (variableCount (b t))) (here t),
+      chain-falls (b t) (a .i) (a .y) (x t) (c .get2 .result) (inside t) (follows c),
+      ap (chainLeft (variableCount (b t))) (here t),
     )
 
 loop-again : tie.Need-loop-again Inv-loop μ-loop

@@ -6,14 +6,15 @@ use denote.Ref.{now}
 use lib.ListN.{length, set}
 use Rattle.disac4.specs.Outcome.{workNeed}
 use Rattle.cells.proofs.Cleared.{front, front-all, front-length, front-next}
+use Rattle.cells.specs.Layout.{WORKCELLS}
 use Rattle.cells.proofs.clear.clear.Statement.{statement}
 use Rattle.cells.proofs.clear.clear.Tie as tie
 
 abbrev Inv-loop : tie.InvT-loop
-Inv-loop cells₀ k₀ cells k = (k ≤ 24576) × (cells ≡ front k cells₀) × (24576 ≤ length cells₀)
+Inv-loop cells₀ k₀ cells k = (k ≤ WORKCELLS) × (cells ≡ front k cells₀) × (WORKCELLS ≤ length cells₀)
 
 abbrev μ-loop : tie.MeasureT-loop
-μ-loop cells₀ k₀ cells k = 24576 - k
+μ-loop cells₀ k₀ cells k = WORKCELLS - k
 
 loop-holds : tie.Need-loop-holds Inv-loop μ-loop
 loop-holds c = (omega arith, refl, c .pre)
@@ -54,7 +55,7 @@ same-length c =
 returns : tie.Need-returns Inv-loop μ-loop
 unfolding workNeed
 returns c =
-    let e : c .before .loop .k ≡ 24576 = omega arith in
+    let e : c .before .loop .k ≡ WORKCELLS = omega arith in
     c .before .loop .inv .1
     ∙ ap (λ (n : ℕ). front n (now (c .before .before .args .cells))) e
     ∙ front-all (now (c .before .before .args .cells))

@@ -6,10 +6,10 @@ use Rattle.cells.proofs.Regions.{place-needed, get-law}
 use Rattle.cells.proofs.layout.get.Statement.{statement}
 use Rattle.cells.proofs.layout.get.Tie as tie
 use Prim.Native.Nat.{_<_}
-use Rattle.cells.specs.Layout.{address}
+use Rattle.cells.specs.Layout.{WORKCELLS, address}
 
 -- the place, which every need speaks of
-near : (c : tie.Start) → address (c .args .g) (c .args .i) (c .args .j) < 24576
+near : (c : tie.Start) → address (c .args .g) (c .args .i) (c .args .j) < WORKCELLS
 near c = place-needed (now (c .args .cells)) (c .args .g) (c .args .i) (c .args .j) (c .pre)
 
 mul-result : tie.Need-mul-result

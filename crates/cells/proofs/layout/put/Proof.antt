@@ -6,9 +6,9 @@ use denote.Ref.{now}
 use Rattle.cells.proofs.Regions.{place-needed, put-law}
 use Rattle.cells.proofs.layout.put.Statement.{statement}
 use Rattle.cells.proofs.layout.put.Tie as tie
-use Rattle.cells.specs.Layout.{address}
+use Rattle.cells.specs.Layout.{WORKCELLS, address}
 
-near : (c : tie.Start) → address (c .args .g) (c .args .i) (c .args .j) < 24576
+near : (c : tie.Start) → address (c .args .g) (c .args .i) (c .args .j) < WORKCELLS
 near c = place-needed (now (c .args .cells)) (c .args .g) (c .args .i) (c .args .j) (c .pre .0)
 
 cast-cells : tie.Need-cast-cells

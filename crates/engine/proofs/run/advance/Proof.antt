@@ -4,6 +4,7 @@ use Prim.Native.Nat.{ℕ, _+_}
 use native.Mathlib.Omega.{arith}
 use lib.Dec.{eqb}
 use denote.Ref.{now}
+use Rattle.disac4.specs.Turn.{sendAction}
 use Rattle.engine.proofs.Advancing.{part-of}
 use Rattle.refinement.proofs.Underway.{going-small}
 use Rattle.engine.proofs.Working.{running-by, worked-plays}
@@ -56,7 +57,7 @@ add-t16 c =
       arith,
       room .1,
       w .work-turn .ensures .1,
-      part-of (eqb (s .args .action) 10) (w .work-turn .result) (i .if-action .result) (i .if-action .ensures),
+      part-of (eqb (s .args .action) sendAction) (w .work-turn .result) (i .if-action .result) (i .if-action .ensures),
     )
 
 same-length-2 : tie.Need-same-length-2

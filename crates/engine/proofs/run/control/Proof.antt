@@ -5,6 +5,7 @@ use native.Mathlib.Omega.{arith}
 use lib.Dec.{eqb}
 use denote.Ref.{now}
 use Rattle.cells.proofs.Acting.{acts-few}
+use Rattle.disac4.specs.Turn.{pollAction}
 use Rattle.engine.proofs.Advancing.{playable, part-of, advanced}
 use Rattle.refinement.proofs.Underway.{going-small}
 use borrow.Author.Needs.{needs}
@@ -36,7 +37,7 @@ add-t14 c =
       arith,
       room .2,
       acts-few (h .control-turn .ensures),
-      part-of (eqb (s .args .d) 12) (h .control-turn .result .changed) (i .if-action .result) (i .if-action .ensures),
+      part-of (eqb (s .args .d) pollAction) (h .control-turn .result .changed) (i .if-action .result) (i .if-action .ensures),
     )
 
 same-length : tie.Need-same-length

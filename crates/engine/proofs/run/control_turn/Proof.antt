@@ -6,7 +6,7 @@ use native.Mathlib.Omega.{arith}
 use denote.Ref.{now}
 use Rattle.cells.proofs.Acting.{idle, acts-as}
 use Rattle.disac4.specs.Turn.{allowed, turn}
-use Rattle.engine.proofs.RunLaws.{turn-closed, turn-polls, turn-hears, may-hear, workers-are}
+use Rattle.engine.proofs.RunLaws.{turn-closed, turn-polls, turn-hears, read-numbers, workers-are}
 use borrow.Author.Needs.{needs}
 use Rattle.engine.proofs.run.control_turn.Statement.{statement}
 use Rattle.engine.proofs.run.control_turn.Tie as tie
@@ -39,12 +39,12 @@ returns-2 c =
 sub-heard : tie.Need-sub-heard
 sub-heard c =
     let s = c .before .before .before .before .before in
-    omega (arith, may-hear (s .args .p) 0 (s .args .d) (few-at s) (s .pre .2) refl (c .before .if2 .left))
+    omega (arith, read-numbers (s .args .p) 0 (s .args .d) (few-at s) (s .pre .2) refl (c .before .if2 .left))
 
 heard-requires : tie.Need-heard-requires
 heard-requires c κs =
     let s = c .before .before .before .before .before in
-    let h = may-hear (s .args .p) 0 (s .args .d) (few-at s) (s .pre .2) refl (c .before .if2 .left) in
+    let h = read-numbers (s .args .p) 0 (s .args .d) (few-at s) (s .pre .2) refl (c .before .if2 .left) in
     (s .pre .0 .ready .long, s .pre .0 .marks, omega (arith, few-at s), few-at s)
 
 same-length-2 : tie.Need-same-length-2

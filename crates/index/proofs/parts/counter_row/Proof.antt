@@ -13,22 +13,21 @@ get-requires c κs = search needs
 mul-result : tie.Need-mul-result
 mul-result c = search needs
 
-sub-result : tie.Need-sub-result
-sub-result c = search needs
-
-add-result : tie.Need-add-result
-add-result c = search needs
-
 mul-result-2 : tie.Need-mul-result-2
 mul-result-2 c = search needs
 
-sub-result-2 : tie.Need-sub-result-2
-sub-result-2 c = search needs
+sub-result : tie.Need-sub-result
+sub-result c = search needs
 
 returns : tie.Need-returns
 returns c =
     let a = c .before .before .before .args in
-    omega (arith, c .before .get .ensures .0, row-higher (memOf (now (a .cells))) (a .x) (a .y) (c .if1 .taken))
+    omega (
+      arith,
+      c .before .get .ensures .0,
+      c .before .before .before .pre .3 .high,
+      row-higher (memOf (now (a .cells))) (a .x) (a .y) (c .before .before .before .pre .3 .low) (c .if1 .taken),
+    )
 
 returns-2 : tie.Need-returns-2
 returns-2 c =
@@ -41,9 +40,7 @@ counter-row-spec =
     (tie.spec
     get-requires
     mul-result
-    sub-result
-    add-result
     mul-result-2
-    sub-result-2
+    sub-result
     returns
     returns-2)

@@ -4,7 +4,7 @@ use borrow.Author.Needs.{needs}
 use mathlib.Core.Bool.{not}
 use mathlib.Core.Path.{sym, _∙_, ap}
 use lib.Dec.{eqb}
-use Rattle.index.proofs.Permitted.{linked-chain}
+use Rattle.index.proofs.Linked.{linked-chain}
 use Rattle.index.proofs.parts.linked.Statement.{statement}
 use Rattle.index.proofs.parts.linked.Tie as tie
 

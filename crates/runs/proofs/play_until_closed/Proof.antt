@@ -1,11 +1,11 @@
--- `runs::play_rounds` plays rounds on an accepted plan until it is closed. Assumes nothing.
+-- `runs::play_until_closed` plays rounds on an accepted plan until it is closed. Assumes nothing.
 use borrow.Author.Needs.{needs}
 use mathlib.Core.Path.{_∙_}
 use native.Mathlib.Omega.{arith}
 use Rattle.refinement.proofs.Underway.{goes-after}
-use Rattle.runs.proofs.Runs.{loaded, ends}
-use Rattle.runs.proofs.play_rounds.Statement.{statement}
-use Rattle.runs.proofs.play_rounds.Tie as tie
+use Rattle.runs.proofs.Runs.{begun, ends}
+use Rattle.runs.proofs.play_until_closed.Statement.{statement}
+use Rattle.runs.proofs.play_until_closed.Tie as tie
 
 load-requires : tie.Need-load-requires
 load-requires c κs = search needs
@@ -14,14 +14,14 @@ play-rounds-requires : tie.Need-play-rounds-requires
 play-rounds-requires c κs =
     let l = c .before .before .before in
     let s = l .before .before .before .before .before in
-    (loaded _ _ _ _ (s .pre .0) (omega (arith, s .pre .1, l .load .kept .1 .0)) (l .load .ensures), s .pre .3)
+    (begun _ _ _ _ (s .pre .0) (omega (arith, s .pre .1, l .load .kept .1 .0)) (l .load .ensures), s .pre .3)
 
 finish-requires : tie.Need-finish-requires
 finish-requires c κs =
     let t = c .before .before .before .before in
     let l = t .before .before .before .before in
     let s = l .before .before .before .before .before in (
-      goes-after _ _ _ _ _ _ (loaded _ _ _ _ (s .pre .0) (omega (arith, s .pre .1, l .load .kept .1 .0)) (l .load .ensures) .going)
+      goes-after _ _ _ _ _ _ (begun _ _ _ _ (s .pre .0) (omega (arith, s .pre .1, l .load .kept .1 .0)) (l .load .ensures) .going)
           (t .play-rounds .kept .1 .0) (t .play-rounds .ensures),
       s .pre .2,
     )
@@ -41,7 +41,7 @@ returns c =
     ends _ (s .pre .0) _ _ _ _ _ _ _ _ _ _ (l .load .ensures) (t .play-rounds .ensures)
     (t .play-rounds .kept .1 .0 ∙ l .load .kept .1 .0) (omega arith) (f .finish .ensures)
 
-pub play-rounds-spec : {M : Type 1} → statement M
-play-rounds-spec =
+pub play-until-closed-spec : {M : Type 1} → statement M
+play-until-closed-spec =
     tie.close
     (tie.spec load-requires play-rounds-requires finish-requires same-length same-length-2 returns)

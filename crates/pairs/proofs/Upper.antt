@@ -1,0 +1,30 @@
+-- A row that is put together from its highest value down.
+use Prim.Native.Nat.{ℕ, suc, _+_, _*_, _^_, _<_, _≤_}
+use mathlib.Core.Bool.{Bool}
+use mathlib.Core.Path.{_≡_, _∙_}
+use native.Mathlib.Nat.{mul-le-mul-right}
+use native.Mathlib.Omega.{arith}
+use lib.Pow.{pow-pos}
+use Rattle.base.proofs.Row.{row-doubled, row-low}
+use Rattle.base.specs.Below.{one}
+use Rattle.base.specs.Row.{rowOf}
+
+-- the row holds the values from `n` on that pass the test, counted from there; those below `n` make it whole
+pub record Upper (t : ℕ → Bool) (values row n : ℕ) : Type 0 where
+  pub low : n ≤ values
+  pub whole : row * 2 ^ n + rowOf n t ≡ rowOf values t
+
+module _ (t : ℕ → Bool) (values : ℕ) where
+  pub upper-start : Upper t values 0 values
+  upper-start = record { low = omega arith; whole = omega arith }
+
+  pub upper-next : (row n : ℕ) → Upper t values row (suc n) → (p : ℕ) → p ≡ one (t n) → Upper t values (2 * row + p) n
+  upper-next row n u p e =
+      rw e (record { low = omega (arith, u .low); whole = row-doubled n row t ∙ u .whole })
+
+  pub upper-small : (row n : ℕ) → values ≤ 16 → Upper t values row n → row < 65536
+  upper-small row n h u = omega (arith, u .whole, row-low values t h, mul-le-mul-right row (pow-pos n))
+
+  pub upper-all : (row n : ℕ) → n ≡ 0 → Upper t values row n → row ≡ rowOf values t
+  unfolding rowOf
+  upper-all row n e u = omega (arith, rw e at (u .whole))
