@@ -12,7 +12,7 @@ use Rattle.base.specs.Below.{listBelow}
 use Rattle.network.specs.Network.{Label, label}
 use Rattle.disac4.specs.Action.{isEmpty}
 use Rattle.cells.specs.Memory.{Mem}
-use Rattle.cells.specs.View.{labelNumber, labelOf, Queue, queue, listed, labelsBetween}
+use Rattle.cells.specs.View.{labelNumber, labelOf, Queue, queue, contents, labelsBetween}
 
 module _ {A : Type 0} where
   -- what stands in the first queue stands there in the second
@@ -21,29 +21,29 @@ module _ {A : Type 0} where
 
   -- as many places, each with the same content
   queue-shift : (q q′ : Queue A) → q .stop - q .start ≡ q′ .stop - q′ .start
-      → ((d : ℕ) → d < q .stop - q .start → q .place (q .start + d) ≡ q′ .place (q′ .start + d)) → listed q ≡ listed q′
-  unfolding listed
+      → ((d : ℕ) → d < q .stop - q .start → q .place (q .start + d) ≡ q′ .place (q′ .start + d)) → contents q ≡ contents q′
+  unfolding contents
   queue-shift q q′ e h =
       list-ext (q .stop - q .start) (λ d. q .place (q .start + d)) (λ d. q′ .place (q′ .start + d)) h
       ∙ ap (λ (n : ℕ). listBelow n (λ d. q′ .place (q′ .start + d))) e
 
   -- the same ends
-  pub queue-same : (q q′ : Queue A) → QueueKept q q′ → q′ .start ≡ q .start → q′ .stop ≡ q .stop → listed q′ ≡ listed q
+  pub queue-same : (q q′ : Queue A) → QueueKept q q′ → q′ .start ≡ q .start → q′ .stop ≡ q .stop → contents q′ ≡ contents q
   queue-same q q′ h a b =
       queue-shift q′ q (omega arith)
       (λ d l. h (q′ .start + d) (omega arith) (omega arith) ∙ ap (λ (k : ℕ). q .place (k + d)) a)
 
   -- it ends where it begins
-  pub queue-none : (q : Queue A) → q .stop ≤ q .start → listed q ≡ []
-  unfolding listed
+  pub queue-none : (q : Queue A) → q .stop ≤ q .start → contents q ≡ []
+  unfolding contents
   queue-none q h =
       let e : q .stop - q .start ≡ 0 = omega arith in
       ap (λ (n : ℕ). listBelow n (λ d. q .place (q .start + d))) e
 
   -- one more at the end
   pub queue-put : (q q′ : Queue A) → QueueKept q q′ → q .start ≤ q .stop → q′ .start ≡ q .start → q′ .stop ≡ q .stop + 1
-      → listed q′ ≡ listed q ++ (q′ .place (q .stop) ∷ [])
-  unfolding listed
+      → contents q′ ≡ contents q ++ (q′ .place (q .stop) ∷ [])
+  unfolding contents
   queue-put q q′ h l a b =
       let e : q′ .stop - q′ .start ≡ suc (q .stop - q′ .start) = omega arith in
       let z : q′ .start + (q .stop - q′ .start) ≡ q .stop = omega arith in
@@ -53,8 +53,8 @@ module _ {A : Type 0} where
 
   -- the oldest taken
   queue-taken : (q q′ : Queue A) → QueueKept q q′ → q .start < q .stop → q′ .start ≡ q .start + 1 → q′ .stop ≡ q .stop
-      → listed q ≡ q .place (q .start) ∷ listed q′
-  unfolding listed
+      → contents q ≡ q .place (q .start) ∷ contents q′
+  unfolding contents
   queue-taken q q′ h l a b =
       let e : q .stop - q .start ≡ suc (q′ .stop - q′ .start) = omega arith in
       let z : q .start + 0 ≡ q .start = omega arith in
@@ -70,8 +70,8 @@ module _ {A : Type 0} where
 
   -- a read makes something of the oldest and the others, or of an empty queue
   pub read-queue : {S : Type 0} (from : List A → S) (q q′ : Queue A) (z : S) → QueueKept q q′ → q′ .start ≡ q .start + 1
-      → q′ .stop ≡ q .stop → (q .start < q .stop → z ≡ from (q .place (q .start) ∷ listed q′))
-      → (q .stop ≤ q .start → z ≡ from []) → z ≡ from (listed q)
+      → q′ .stop ≡ q .stop → (q .start < q .stop → z ≡ from (q .place (q .start) ∷ contents q′))
+      → (q .stop ≤ q .start → z ≡ from []) → z ≡ from (contents q)
   read-queue from q q′ z h a b oldest none =
       elim (decLt (q .start) (q .stop)) [
         | yes l ↦ oldest l ∙ ap from (sym (queue-taken q q′ h l a b))
@@ -79,7 +79,7 @@ module _ {A : Type 0} where
       ]
 
   -- it is empty exactly if it ends where it begins
-  queue-empty : (q : Queue A) → q .start ≤ q .stop → isEmpty (listed q) ≡ eqb (q .start) (q .stop)
+  queue-empty : (q : Queue A) → q .start ≤ q .stop → isEmpty (contents q) ≡ eqb (q .start) (q .stop)
   queue-empty q l =
       elim (ℕ-discrete (q .start) (q .stop)) [
         | yes e ↦ ap isEmpty (queue-none q (omega arith)) ∙ sym (eq-eqb (q .start) (q .stop) e)
@@ -120,7 +120,7 @@ labels-last m r i from to h =
 
 -- how many there are
 pub labels-length : (m : Mem) (r i from to : ℕ) → length (labelsBetween m r i from to) ≡ to - from
-unfolding labelsBetween listed
+unfolding labelsBetween contents
 labels-length m r i from to = length-list-below (to - from) (λ d. labelOf (m r i (from + d)))
 
 -- a cell holds the label that was put into it

@@ -59,12 +59,12 @@ abbrev pub queue : {A : Type 0} → ℕ → ℕ → (ℕ → A) → Queue A
 queue start stop place = record { start = start; stop = stop; place = place }
 
 -- what stands in it, oldest first
-unfoldable pub listed : {A : Type 0} → Queue A → List A
-listed q = listBelow (q .stop - q .start) (λ d. q .place (q .start + d))
+unfoldable pub contents : {A : Type 0} → Queue A → List A
+contents q = listBelow (q .stop - q .start) (λ d. q .place (q .start + d))
 
 -- the labels of a row of WORK or LOG from one column to another
 unfoldable pub labelsBetween : Mem → ℕ → ℕ → ℕ → ℕ → List Label
-labelsBetween m r i from to = listed (queue from to (λ d. labelOf (m r i d)))
+labelsBetween m r i from to = contents (queue from to (λ d. labelOf (m r i d)))
 
 -- the n-th list message of row `i`
 unfoldable pub listAt : Mem → ℕ → ℕ → List Label
@@ -123,9 +123,9 @@ pub record Rows : Type 0 where
 -- those that a memory and a tally stand for
 abbrev pub rowsOf : Mem → Tally → Rows
 rowsOf m t = record {
-  listMessages = λ j i. listed (listMessagesQueue m j i);
-  out = λ i. listed (outQueue m i);
-  polls = λ i. listed (pollsQueue m t i);
+  listMessages = λ j i. contents (listMessagesQueue m j i);
+  out = λ i. contents (outQueue m i);
+  polls = λ i. contents (pollsQueue m t i);
 }
 
 -- the channel from an actor to an actor

@@ -15,8 +15,8 @@ use Rattle.disac4.specs.Turn.{Turn, turn}
 use Rattle.engine.proofs.RunLaws.{workers-are}
 use Rattle.refinement.proofs.Start.{fits-regions}
 use Rattle.refinement.proofs.Underway.{going-inv, going-ready, at-next}
-use Rattle.index.specs.Allowed.{Listed}
-use Rattle.refinement.specs.Inv.{LabelNumber}
+use Rattle.index.specs.Allowed.{Loaded}
+use Rattle.refinement.specs.Inv.{LoadedNumber}
 use Rattle.cells.specs.Acts.{Acts}
 use Rattle.cells.specs.Layout.{WORKERS, HEAD}
 use Rattle.cells.specs.Memory.{memOf}
@@ -34,16 +34,16 @@ module _ (b cells : List ℕ) (g : Progress) (go : Going b cells g) where
   few = omega (arith, fits-regions b (go .sound) .sound .few, workers-are b)
 
   -- the number stands for a label of the plan
-  number-listed : (c : ℕ) → LabelNumber (systemAt b) c → Listed b (c / 16) (c % 16)
+  number-loaded : (c : ℕ) → LoadedNumber (systemAt b) c → Loaded b (c / 16) (c % 16)
   unfolding systemOf networkOf
-  number-listed c k = record { variable = omega (arith, k .variable, variables-read b); value = k .value }
+  number-loaded c k = record { variable = omega (arith, k .variable, variables-read b); value = k .value }
 
   pub playable : Playable b cells (g .tally)
   playable = record {
     ready = going-ready b cells g go;
     marks = omega (arith, going-inv b cells g go .marks, pow-le-pow-right {n = 2} (omega arith) (fits-regions b (go .sound) .sound .few));
     workers = few;
-    labels = λ i h l. number-listed _ (going-inv b cells g go .rows i (omega (arith, workers-are b)) .work-labels (memOf cells WORKERS i HEAD) l);
+    labels = λ i h l. number-loaded _ (going-inv b cells g go .rows i (omega (arith, workers-are b)) .work-labels (memOf cells WORKERS i HEAD) l);
   }
 
 pub part-of : (c : Bool) (n r : ℕ) → r ≡ cond c n 0 → r ≤ n

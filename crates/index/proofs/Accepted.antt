@@ -13,7 +13,7 @@ use Rattle.base.proofs.Choice.{cond-true, cond-false}
 use Rattle.base.specs.Below.{listBelow}
 use Rattle.base.specs.Row.{bit}
 use Rattle.index.proofs.Ends.{Ends, ends, over-ends}
-use Rattle.index.specs.Allowed.{permitsAt, Listed}
+use Rattle.index.specs.Allowed.{permitsAt, Loaded}
 use Rattle.index.specs.Index.{over, Placed}
 use Rattle.plan.proofs.Links.{joins-of, of-joins}
 use Rattle.plan.proofs.Parts.{constraint-read, size-read, value-read}
@@ -35,7 +35,7 @@ accepts-apart b x v y w c p =
 
 module _ (b : List ℕ) (c x v y w : ℕ) (h : c < constraintCount b)
     (first : constraintOf (planOf b) c .first ≡ suc x) (second : constraintOf (planOf b) c .second ≡ suc y)
-    (one : Listed b x v) (other : Listed b y w) where
+    (one : Loaded b x v) (other : Loaded b y w) where
   -- what the bytes say of the pair is what the plan's constraint says
   pub permits-read :
       permits (planOf b) (constraintOf (planOf b) c .relation) x v y w
@@ -54,7 +54,7 @@ module _ (b : List ℕ) (c x v y w : ℕ) (h : c < constraintCount b)
       row : v < numberedSize b (firstAt b at)
       row = omega (arith, size-read b x (one .variable), ap (numberedSize b) first-at, one .value)
 
-      figure-read : (x v : ℕ) → Listed b x v → valueOf (planOf b) x v .figure ≡ figureAt b (sectionStart b (suc x)) v
+      figure-read : (x v : ℕ) → Loaded b x v → valueOf (planOf b) x v .figure ≡ figureAt b (sectionStart b (suc x)) v
       figure-read x v l =
           ap (λ (a : Value). a .figure)
           (value-read b x (l .variable) v (omega (arith, l .value, size-read b x (l .variable))))
@@ -76,7 +76,7 @@ module _ (b : List ℕ) (c x v y w : ℕ) (h : c < constraintCount b)
 
 -- along the chain of two variables in order, the constraints' bytes decide
 accepts-read : (b : List ℕ) → planFault b ≡ none → (c x v y w : ℕ) → c < constraintCount b → over b x y c ≡ true
-    → x ≤ y → Listed b x v → Listed b y w
+    → x ≤ y → Loaded b x v → Loaded b y w
     → acceptsAt b x v y w c ≡ permitsAt b (constraintStart b c) (sectionStart b (suc x)) v (sectionStart b (suc y)) w
 accepts-read b none-found c x v y w h p l one other = go (over-ends b c _ _ e x y p)
   where
@@ -114,7 +114,7 @@ module _ (b : List ℕ) (at first v second w : ℕ) (r : Bool) where
 -- a constraint of the chain, read at its place, accepts the pair where it permits it
 pub permitted : (b : List ℕ) → planFault b ≡ none → (c x v y w at first second : ℕ)
     → Placed b at (suc (variableCount b + c)) → Placed b first (suc x) → Placed b second (suc y)
-    → c < constraintCount b → over b x y c ≡ true → x ≤ y → Listed b x v → Listed b y w
+    → c < constraintCount b → over b x y c ≡ true → x ≤ y → Loaded b x v → Loaded b y w
     → permitsAt b at first v second w ≡ acceptsAt b x v y w c
 permitted b none-found c x v y w at first second p q r h o l one other =
     rw (p .start, q .start, r .start) (sym (accepts-read b none-found c x v y w h o l one other))

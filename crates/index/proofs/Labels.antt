@@ -17,7 +17,7 @@ use Rattle.index.proofs.Owners.{owner-range}
 use Rattle.index.proofs.Pairing.{paired}
 use Rattle.index.proofs.Linked.{linked-chain, linked-inside}
 use Rattle.index.proofs.Places.{few-sections, few-values}
-use Rattle.index.specs.Allowed.{Listed}
+use Rattle.index.specs.Allowed.{Loaded}
 use Rattle.index.specs.Index.{over, owns, ownLinked, Indexed, Located, Ready}
 use Rattle.cells.specs.Layout.{WORKCELLS}
 use Rattle.cells.specs.Memory.{Mem, memOf}
@@ -44,7 +44,7 @@ located b cells r = record { sound = r .sound; places = r .index .places; long =
 
 module _ (b : List ℕ) (sound : planFault b ≡ none) where
   -- a label is one of 32 variables and of 16 values
-  pub label-small : (x v : ℕ) → Listed b x v → (x < 32) × (v < 16)
+  pub label-small : (x v : ℕ) → Loaded b x v → (x < 32) × (v < 16)
   label-small x v l =
       omega (arith, few-sections b sound, few-values b sound x (l .variable), size-read b x (l .variable))
 

@@ -30,6 +30,6 @@ unfoldable pub permitsFrom : List ℕ → ℕ → Bool → ℕ → ℕ → ℕ �
 permitsFrom b at leads here v there w = cond leads (permitsAt b at here v there w) (permitsAt b at there w here v)
 
 -- value `v` is one of variable `x` of the plan
-pub record Listed (b : List ℕ) (x v : ℕ) : Type 0 where
+pub record Loaded (b : List ℕ) (x v : ℕ) : Type 0 where
   pub variable : x < variableCount b
   pub value : v < sizeOf (planOf b) x

@@ -19,7 +19,7 @@ ghost use Rattle.plan.specs.Decode.{planOf};
 ghost use Rattle.plan.specs.Network.{shareConstraint};
 ghost use Rattle.plan.specs.Plan.{sizeOf};
 ghost use Rattle.format.specs.Format.{variableCount};
-ghost use Rattle.index.specs.Allowed.{Listed};
+ghost use Rattle.index.specs.Allowed.{Loaded};
 ghost use Rattle.index.specs.Index.{Ready};
 ghost use Rattle.loading.specs.Load.{suitedRow, listLabelM, listValuesM, listVariableM, listM, loadM};
 
@@ -61,7 +61,7 @@ fn supported_row(b: &[u8], cells: &[u16], x: usize) -> usize
 
 // Label v of x, which its owner deletes unless it is supported.
 fn list_label(b: &[u8], cells: &mut [u16], x: usize, v: usize, supported: bool)
-    requires { ⌜ Ready (now b) (now cells) × Listed (now b) x v ⌝ }
+    requires { ⌜ Ready (now b) (now cells) × Loaded (now b) x v ⌝ }
     ensures { λ _. ⌜ memOf (now (cells .exit)) ≡ listLabelM (systemAt (now (b .entry))) x v supported (memOf (now (cells .entry))) ⌝ }
 {
     layout::put(cells, layout::DOMAIN, x, v, layout::LISTED);

@@ -18,7 +18,7 @@ use Rattle.base.specs.Row.{bit, rowOf}
 use Rattle.format.specs.Format.{variableCount, constraintCount, kindAt, tableRowAt, tableByteAt, limitAt, figureAt}
 use Rattle.index.proofs.Accepted.{acceptsAt, permits-table, permits-limit, permitted}
 use Rattle.index.proofs.Ends.{over-turned}
-use Rattle.index.specs.Allowed.{permitsAt, permitsFrom, limited, inColumn, Listed}
+use Rattle.index.specs.Allowed.{permitsAt, permitsFrom, limited, inColumn, Loaded}
 use Rattle.index.specs.Index.{over, Placed}
 use Rattle.plan.proofs.Limits.{unrecorded-allows, recorded-judges}
 use Rattle.plan.specs.Decode.{planFault, planOf}
@@ -120,7 +120,7 @@ accepts-turned b x v y w c =
 -- read at its place, it accepts the pair where it permits it
 pub permitted-from : (b : List ℕ) → planFault b ≡ none → (c x v y w at here there : ℕ)
     → Placed b at (suc (variableCount b + c)) → Placed b here (suc x) → Placed b there (suc y)
-    → c < constraintCount b → over b x y c ≡ true → Listed b x v → Listed b y w
+    → c < constraintCount b → over b x y c ≡ true → Loaded b x v → Loaded b y w
     → permitsFrom b at (ltb x y) here v there w ≡ acceptsAt b x v y w c
 unfolding permitsFrom
 permitted-from b none-found c x v y w at here there p q r h o one other =

@@ -10,7 +10,7 @@ ghost use mathlib.Core.Path.{_≡_};
 ghost use Prim.Native.Nat.{ℕ, _+_, _-_, _<_, _≤_};
 ghost use lib.ListN.{length};
 ghost use Rattle.base.specs.Row.{bit, rowOf};
-ghost use Rattle.index.specs.Allowed.{permitsFrom, limited, inColumn, Listed};
+ghost use Rattle.index.specs.Allowed.{permitsFrom, limited, inColumn, Loaded};
 ghost use Rattle.index.specs.Index.{Ready};
 ghost use Rattle.network.specs.Network.{supports};
 ghost use Rattle.plan.specs.Decode.{planOf};
@@ -103,7 +103,7 @@ fn constraint_row(
 // The row of the supports of value v of x against y, which shares a constraint with x: the values that each
 // constraint along their chain permits.
 pub fn support_row(b: &[u8], cells: &[u16], x: usize, v: usize, y: usize) -> usize
-    requires { ⌜ Ready (now b) (now cells) × Listed (now b) x v × (shareConstraint (planOf (now b)) x y ≡ true) ⌝ }
+    requires { ⌜ Ready (now b) (now cells) × Loaded (now b) x v × (shareConstraint (planOf (now b)) x y ≡ true) ⌝ }
     ensures { λ r. ⌜ r ≡ rowOf (sizeOf (planOf (now (b .entry))) y) (supports (networkOf (planOf (now (b .entry)))) x v y) ⌝ }
 {
     let variables = read::variable_count(b);

@@ -18,7 +18,7 @@ use Rattle.cells.specs.Layout.{WORKERS, BOUNDS, WORK, WANTED, HEAD, TAIL, LOGEN
 use Rattle.cells.specs.Memory.{Mem}
 use Rattle.answers.specs.Answers.{answeredM, emptyM, mayAnswer, answerM}
 use Rattle.controller.specs.Controller.{Machine}
-use Rattle.cells.specs.View.{messageOf, pollAt, view, listed, workOf, heldOf, outQueue, atActor, rowsOf}
+use Rattle.cells.specs.View.{messageOf, pollAt, view, contents, workOf, heldOf, outQueue, atActor, rowsOf}
 use Rattle.refinement.proofs.AnswerKeeps.{only-row, none-held, put}
 use Rattle.refinement.proofs.Actors.{at-worker, counter-worker, actors-update}
 use Rattle.refinement.proofs.Capacity.{sends-few, outend-few, held-few, timestamp-few}
@@ -61,12 +61,12 @@ module _ (sys : System) (small : Small sys) (s : Machine) (inv : Inv sys s) (i :
       channels-kept sys small s inv m′ answer-grown t (Beside (suc i) 0) (search)
 
   -- the reply is the newest message to the controller
-  replied : listed (outQueue m′ i) ≡ listed (outQueue m i) ++ (reply (held .number) ∷ [])
+  replied : contents (outQueue m′ i) ≡ contents (outQueue m i) ++ (reply (held .number) ∷ [])
   unfolding answeredM held pollAt
   replied =
       queue-put (outQueue m i) (outQueue m′ i) (out-kept sys small s inv m′ answer-grown i h) (inv .rows i h .out-read) refl
       (put i m .more)
-      ∙ ap (λ (a : Message). listed (outQueue m i) ++ (a ∷ []))
+      ∙ ap (λ (a : Message). contents (outQueue m i) ++ (a ∷ []))
       (ap (messageOf m′ i) (put i m .new)
       ∙ reply-of-number m′ i (m WORKERS i HELD) (omega (arith, held-small)))
 

@@ -21,7 +21,7 @@ use Rattle.cells.proofs.Queue.{read-queue}
 use Rattle.cells.specs.Layout.{WORKERS, OUT, LISTS, OUTEND, OUTREAD, OUTROOM, LISTSMAX}
 use Rattle.cells.specs.Memory.{Mem}
 use Rattle.controller.specs.Controller.{countedT, markedT, toldT, withMark, hasOut, outReadM, Machine, hearM}
-use Rattle.cells.specs.View.{LISTMARK, listAt, messageOf, viewLists, view, listed, outQueue, atActor, rowsOf}
+use Rattle.cells.specs.View.{LISTMARK, listAt, messageOf, viewLists, view, contents, outQueue, atActor, rowsOf}
 use Rattle.refinement.proofs.Actors.{at-worker, actors-update}
 use Rattle.refinement.proofs.Capacity.{heard-few, outend-few}
 use Rattle.refinement.proofs.ChannelRows.{at-out, Stays, Beside, channels-update}
@@ -67,7 +67,7 @@ module _ (sys : System) (small : Small sys) (s : Machine) (inv : Inv sys s) (i :
     toSend = viewOf sys s .toSend;
     held = viewOf sys s .held;
     listCounter = lists;
-    channel = update₂ (viewOf sys s .channel) (suc i) 0 (listed (outQueue m′ i));
+    channel = update₂ (viewOf sys s .channel) (suc i) 0 (contents (outQueue m′ i));
     controller = c;
   }
 
@@ -80,13 +80,13 @@ module _ (sys : System) (small : Small sys) (s : Machine) (inv : Inv sys s) (i :
     toSend = λ k. refl;
     held = λ k. refl;
     listCounter = told .listCounter;
-    channel = channels-update sys (rowsOf m t) (rowsOf m′ t′) (suc i) 0 (listed (outQueue m′ i))
+    channel = channels-update sys (rowsOf m t) (rowsOf m′ t′) (suc i) 0 (contents (outQueue m′ i))
         (at-out sys (rowsOf m′ t′) i h) (other-channels t′ (told .timestamp));
     controller = told .controller;
   })
 
   -- a list message
-  counted-view : view sys m′ (countedT t) ≡ afterCount (suc i) (listed (outQueue m′ i)) (view sys m t)
+  counted-view : view sys m′ (countedT t) ≡ afterCount (suc i) (contents (outQueue m′ i)) (view sys m t)
   unfolding view viewLists countedT afterCount
   counted-view =
       heard-view (countedT t) _ _ (record {
@@ -101,7 +101,7 @@ module _ (sys : System) (small : Small sys) (s : Machine) (inv : Inv sys s) (i :
       counter-after false n = refl
 
   -- a reply to another poll
-  dropped-view : view sys m′ t ≡ afterDrop (suc i) 0 (listed (outQueue m′ i)) (view sys m t)
+  dropped-view : view sys m′ t ≡ afterDrop (suc i) 0 (contents (outQueue m′ i)) (view sys m t)
   unfolding view afterDrop
   dropped-view =
       heard-view t _ _ (record {
@@ -128,7 +128,7 @@ module _ (sys : System) (small : Small sys) (s : Machine) (inv : Inv sys s) (i :
       (λ j l. sym (at-worker sys (bit (withMark (t .marks) i)) false j l) ∙ marked-more (suc j))
 
   -- a reply to the open poll
-  marked-view : view sys m′ (markedT (sys .workers) i t) ≡ afterMark sys (suc i) (listed (outQueue m′ i)) (view sys m t)
+  marked-view : view sys m′ (markedT (sys .workers) i t) ≡ afterMark sys (suc i) (contents (outQueue m′ i)) (view sys m t)
   unfolding view viewLists markedT afterMark
   marked-view =
       heard-view (markedT (sys .workers) i t) _ _ (record {
@@ -149,14 +149,14 @@ module _ (sys : System) (small : Small sys) (s : Machine) (inv : Inv sys s) (i :
   -- the tally that it leaves
   told-view : (c : ℕ)
       → some (view sys m′ (toldT (sys .workers) i c t))
-      ≡ controllerFrom sys (suc i) (viewOf sys s) (messageOf m i c ∷ listed (outQueue m′ i))
+      ≡ controllerFrom sys (suc i) (viewOf sys s) (messageOf m i c ∷ contents (outQueue m′ i))
   unfolding toldT messageOf
   told-view c = go (leb LISTMARK c) (t .polling) (eqb c (t .timestamp .0)) (unfold view current in refl)
     where
       go : (a b d : Bool) → current (record { 0 = c }) (viewOf sys s) ≡ b && d
           → some (view sys m′ (cond a (countedT t) (cond b (cond d (markedT (sys .workers) i t) t) t)))
           ≡ controllerFrom sys (suc i) (viewOf sys s)
-          (cond a (list (listAt m i (c - LISTMARK))) (reply (record { 0 = c })) ∷ listed (outQueue m′ i))
+          (cond a (list (listAt m i (c - LISTMARK))) (reply (record { 0 = c })) ∷ contents (outQueue m′ i))
       go true b d e = ap some counted-view
       go false true true e = ap some (marked-view ∙ sym (cond-true _ _ e))
       go false true false e = ap some (dropped-view ∙ sym (cond-false _ _ e))

@@ -16,7 +16,7 @@ use Rattle.cells.specs.Layout.{WORKERS, CURSORS, BOUNDS, LOG, WORK, OUT, WANTED
 use Rattle.cells.specs.Memory.{Mem, store}
 use Rattle.controller.specs.Controller.{Machine}
 use Rattle.cells.specs.View.{LISTED, LISTMARK, inDomain}
-use Rattle.refinement.specs.Inv.{LabelNumber, Row, Polled, Replied, OutCounted, Inv, Totals, listsOut, accounted}
+use Rattle.refinement.specs.Inv.{LoadedNumber, Row, Polled, Replied, OutCounted, Inv, Totals, listsOut, accounted}
 use Rattle.index.specs.Index.{Paired}
 use Rattle.network.specs.Network.{domainSize}
 
@@ -35,8 +35,8 @@ pub record GrownRow (sys : System) (m m′ : Mem) (i : ℕ) : Type 0 where
   pub out : (e : ℕ) → m′ OUT i e ≡ m OUT i e
   pub queue : m′ WORKERS i HEAD ≤ m′ WORKERS i TAIL
   pub log-end : m WORKERS i LOGEND ≤ m′ WORKERS i LOGEND
-  pub log-labels : (d : ℕ) → d < m′ WORKERS i LOGEND → LabelNumber sys (m′ LOG i d)
-  pub work-labels : (d : ℕ) → d < m′ WORKERS i TAIL → LabelNumber sys (m′ WORK i d)
+  pub log-labels : (d : ℕ) → d < m′ WORKERS i LOGEND → LoadedNumber sys (m′ LOG i d)
+  pub work-labels : (d : ℕ) → d < m′ WORKERS i TAIL → LoadedNumber sys (m′ WORK i d)
 
 -- the wanted counts
 abbrev pub SameWanted : Mem → Mem → Type 0

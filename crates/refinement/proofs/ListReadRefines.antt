@@ -16,7 +16,7 @@ use Rattle.cells.specs.Memory.{Mem}
 use Rattle.reads.proofs.ReadLaws.{HasList, list-goes, list-idle}
 use Rattle.reads.specs.Reads.{takenM, readListM}
 use Rattle.controller.specs.Controller.{Machine}
-use Rattle.cells.specs.View.{LISTED, labelsBetween, listAt, counterRow, viewCounter, viewLists, view, listed, workOf, sendOf, heldOf, listMessagesQueue, rowsOf}
+use Rattle.cells.specs.View.{LISTED, labelsBetween, listAt, counterRow, viewCounter, viewLists, view, contents, workOf, sendOf, heldOf, listMessagesQueue, rowsOf}
 use Rattle.index.proofs.Kept.{row-heads}
 use Rattle.refinement.proofs.Actors.{at-worker, actors-update, counters-more, actors-same}
 use Rattle.refinement.proofs.Capacity.{bound-logged, logend-small, sends-few, lists-few}
@@ -78,7 +78,7 @@ module _ (sys : System) (small : Small sys) (s : Machine) (inv : Inv sys s) (j i
         labels-same m m′ WORK k (m WORKERS k HEAD) (m WORKERS k TAIL) (steady k HEAD (omega arith))
         (column j i m k TAIL (λ e x. n e) (omega arith)) (λ d p q. other-work j i m k d n)
 
-    taken-view : view sys m′ t ≡ afterList (suc j) (suc i) (listAt m j (m CURSORS j i)) (listed (listMessagesQueue m′ j i)) (view sys m t)
+    taken-view : view sys m′ t ≡ afterList (suc j) (suc i) (listAt m j (m CURSORS j i)) (contents (listMessagesQueue m′ j i)) (view sys m t)
     unfolding view viewLists afterList
     taken-view = same-state _ _ (record {
       domain = λ x v. ap (λ (c : ℕ). eqb c LISTED) (region j i m DOMAIN (omega arith) x v);
@@ -92,7 +92,7 @@ module _ (sys : System) (small : Small sys) (s : Machine) (inv : Inv sys s) (j i
           held-row m m′ k (steady k HELD (omega arith)) (region j i m WANTED (omega arith) 0 (m WORKERS k HELD)));
       listCounter = counters-more sys m m′ t i hi (more-lists j i m)
           (λ k hk n. column j i m k LISTS (omega arith) (λ e x. n e));
-      channel = channels-update sys (rowsOf m t) (rowsOf m′ t) (suc j) (suc i) (listed (listMessagesQueue m′ j i))
+      channel = channels-update sys (rowsOf m t) (rowsOf m′ t) (suc j) (suc i) (contents (listMessagesQueue m′ j i))
           (at-list-messages sys (rowsOf m′ t) j i hj hi apart) other-channels;
       controller = refl;
     })

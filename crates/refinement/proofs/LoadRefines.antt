@@ -27,7 +27,7 @@ use Rattle.index.proofs.Kept.{row-heads}
 use Rattle.loading.specs.Load.{loadM}
 use Rattle.cells.specs.Memory.{Mem}
 use Rattle.refinement.specs.Run.{freshTally}
-use Rattle.cells.specs.View.{LISTED, inDomain, isWorker, labelsBetween, counterRow, viewCounter, viewLists, view, listed, heldOf, listMessagesQueue, outQueue, pollsQueue, atActor, rowsOf, atChannel}
+use Rattle.cells.specs.View.{LISTED, inDomain, isWorker, labelsBetween, counterRow, viewCounter, viewLists, view, contents, heldOf, listMessagesQueue, outQueue, pollsQueue, atActor, rowsOf, atChannel}
 use Rattle.refinement.proofs.Actors.{actors-none, no-marks, row-of}
 use Rattle.refinement.proofs.DeleteApart.{Apart}
 use Rattle.refinement.proofs.LongerLists.{Longer, Both, both-none, both-more}
@@ -217,13 +217,13 @@ module _ (sys : System) (small : Small sys) (z : Mem) (paired : Paired sys z) (b
       cond-same (eqb k 0) _ _ 0 refl
       (actors-none sys (λ i. n WORKERS i LISTS) 0 (λ i. column-loaded i LISTS (omega arith)) k)
 
-  no-list-messages : (i k : ℕ) → listed (listMessagesQueue n i k) ≡ []
+  no-list-messages : (i k : ℕ) → contents (listMessagesQueue n i k) ≡ []
   no-list-messages i k = queue-none (listMessagesQueue n i k) (omega (arith, column-loaded i SENDS (omega arith)))
 
-  no-out : (i : ℕ) → listed (outQueue n i) ≡ []
+  no-out : (i : ℕ) → contents (outQueue n i) ≡ []
   no-out i = queue-none (outQueue n i) (omega (arith, column-loaded i OUTEND (omega arith)))
 
-  no-polls : (i : ℕ) → listed (pollsQueue n freshTally i) ≡ []
+  no-polls : (i : ℕ) → contents (pollsQueue n freshTally i) ≡ []
   no-polls i = queue-none (pollsQueue n freshTally i) (omega arith)
 
   channel-loaded : (j k : ℕ) → atChannel sys (rowsOf n freshTally) j k ≡ []

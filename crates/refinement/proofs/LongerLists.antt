@@ -15,12 +15,12 @@ use Rattle.cells.specs.Layout.{WORKERS, LOG, WORK, DOMAIN, TAIL, LOGEND, LABELR
 use Rattle.cells.specs.Lists.{pushM, deleteM, copyLabelM, copyM}
 use Rattle.cells.specs.Memory.{Mem, store}
 use Rattle.cells.specs.View.{labelNumber, labelOf, labelsBetween}
-use Rattle.refinement.specs.Inv.{LabelNumber}
+use Rattle.refinement.specs.Inv.{LoadedNumber}
 use Rattle.refinement.proofs.DeleteApart.{deleteIf}
 
 -- the number of a loaded label stands for it
 loaded-number : (sys : System) (x v : ℕ) → v < 16 → x < sys .net .variables → v < sys .net .size x
-    → LabelNumber sys (labelNumber x v)
+    → LoadedNumber sys (labelNumber x v)
 loaded-number sys x v h k l =
     let p : labelNumber x v / 16 ≡ x = omega arith in
     let q : labelNumber x v % 16 ≡ v = omega arith in
@@ -33,7 +33,7 @@ pub record Longer (sys : System) (q col i : ℕ) (m n : Mem) (l : List Label) : 
   pub old : (d : ℕ) → d < m WORKERS i col → n q i d ≡ m q i d
   pub new : (from : ℕ) → from ≤ m WORKERS i col
       → labelsBetween n q i from (n WORKERS i col) ≡ labelsBetween m q i from (m WORKERS i col) ++ l
-  pub numbers : ((d : ℕ) → d < m WORKERS i col → LabelNumber sys (m q i d)) → (d : ℕ) → d < n WORKERS i col → LabelNumber sys (n q i d)
+  pub numbers : ((d : ℕ) → d < m WORKERS i col → LoadedNumber sys (m q i d)) → (d : ℕ) → d < n WORKERS i col → LoadedNumber sys (n q i d)
 
 module _ (sys : System) (q col i : ℕ) where
   -- a row that stays
@@ -45,7 +45,7 @@ module _ (sys : System) (q col i : ℕ) where
     new = λ from p.
         labels-same m n q i from (m WORKERS i col) refl e (λ d p q. h d)
         ∙ sym (append-nil (labelsBetween m q i from (m WORKERS i col)));
-    numbers = λ c d p. subst (LabelNumber sys) (sym (h d)) (c d (omega arith));
+    numbers = λ c d p. subst (LoadedNumber sys) (sym (h d)) (c d (omega arith));
   }
 
   -- first by some labels, then by others
@@ -62,7 +62,7 @@ module _ (sys : System) (q col i : ℕ) where
   }
 
   -- a push
-  longer-push : (m : Mem) (c : ℕ) → (q ≡ WORKERS → ⊥) → m WORKERS i col < LABELROOM → LabelNumber sys c
+  longer-push : (m : Mem) (c : ℕ) → (q ≡ WORKERS → ⊥) → m WORKERS i col < LABELROOM → LoadedNumber sys c
       → Longer sys q col i m (pushM q col i c m) (labelOf c ∷ [])
   longer-push m c apart room number = subst (λ n. Longer sys q col i m n (labelOf c ∷ [])) (sym (push-stores q col i c m room)) stored
     where
@@ -97,14 +97,14 @@ module _ (sys : System) (q col i : ℕ) where
             ∙ ap₂ (λ l a. l ++ (labelOf a ∷ [])) (labels-same m n q i from at refl refl (λ d h k. old-at d (λ e. omega arith))) new-at;
         numbers = λ h d p.
             elim (ℕ-discrete d at) [
-              | yes e ↦ subst (λ (a : ℕ). LabelNumber sys (n q i a)) (sym e) (subst (LabelNumber sys) (sym new-at) number)
-              | no e ↦ subst (LabelNumber sys) (sym (old-at d e)) (h d (omega (arith, end-at)))
+              | yes e ↦ subst (λ (a : ℕ). LoadedNumber sys (n q i a)) (sym e) (subst (LoadedNumber sys) (sym new-at) number)
+              | no e ↦ subst (LoadedNumber sys) (sym (old-at d e)) (h d (omega (arith, end-at)))
             ];
       }
 
 -- a copied list message: labels of row `j`'s log join the end of row `i`'s work list
 pub longer-copy : (sys : System) (j i from n : ℕ) (m : Mem) → m WORKERS i TAIL + n ≤ LABELROOM
-    → ((d : ℕ) → d < from + n → LabelNumber sys (m LOG j d))
+    → ((d : ℕ) → d < from + n → LoadedNumber sys (m LOG j d))
     → Longer sys WORK TAIL i m (copyM j i from n m) (labelsBetween m LOG j from (from + n))
 unfolding copyM
 longer-copy sys j i from n m room numbers =
@@ -129,7 +129,7 @@ longer-copy sys j i from n m room numbers =
         (longer-more sys WORK TAIL i m before (pushM WORK TAIL i next before) (copied k) (labelOf next ∷ []) grown
         (longer-push sys WORK TAIL i before next (λ e. omega arith)
         (omega (arith, grown .end, labels-length m LOG j from (from + k)))
-        (subst (LabelNumber sys) (sym same) (numbers (from + k) (omega arith)))))
+        (subst (LoadedNumber sys) (sym same) (numbers (from + k) (omega arith)))))
 
 -- ---- a row's log and work list that have grown by the same labels
 
@@ -180,7 +180,7 @@ module _ (sys : System) (i : ℕ) where
       c : ℕ
       c = labelNumber x v
 
-      number : LabelNumber sys c
+      number : LoadedNumber sys c
       number = loaded-number sys x v l h k
 
       out : Mem

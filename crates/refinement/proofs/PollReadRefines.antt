@@ -14,7 +14,7 @@ use Rattle.cells.specs.Layout.{WORKERS, HELD, POLLS}
 use Rattle.cells.specs.Memory.{Mem}
 use Rattle.reads.specs.Reads.{heldM, readPollM}
 use Rattle.controller.specs.Controller.{Machine}
-use Rattle.cells.specs.View.{pollAt, view, listed, heldOf, pollsQueue, rowsOf}
+use Rattle.cells.specs.View.{pollAt, view, contents, heldOf, pollsQueue, rowsOf}
 use Rattle.refinement.proofs.ChannelRows.{at-polls, Stays, Beside, channels-update}
 use Rattle.refinement.proofs.ChannelsKept.{Grown, polls-kept, channels-kept, held-row}
 use Rattle.refinement.specs.Inv.{Small, Inv}
@@ -49,7 +49,7 @@ module _ (sys : System) (small : Small sys) (s : Machine) (inv : Inv sys s) (i :
       λ k hk n. only-row i next m .others k (λ e. n refl (ap suc e)) .workers POLLS in
       channels-kept sys small s inv m′ poll-grown t (Beside 0 (suc i)) (search)
 
-  poll-view : view sys m′ t ≡ afterPoll 0 (suc i) newest (listed (pollsQueue m′ t i)) (view sys m t)
+  poll-view : view sys m′ t ≡ afterPoll 0 (suc i) newest (contents (pollsQueue m′ t i)) (view sys m t)
   unfolding view-parts afterPoll newest
   poll-view = same-state _ _ (record {
     domain = λ x v. refl;
@@ -58,7 +58,7 @@ module _ (sys : System) (small : Small sys) (s : Machine) (inv : Inv sys s) (i :
     toSend = λ k. refl;
     held = actors-update sys (heldOf m) (heldOf m′) none i (some newest) h here there;
     listCounter = λ k. refl;
-    channel = channels-update sys (rowsOf m t) (rowsOf m′ t) 0 (suc i) (listed (pollsQueue m′ t i))
+    channel = channels-update sys (rowsOf m t) (rowsOf m′ t) 0 (suc i) (contents (pollsQueue m′ t i))
         (at-polls sys (rowsOf m′ t) i h) other-channels;
     controller = refl;
   })

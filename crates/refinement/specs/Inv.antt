@@ -26,7 +26,7 @@ pub record Small (sys : System) : Type 0 where
 -- ---- one worker's row
 
 -- the number stands for a loaded label
-pub record LabelNumber (sys : System) (c : ℕ) : Type 0 where
+pub record LoadedNumber (sys : System) (c : ℕ) : Type 0 where
   pub variable : c / 16 < sys .net .variables
   pub value : c % 16 < sys .net .size (c / 16)
 
@@ -42,8 +42,8 @@ pub record Row (sys : System) (m : Mem) (t : Tally) (i : ℕ) : Type 0 where
   pub out-list : (e : ℕ) → e < m WORKERS i OUTEND → LISTMARK ≤ m OUT i e → m OUT i e - LISTMARK < m WORKERS i SENDS
   pub polls-read : m WORKERS i POLLS ≤ t .timestamp .0
   pub held-read : m WORKERS i HELD ≤ m WORKERS i POLLS
-  pub log-labels : (d : ℕ) → d < m WORKERS i LOGEND → LabelNumber sys (m LOG i d)
-  pub work-labels : (d : ℕ) → d < m WORKERS i TAIL → LabelNumber sys (m WORK i d)
+  pub log-labels : (d : ℕ) → d < m WORKERS i LOGEND → LoadedNumber sys (m LOG i d)
+  pub work-labels : (d : ℕ) → d < m WORKERS i TAIL → LoadedNumber sys (m WORK i d)
 
 -- ---- counts over all rows
 

@@ -20,7 +20,7 @@ use Rattle.loading.specs.Load.{loadM}
 use Rattle.controller.specs.Controller.{Machine, machine}
 use Rattle.refinement.specs.Step.{readM, workerM, stepM}
 use Rattle.cells.specs.View.{view}
-use Rattle.treating.specs.Treat.{HeadListed}
+use Rattle.treating.specs.Treat.{HeadLoaded}
 use Rattle.refinement.specs.declared.Progress.{Progress}
 use Rattle.plan.specs.Decode.{planFault}
 use Rattle.format.specs.Format.{workerCount}
@@ -64,7 +64,7 @@ pub record Playable (b cells : List ℕ) (t : Tally) : Type 0 where
   pub ready : Ready b cells
   pub marks : t .marks < 256
   pub workers : workerCount b ≤ 8
-  pub labels : (i : ℕ) → i < workerCount b → HeadListed b (memOf cells) i
+  pub labels : (i : ℕ) → i < workerCount b → HeadLoaded b (memOf cells) i
 
 -- the action `d` of row `i`, on a memory
 abbrev pub workerOn : System → Tally → ℕ → ℕ → Mem → Option Mem

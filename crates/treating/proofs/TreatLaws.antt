@@ -20,11 +20,11 @@ use Rattle.plan.specs.Decode.{planOf}
 use Rattle.plan.specs.Network.{pairAllowed, shareConstraint, networkOf}
 use Rattle.plan.specs.Plan.{sizeOf}
 use Rattle.index.proofs.Linked.{supports-allowed}
-use Rattle.index.specs.Allowed.{Listed}
+use Rattle.index.specs.Allowed.{Loaded}
 use Rattle.cells.specs.Layout.{WORKERS, WORK, DOMAIN, COUNTERS, HEAD, TAIL, LABELROOM}
 use Rattle.cells.specs.Lists.{deleteM}
 use Rattle.cells.specs.Memory.{Mem, store}
-use Rattle.treating.specs.Treat.{SupportRow, loseM, touchM, touchVariableM, touchVariablesM, hasWork, HeadListed, treatM}
+use Rattle.treating.specs.Treat.{SupportRow, loseM, touchM, touchVariableM, touchVariablesM, hasWork, HeadLoaded, treatM}
 use Rattle.cells.specs.View.{LISTED, inDomain, counterRow}
 
 -- ---- a count goes down
@@ -136,7 +136,7 @@ module _ (sys : System) (i : ℕ) (m : Mem) where
   treat-idle n = cond-false _ none (refuted (hasWork i m) (λ e. n (has-work i m e)))
 
 -- it was loaded
-pub head-listed : (b : List ℕ) (i : ℕ) (m : Mem) {head tail c : ℕ} → head ≡ m WORKERS i HEAD → tail ≡ m WORKERS i TAIL
+pub head-loaded : (b : List ℕ) (i : ℕ) (m : Mem) {head tail c : ℕ} → head ≡ m WORKERS i HEAD → tail ≡ m WORKERS i TAIL
     → head < tail → c ≡ m WORK i head
-    → HeadListed b m i → Listed b (c / 16) (c % 16)
-head-listed b i m p q l e f = rw (e, p) (f (omega arith))
+    → HeadLoaded b m i → Loaded b (c / 16) (c % 16)
+head-loaded b i m p q l e f = rw (e, p) (f (omega arith))

@@ -8,7 +8,7 @@ use lib.Dec.{ltb, eqb}
 use Rattle.base.specs.Below.{loop}
 use Rattle.base.specs.Row.{bit}
 use Rattle.disac4.specs.System.{System}
-use Rattle.index.specs.Allowed.{Listed}
+use Rattle.index.specs.Allowed.{Loaded}
 use Rattle.cells.specs.Layout.{WORKERS, WORK, COUNTERS, HEAD, TAIL, LABELROOM}
 use Rattle.cells.specs.Lists.{deleteM}
 use Rattle.cells.specs.Memory.{Mem, store}
@@ -46,8 +46,8 @@ unfoldable pub hasWork : ℕ → Mem → Bool
 hasWork i m = ltb (m WORKERS i HEAD) (m WORKERS i TAIL) && ltb (m WORKERS i HEAD) LABELROOM
 
 -- where row `i` has work, its oldest label is one of the plan's
-abbrev pub HeadListed : List ℕ → Mem → ℕ → Type 0
-HeadListed b m i = m WORKERS i HEAD < m WORKERS i TAIL → Listed b (m WORK i (m WORKERS i HEAD) / 16) (m WORK i (m WORKERS i HEAD) % 16)
+abbrev pub HeadLoaded : List ℕ → Mem → ℕ → Type 0
+HeadLoaded b m i = m WORKERS i HEAD < m WORKERS i TAIL → Loaded b (m WORK i (m WORKERS i HEAD) / 16) (m WORK i (m WORKERS i HEAD) % 16)
 
 -- row `i` takes the oldest label from its work list
 unfoldable pub treatM : System → ℕ → Mem → Option Mem

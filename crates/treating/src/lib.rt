@@ -9,12 +9,12 @@ ghost use lib.ListN.{length};
 ghost use Rattle.base.specs.Below.{loop};
 ghost use Rattle.base.specs.Row.{bit};
 ghost use Rattle.disac4.specs.System.{System, systemAt};
-ghost use Rattle.index.specs.Allowed.{Listed};
+ghost use Rattle.index.specs.Allowed.{Loaded};
 ghost use Rattle.index.specs.Index.{ownLinked, Ready};
 ghost use Rattle.cells.specs.Acts.{Acts};
 ghost use Rattle.cells.specs.Layout.{WORKCELLS};
 ghost use Rattle.cells.specs.Memory.{memOf};
-ghost use Rattle.treating.specs.Treat.{SupportRow, loseM, touchM, touchVariableM, touchVariablesM, HeadListed, treatM};
+ghost use Rattle.treating.specs.Treat.{SupportRow, loseM, touchM, touchVariableM, touchVariablesM, HeadLoaded, treatM};
 ghost use Rattle.cells.specs.View.{counterRow};
 
 // Label v of x loses one from its count, in a row of counters; at 0 row i deletes it.
@@ -57,7 +57,7 @@ fn touch_values(cells: &mut [u16], i: usize, x: usize, n: usize, supported: usiz
 
 // Variable x of row i, which shares a constraint with y.
 fn touch_variable(b: &[u8], cells: &mut [u16], i: usize, y: usize, w: usize, x: usize)
-    requires { ⌜ Ready (now b) (now cells) × (i < 8) × Listed (now b) y w × (ownLinked (now b) i y x ≡ true) ⌝ }
+    requires { ⌜ Ready (now b) (now cells) × (i < 8) × Loaded (now b) y w × (ownLinked (now b) i y x ≡ true) ⌝ }
     ensures { λ _. ⌜ memOf (now (cells .exit)) ≡ touchVariableM (systemAt (now (b .entry))) i y w x (memOf (now (cells .entry))) ⌝ }
 {
     let n = parts::size(b, cells, x);
@@ -68,7 +68,7 @@ fn touch_variable(b: &[u8], cells: &mut [u16], i: usize, y: usize, w: usize, x: 
 
 // Every variable: only those of the row that share a constraint with y are touched, so following their chain is enough.
 fn touch_variables(b: &[u8], cells: &mut [u16], i: usize, y: usize, w: usize)
-    requires { ⌜ Ready (now b) (now cells) × (i < 8) × Listed (now b) y w ⌝ }
+    requires { ⌜ Ready (now b) (now cells) × (i < 8) × Loaded (now b) y w ⌝ }
     ensures { λ _. ⌜ memOf (now (cells .exit)) ≡ touchVariablesM (systemAt (now (b .entry))) i y w (memOf (now (cells .entry))) ⌝ }
 {
     let mut next = layout::get(cells, layout::FIRST, i, y);
@@ -80,7 +80,7 @@ fn touch_variables(b: &[u8], cells: &mut [u16], i: usize, y: usize, w: usize)
 
 // Row i takes the oldest label from its work list: 1 if there is one, and 0 if not.
 pub fn treat(b: &[u8], cells: &mut [u16], i: usize) -> usize
-    requires { ⌜ Ready (now b) (now cells) × (i < 8) × HeadListed (now b) (memOf (now cells)) i ⌝ }
+    requires { ⌜ Ready (now b) (now cells) × (i < 8) × HeadLoaded (now b) (memOf (now cells)) i ⌝ }
     ensures { λ r. ⌜ Acts (treatM (systemAt (now (b .entry))) i) (memOf (now (cells .entry))) (memOf (now (cells .exit))) r ⌝ }
 {
     let head = layout::get(cells, layout::WORKERS, i, layout::HEAD);

@@ -7,7 +7,7 @@ use Rattle.disac4.specs.System.{systemAt}
 use Rattle.cells.proofs.RegionsKept.{kept-same, kept-stored}
 use Rattle.index.proofs.Kept.{ready-kept}
 use Rattle.cells.proofs.Acting.{idle, acts}
-use Rattle.treating.proofs.TreatLaws.{treat-goes, treat-idle, head-listed}
+use Rattle.treating.proofs.TreatLaws.{treat-goes, treat-idle, head-loaded}
 use Rattle.cells.specs.Layout.{WORKERS, HEAD}
 use Rattle.cells.specs.Memory.{memOf}
 use Rattle.treating.specs.Treat.{touchVariablesM}
@@ -52,7 +52,7 @@ touch-variables-requires c κs =
       ready-kept (now (s .args .b)) (now (s .args .cells)) _ (s .pre .0) (p .put .kept .0) (p .put .ensures)
           (kept-stored WORKERS (s .args .i) HEAD _ (omega arith) kept-same),
       s .pre .1,
-      head-listed (now (s .args .b)) (s .args .i) (memOf (now (s .args .cells))) (g .get .ensures .0) (g2 .get2 .ensures .0)
+      head-loaded (now (s .args .b)) (s .args .i) (memOf (now (s .args .cells))) (g .get .ensures .0) (g2 .get2 .ensures .0)
           (t .if1 .left) (g3 .get3 .ensures .0) (s .pre .2),
     )
 
