@@ -6,7 +6,8 @@
  *   tinshrew_run_turns    plays a list of turns on a plan
  *   tinshrew_run_round    plays rounds on a plan until it is closed
  *
- * docs/FORMAT.md has the bytes of a plan and of a turn list, what each turn does, and the round.
+ * docs/FORMAT.md has the bytes of a plan and of a turn list, what each turn does, and the round. A sodium rule allows a
+ * pair exactly if both figures are recorded (65,535 is "not recorded") and their sum is at most the rule's limit.
  *
  * Every call ends, whatever the bytes are. The library allocates nothing and keeps nothing between calls, so
  * calls on different buffers may run at the same time.

@@ -34,9 +34,16 @@ fn codes(rng: &mut Rng, count: usize) -> Vec<u16> {
     codes
 }
 
-fn figure(rng: &mut Rng, scale: u16) -> u16 {
+/// The figures of a plan: mostly up to the scale, and some perhaps missing.
+#[derive(Clone, Copy)]
+struct Figures {
+    scale: u16,
+    unrecorded: bool,
+}
+
+fn figure(rng: &mut Rng, Figures { scale, unrecorded }: Figures) -> u16 {
     match rng.below(10) {
-        0 => NOT_RECORDED,
+        0 if unrecorded => NOT_RECORDED,
         1 => 0,
         2 => rng.pick(&[1, 65_534, 32_767, 32_768]),
         3 => rng.word(),
@@ -44,9 +51,9 @@ fn figure(rng: &mut Rng, scale: u16) -> u16 {
     }
 }
 
-fn variable(rng: &mut Rng, owner: usize, count: usize, scale: u16) -> Variable {
+fn variable(rng: &mut Rng, owner: usize, count: usize, figures: Figures) -> Variable {
     let values =
-        codes(rng, count).into_iter().map(|code| Value { code, sodium: figure(rng, scale) });
+        codes(rng, count).into_iter().map(|code| Value { code, sodium: figure(rng, figures) });
     Variable { owner, values: values.collect() }
 }
 
@@ -85,7 +92,8 @@ fn limit(rng: &mut Rng, one: &Variable, other: &Variable, scale: u16) -> u16 {
             let other = other.values.last().map_or(0, |value| value.sodium);
             one.wrapping_add(other).wrapping_sub(rng.below(2) as u16)
         }
-        _ => rng.below(2 * usize::from(scale) + 1).min(65_535) as u16,
+        // Lower limits would leave little to delete after loading.
+        _ => rng.between(usize::from(scale), 2 * usize::from(scale)).min(65_535) as u16,
     }
 }
 
@@ -126,13 +134,16 @@ pub fn random_plan(rng: &mut Rng, size: Size, exactly: bool) -> Plan {
     let workers = up_to(rng, 1, size.workers);
     let n = up_to(rng, 1, size.variables);
     let scale = rng.pick(&[4, 40, 1_000, 40_000, 65_534]);
+    // Under a sodium rule each value without a figure is deleted; half of the
+    // plans have hardly one.
+    let figures = Figures { scale, unrecorded: rng.chance(1, 2) };
     let spread = if rng.chance(1, 6) { 1 } else { workers };
     let least = usize::from(!rng.chance(1, 6));
     let variables: Vec<Variable> = (0..n)
         .map(|_| {
             let count = up_to(rng, least, size.values);
             let owner = rng.between(1, spread);
-            variable(rng, owner, count, scale)
+            variable(rng, owner, count, figures)
         })
         .collect();
     let constraints = random_constraints(rng, &variables, size.constraints, exactly, scale);
@@ -148,7 +159,7 @@ fn even_variables(rng: &mut Rng, workers: usize, n: usize, values: usize) -> Vec
     (0..n)
         .map(|s| {
             let owner = if rng.chance(1, 8) { rng.between(1, workers) } else { s % workers + 1 };
-            variable(rng, owner, values, 1_000)
+            variable(rng, owner, values, Figures { scale: 1_000, unrecorded: true })
         })
         .collect()
 }
@@ -194,10 +205,10 @@ pub fn chain_plan(rng: &mut Rng, workers: usize, n: usize, values: usize) -> Pla
 /// labels.
 pub fn full_plan(rng: &mut Rng, strictly: bool) -> Plan {
     let mut variables = full_variables(rng);
+    // Each figure recorded and any two within the limit: the chain alone
+    // deletes.
     for value in variables.iter_mut().flat_map(|variable| &mut variable.values) {
-        if value.sodium != NOT_RECORDED {
-            value.sodium /= 4;
-        }
+        value.sodium /= 4;
     }
     let at_most = |a: usize| (0xFFFFu32 << a) as u16;
     let mut constraints = Vec::new();

@@ -39,7 +39,9 @@ faults! {
     OwnerBeforeCount CodeBeforeOwner OwnerZero LastCodeUnseen SameVariable
     VariablesBeforeKind LastRowUnseen TailPlaceIsEnd
     // Constraints.
-    Wraps LimitExcluded UnrecordedJudged ZeroUnrecorded UnjudgedUntied
+    Wraps LimitExcluded HighestLimitIsNone UnrecordedAllowed UnrecordedSummed
+    FirstUnrecordedSummed SecondUnrecordedSummed UnrecordedIsZero ZeroUnrecorded
+    UnrecordedAlwaysDeleted NoneRecordedUntied NothingAllowedUntied
     EitherConstraint LastConstraintOnly OneWay
     // Loading and deletions.
     CountAfterDeletions NoDeletionAtLoading AllAtLoading OwnDeletionUntreated

@@ -78,6 +78,18 @@ impl Net {
             self.rows[16 * b + e][a] = column;
         }
     }
+
+    /// Ties variables to themselves, as no sound variant does: a value with a
+    /// figure supports itself, one without has no support.
+    fn tie_to_themselves(&mut self, sodium: &Sodium) {
+        for s in 0..self.n {
+            self.tied[s] |= 1 << s;
+            for d in 0..self.size(s) {
+                let recorded = sodium[16 * s + d] != u16::MAX;
+                self.rows[16 * s + d][s] = u16::from(recorded) << d;
+            }
+        }
+    }
 }
 
 /// The pairs that an earlier row and a later one allow together.
@@ -126,6 +138,9 @@ pub fn decode<F: Faults>(f: F, bytes: &[u8]) -> Result<Net, Declined> {
         let body = section(f, bytes, start)?;
         decode_constraint(f, body, start, &mut net, &sodium)?;
         start += 2 + body.len();
+    }
+    if f.has(Fault::UnrecordedAlwaysDeleted) {
+        net.tie_to_themselves(&sodium);
     }
     if start < bytes.len() {
         return Err((8, if f.has(Fault::TailPlaceIsEnd) { bytes.len() - 1 } else { start }));
@@ -202,12 +217,15 @@ fn decode_constraint<F: Faults>(
     let rows = if body[2] == 0 {
         table_rows(f, body, start, net, a, b)?
     } else {
-        let unjudged = |s| (0..net.size(s)).all(|d| sodium[16 * s + d] == u16::MAX);
-        if f.has(Fault::UnjudgedUntied) && (unjudged(a) || unjudged(b)) {
+        let none_recorded = |s| (0..net.size(s)).all(|d| sodium[16 * s + d] == u16::MAX);
+        if f.has(Fault::NoneRecordedUntied) && (none_recorded(a) || none_recorded(b)) {
             return Ok(());
         }
         sodium_rows(f, word(body, 3), net, sodium, a, b)
     };
+    if f.has(Fault::NothingAllowedUntied) && rows.iter().all(|&row| row == 0) {
+        return Ok(());
+    }
     net.tie(f, a, b, &rows);
     Ok(())
 }
@@ -265,7 +283,7 @@ fn table_rows<F: Faults>(
     Ok(rows)
 }
 
-/// The rows that a limit on two figures together allows.
+/// The rows that a limit on two recorded figures together allows.
 fn sodium_rows<F: Faults>(
     f: F,
     limit: u16,
@@ -286,17 +304,34 @@ fn sodium_rows<F: Faults>(
 }
 
 fn sodium_allows<F: Faults>(f: F, one: u16, other: u16, limit: u16) -> bool {
-    if f.has(Fault::ZeroUnrecorded) && (one == 0 || other == 0) {
-        return true;
+    if unrecorded(f, one, Fault::FirstUnrecordedSummed)
+        || unrecorded(f, other, Fault::SecondUnrecordedSummed)
+    {
+        return f.has(Fault::UnrecordedAllowed);
     }
-    if f.has(Fault::Wraps) && one != u16::MAX && other != u16::MAX {
+    if f.has(Fault::Wraps) {
         return one.wrapping_add(other) <= limit;
     }
-    if f.has(Fault::LimitExcluded) && one != u16::MAX && other != u16::MAX {
-        return u32::from(one) + u32::from(other) < u32::from(limit);
+    let sum = summand(f, one) + summand(f, other);
+    if f.has(Fault::LimitExcluded) {
+        return sum < u32::from(limit);
     }
-    if !f.has(Fault::UnrecordedJudged) && (one == u16::MAX || other == u16::MAX) {
-        return true;
+    sum <= u32::from(limit) || f.has(Fault::HighestLimitIsNone) && limit == u16::MAX
+}
+
+/// Whether a figure is taken for not recorded. With the fault `untested` none
+/// is.
+fn unrecorded<F: Faults>(f: F, figure: u16, untested: Fault) -> bool {
+    let tested = !f.has(Fault::UnrecordedSummed) && !f.has(Fault::UnrecordedIsZero);
+    tested
+        && !f.has(untested)
+        && (figure == u16::MAX || f.has(Fault::ZeroUnrecorded) && figure == 0)
+}
+
+/// What a figure adds to the sum.
+fn summand<F: Faults>(f: F, figure: u16) -> u32 {
+    if f.has(Fault::UnrecordedIsZero) && figure == u16::MAX {
+        return 0;
     }
-    u32::from(one) + u32::from(other) <= u32::from(limit)
+    u32::from(figure)
 }

@@ -22,7 +22,8 @@ pub struct Variable {
 pub enum Relation {
     /// One row for each value of the first variable.
     Table(Vec<u16>),
-    /// The limit of a sodium rule.
+    /// The limit of a sodium rule, which allows two recorded figures whose
+    /// sum is at most that.
     Sodium(u16),
 }
 
@@ -179,9 +180,9 @@ impl Constraint {
             Relation::Sodium(limit) => {
                 let one = plan.variables[self.first - 1].values[a].sodium;
                 let other = plan.variables[self.second - 1].values[b].sodium;
-                one == NOT_RECORDED
-                    || other == NOT_RECORDED
-                    || u32::from(one) + u32::from(other) <= u32::from(*limit)
+                one != NOT_RECORDED
+                    && other != NOT_RECORDED
+                    && u32::from(one) + u32::from(other) <= u32::from(*limit)
             }
         }
     }

@@ -36,6 +36,33 @@ pub fn no_values() -> Vec<u8> {
     Plan { workers: 1, variables: vec![variable(1, &[])], constraints: vec![] }.encode()
 }
 
+/// A limit, two figures, and whether a sodium rule allows the pair.
+const SODIUM: &[(u16, u16, u16, bool)] = &[
+    (1_200, 700, 500, true),
+    (1_200, 700, 501, false),
+    (1_200, 700, NOT_RECORDED, false),
+    (1_200, NOT_RECORDED, 500, false),
+    (0, 300, NOT_RECORDED, false),
+    (0, NOT_RECORDED, 300, false),
+    (0, 300, 0, false),
+    (0, 0, 300, false),
+    (0, 0, 0, true),
+    (0, NOT_RECORDED, NOT_RECORDED, false),
+    (65_535, 0, NOT_RECORDED, false),
+    (65_535, NOT_RECORDED, 0, false),
+    (65_535, NOT_RECORDED, NOT_RECORDED, false),
+    (65_535, 65_534, 0, true),
+    (65_535, 65_534, 1, true),
+    (65_535, 65_534, 2, false),
+    (65_535, 40_000, 40_000, false),
+    (65_534, 65_534, 0, true),
+    (65_534, 65_534, 1, false),
+    // The sum less 65,536 is 14,464.
+    (14_464, 40_000, 40_000, false),
+    // The sum less 65,536 is 65,534.
+    (65_534, NOT_RECORDED, NOT_RECORDED, false),
+];
+
 /// One value against one, under a sodium rule.
 pub fn two_figures(limit: u16, one: u16, other: u16) -> Vec<u8> {
     Plan {
@@ -44,6 +71,79 @@ pub fn two_figures(limit: u16, one: u16, other: u16) -> Vec<u8> {
         constraints: vec![sodium(1, 2, limit)],
     }
     .encode()
+}
+
+const SOUP: (u16, u16) = (1, NOT_RECORDED);
+const BROTH: (u16, u16) = (2, 50);
+const MAINS: [(u16, u16); 2] = [(3, 600), (4, 900)];
+
+/// A plan in which each variable has a worker of its own.
+fn apart(variables: &[&[(u16, u16)]], constraints: &[Constraint]) -> Plan {
+    let variables = (1..).zip(variables).map(|(owner, values)| variable(owner, values));
+    let variables: Vec<Variable> = variables.collect();
+    Plan { workers: variables.len(), variables, constraints: constraints.to_vec() }
+}
+
+/// A soup without a figure and a broth with one, against two mains.
+fn soup() -> Plan {
+    apart(&[&[SOUP, BROTH], &MAINS], &[sodium(1, 2, 1_200)])
+}
+
+/// Turns that close it: the soup's deletion goes to the other worker and the
+/// controller, and then both workers answer the poll.
+fn soup_turns() -> Vec<u8> {
+    hex("0109 010A 0201 0209 0001 000C 0100 0200 010B 020B 0001 0002")
+}
+
+/// A plan with its lists after loading and when closed.
+type Listed = (Plan, &'static [u16], &'static [u16]);
+
+/// Plans with a soup that has no figure.
+fn unrecorded() -> Vec<Listed> {
+    let rule = |first, second| sodium(first, second, 65_535);
+    let starters: &[_] = &[SOUP, BROTH];
+    vec![
+        // A sodium rule deletes the soup, the broth stays.
+        (soup(), &[2, 3], &[2, 3]),
+        (apart(&[&MAINS, &[BROTH, SOUP]], &[rule(1, 2)]), &[3, 1], &[3, 1]),
+        // No constraint on the soup.
+        (apart(&[&[SOUP]], &[]), &[1], &[1]),
+        (apart(&[&[SOUP], &[BROTH], &MAINS], &[rule(2, 3)]), &[1, 1, 3], &[1, 1, 3]),
+        // Only a table on it, which takes the broth and the second main.
+        (apart(&[starters, &MAINS], &[table(1, 2, &[1, 0])]), &[1, 1], &[1, 1]),
+        // Only a table on it, and a sodium rule on the broth it goes with.
+        (
+            apart(&[&[SOUP], &[BROTH], &MAINS], &[table(1, 2, &[1]), rule(2, 3)]),
+            &[1, 1, 3],
+            &[1, 1, 3],
+        ),
+        // The soup alone: the mains have no support either.
+        (apart(&[&[SOUP], &MAINS], &[rule(1, 2)]), &[0, 0], &[0, 0]),
+        (apart(&[&MAINS, &[SOUP]], &[rule(1, 2)]), &[0, 0], &[0, 0]),
+        // A table that allows everything does not save the soup.
+        (apart(&[starters, &MAINS], &[table(1, 2, &[3, 3]), rule(1, 2)]), &[2, 3], &[2, 3]),
+        (apart(&[starters, &MAINS], &[rule(1, 2), table(1, 2, &[3, 3])]), &[2, 3], &[2, 3]),
+        // The first main goes with the soup only and is lost after it.
+        (
+            apart(&[starters, &[BROTH], &MAINS], &[rule(1, 2), table(1, 3, &[1, 2])]),
+            &[2, 1, 3],
+            &[2, 1, 2],
+        ),
+        // The soup empties all that is tied to it, and nothing else.
+        (
+            apart(&[&[SOUP], &[BROTH], &MAINS, &[SOUP]], &[rule(1, 2), table(2, 3, &[3])]),
+            &[0, 0, 3, 1],
+            &[0, 0, 0, 1],
+        ),
+    ]
+}
+
+/// Two variables and a sodium rule that allows no pair of theirs: there is
+/// none, a figure is missing, or the sum is above the limit.
+fn nothing_allowed() -> [Plan; 4] {
+    let variables: [[&[(u16, u16)]; 2]; 4] =
+        [[&[BROTH], &[]], [&[SOUP], &[]], [&[SOUP], &MAINS], [&[BROTH], &MAINS]];
+    variables.map(|both| apart(&both, &[sodium(1, 2, 649)]))
 }
 
 /// One value against two; each table allows one pair only.
@@ -67,7 +167,18 @@ pub fn three_differ() -> Vec<u8> {
     .encode()
 }
 
-/// Every worked plan with a turn list, in the document's order.
+/// One value against one, and so many times the same sodium rule.
+fn same_constraints(count: usize) -> Vec<u8> {
+    Plan {
+        workers: 1,
+        variables: vec![variable(1, &[(1, 1)]); 2],
+        constraints: vec![sodium(1, 2, 2); count],
+    }
+    .encode()
+}
+
+/// The worked plans, each with a turn list: the documents' and more of their
+/// kind.
 pub fn worked() -> Vec<(Vec<u8>, Vec<u8>)> {
     let (p, t) = (plan_p(), turns_t());
     let mut cases = vec![(p.clone(), t.clone())];
@@ -79,19 +190,15 @@ pub fn worked() -> Vec<(Vec<u8>, Vec<u8>)> {
     }
     cases.push((p.clone(), hex("000C 0200 020B 0109 0100 010B")));
     cases.push((no_values(), hex("000C 0100 010B 0001")));
-    for (limit, one, other) in [
-        (1200, 700, 500),
-        (1200, 700, 501),
-        (0, 300, NOT_RECORDED),
-        (0, 300, 0),
-        (0, 0, 0),
-        (65_535, 65_534, 1),
-        (65_535, 65_534, 2),
-        (65_535, 40_000, 40_000),
-        (10_000, 40_000, 40_000),
-        (0, NOT_RECORDED, NOT_RECORDED),
-    ] {
+    for &(limit, one, other, _) in SODIUM {
         cases.push((two_figures(limit, one, other), vec![]));
+    }
+    for (plan, _, _) in unrecorded() {
+        cases.push((plan.encode(), vec![]));
+    }
+    cases.push((soup().encode(), soup_turns()));
+    for plan in nothing_allowed() {
+        cases.push((plan.encode(), vec![]));
     }
     cases.push((half_supports(), vec![]));
     cases.push((three_differ(), vec![]));
@@ -104,10 +211,8 @@ pub fn worked() -> Vec<(Vec<u8>, Vec<u8>)> {
     let too_many =
         Plan { workers: 1, variables: vec![variable(1, &seventeen)], constraints: vec![] };
     cases.push((too_many.encode(), vec![]));
-    let pair = vec![variable(1, &[(1, 1)]), variable(1, &[(1, 1)])];
     for count in [128, 129] {
-        let constraints = vec![sodium(1, 2, 2); count];
-        cases.push((Plan { workers: 1, variables: pair.clone(), constraints }.encode(), vec![]));
+        cases.push((same_constraints(count), vec![]));
     }
     cases.push((p, hex("0101")));
     cases
@@ -162,6 +267,13 @@ mod tests {
         Report { status, changed, lists_sent, polls_sent, lowest_empty }
     }
 
+    /// The largest lists as cells.
+    fn largest_cells(plan: &Plan) -> Vec<u16> {
+        let lists = largest_lists(plan, &Network::new(plan));
+        let cell = |list: Vec<bool>| (0..).zip(list).map(|(at, kept)| u16::from(kept) << at).sum();
+        lists.into_iter().map(cell).collect()
+    }
+
     fn declined(number: usize, place: usize) -> Decline {
         Decline { number, place }
     }
@@ -197,13 +309,30 @@ mod tests {
 
     #[test]
     fn sodium_limits() {
-        let listed = |limit, one, other| play(&two_figures(limit, one, other), &[]).unwrap().1;
-        assert_eq!(listed(1200, 700, 500), vec![1, 1]);
-        assert_eq!(listed(1200, 700, 501), vec![0, 0]);
-        assert_eq!(listed(0, 300, NOT_RECORDED), vec![1, 1]);
-        assert_eq!(listed(0, 300, 0), vec![0, 0]);
-        assert_eq!(listed(65_535, 65_534, 1), vec![1, 1]);
-        assert_eq!(listed(65_535, 40_000, 40_000), vec![0, 0]);
+        for &(limit, one, other, allowed) in SODIUM {
+            let listed = play(&two_figures(limit, one, other), &[]).unwrap().1;
+            let expected = if allowed { vec![1, 1] } else { vec![0, 0] };
+            assert_eq!(listed, expected, "{one} and {other} with limit {limit}");
+        }
+    }
+
+    #[test]
+    fn unrecorded_values() {
+        for (plan, loaded, closed) in unrecorded() {
+            let bytes = plan.encode();
+            assert_eq!(play(&bytes, &[]).unwrap().1, loaded, "{plan:?}");
+            assert_eq!(round(&bytes).unwrap().1, closed, "{plan:?}");
+            assert_eq!(largest_cells(&plan), closed, "{plan:?}");
+        }
+    }
+
+    #[test]
+    fn soup_is_deleted_at_loading() {
+        let plan = soup().encode();
+        let open = (report(Status::Open, [0, 0, 0, 0]), vec![2, 3]);
+        assert_eq!(play(&plan, &[]), Ok(open));
+        let closed = (report(Status::Closed, [12, 1, 1, 0]), vec![2, 3]);
+        assert_eq!(play(&plan, &soup_turns()), Ok(closed));
     }
 
     #[test]
@@ -214,13 +343,10 @@ mod tests {
     }
 
     #[test]
-    fn unjudged_constraint_ties() {
-        let plan = Plan {
-            workers: 1,
-            variables: vec![variable(1, &[(1, NOT_RECORDED)]), variable(1, &[])],
-            constraints: vec![sodium(1, 2, 0)],
-        };
-        assert_eq!(play(&plan.encode(), &[]).unwrap().1, vec![0, 0]);
+    fn constraint_that_allows_nothing_ties() {
+        for plan in nothing_allowed() {
+            assert_eq!(play(&plan.encode(), &[]).unwrap().1, vec![0, 0], "{plan:?}");
+        }
     }
 
     #[test]
@@ -256,6 +382,8 @@ mod tests {
         assert_eq!(changed(46, 0), declined(3, 42));
         assert_eq!(changed(55, 4), declined(7, 49));
         assert_eq!(check_plan(&[p.clone(), vec![0]].concat()), Err(declined(8, 58)));
+        assert_eq!(play(&same_constraints(128), &[]).unwrap().1, vec![1, 1]);
+        assert_eq!(play(&same_constraints(129), &[]), Err(declined(4, 1)));
         assert_eq!(play(&p, &hex("0101")), Err(declined(12, 0)));
         assert_eq!(play(&p, &hex("0109 000C 0009 0101")), Err(declined(12, 2)));
         assert_eq!(play(&[], &[1]), Err(declined(11, 0)));

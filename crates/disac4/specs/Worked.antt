@@ -1,4 +1,5 @@
--- The starred lines of document 01's "Plans worked by hand": questions to the definitions, and what the document says of each.
+-- The starred lines of document 01's "Plans worked by hand", as document 02 changes them: questions to the definitions, and
+-- what the documents say of each.
 use Prim.Native.Nat.{ℕ, suc}
 use mathlib.Core.Bool.{Bool, true, false, cond, _&&_}
 use mathlib.Core.List.{List, [], _∷_, _++_, map}
@@ -78,7 +79,7 @@ findingOf (bound b) = unless (planFault b) (number (boundOf (systemAt b)))
 findingOf (solution b) = unless (planFault b) (truth (solvable (systemAt b .net)))
 findingOf (pair b x v y w) = unless (planFault b) (truth (systemAt b .net .allows x v y w))
 
--- a starred line: a question, and what the document states
+-- a starred line: a question, and what the documents state
 pub record Line : Type 0 where
   pub question : Question
   pub stated : Finding
@@ -146,7 +147,7 @@ table =
     ∷ (bound planBare gives number 4)
     ∷ (pair planLimit 0 0 1 0 gives truth true)
     ∷ (pair planLimit 0 0 1 1 gives truth false)
-    ∷ (pair planUnrecorded 0 0 1 0 gives truth true)
+    ∷ (pair planUnrecorded 0 0 1 0 gives truth false)
     ∷ (pair planUnrecorded 0 0 1 1 gives truth false)
     ∷ (run planHalves [] gives reported Open 0 0 0 1 (0 ∷ 0 ∷ []))
     ∷ (unsentOf planHalves [] 1 gives labels (label 0 0 ∷ label 1 0 ∷ label 1 1 ∷ []))

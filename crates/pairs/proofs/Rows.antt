@@ -1,18 +1,17 @@
 -- The row of values that a constraint permits, read from either of its variables.
-use Prim.Native.Nat.{ℕ, suc, _+_, _-_, _*_, _/_, _%_, _^_, _<_, _≤_}
-use mathlib.Core.Bool.{Bool, true, false, _||_, and-comm, or-comm}
+use Prim.Native.Nat.{ℕ, suc, _+_, _-_, _*_, _/_, _%_, _<_, _≤_}
+use mathlib.Core.Bool.{Bool, true, false, and-comm}
 use mathlib.Core.List.{List}
 use mathlib.Core.Logic.{⊎-elim}
 use mathlib.Core.Option.{none}
 use mathlib.Core.Path.{_≡_, refl, sym, _∙_, ap, ap₂}
-use native.Mathlib.Nat.{add-comm}
 use native.Mathlib.Decide.{ℕ-discrete}
 use native.Mathlib.Omega.{arith}
-use borrow.Author.Tests.{ltb-true, ltb-false, leb-true, le-leb}
+use borrow.Author.Tests.{ltb-true, ltb-false, lt-ltb, le-ltb, leb-true, le-leb}
 use lib.Dec.{leb, ltb, eqb}
 use Rattle.base.proofs.Bools.{decided, bool-ext}
 use Rattle.base.proofs.Choice.{cond-true, cond-false}
-use Rattle.base.proofs.Row.{bit-low, bit-high, row-bit, row-ext, row-full}
+use Rattle.base.proofs.Row.{bit-low, bit-high, row-bit}
 use Rattle.base.specs.Bytes.{byteAt, wordAt}
 use Rattle.base.specs.Row.{bit, rowOf}
 use Rattle.format.specs.Format.{variableCount, constraintCount, kindAt, tableRowAt, tableByteAt, limitAt, figureAt}
@@ -20,41 +19,31 @@ use Rattle.index.proofs.Accepted.{acceptsAt, permits-table, permits-limit, perm
 use Rattle.index.proofs.Ends.{over-turned}
 use Rattle.index.specs.Allowed.{permitsAt, permitsFrom, limited, inColumn, Loaded}
 use Rattle.index.specs.Index.{over, Placed}
-use Rattle.plan.proofs.Limits.{unrecorded-allows, recorded-judges}
+use Rattle.plan.proofs.Limits.{unrecorded-forbids, recorded-judges, limit-turned}
 use Rattle.plan.specs.Decode.{planFault, planOf}
-use Rattle.plan.specs.Network.{unrecorded, withinLimit, spares, accepts}
+use Rattle.plan.specs.Network.{withinLimit, spares, accepts}
 use Rattle.plan.specs.Plan.{constraintOf}
 
 -- ---- the row of one constraint
 
--- a limit judges two figures in either order
-limit-turned : (limit f g : ℕ) → withinLimit limit f g ≡ withinLimit limit g f
-unfolding withinLimit
-limit-turned limit f g =
-    ap₂ _||_ (or-comm (unrecorded f) (unrecorded g)) (ap (λ (k : ℕ). leb k limit) (add-comm f g))
+-- beside an unrecorded figure there is no room
+pub no-room : (limit f : ℕ) → f ≡ 65535 → (g : ℕ) → ltb g 0 ≡ withinLimit limit f g
+no-room limit f e g = rw e (le-ltb g 0 (omega arith) ∙ sym (unrecorded-forbids limit g .0))
 
--- one test for a figure beside a recorded one
-pub room-judges : (limit f g room : ℕ) → f < 65535 → g < 65536 → room ≡ limit + 1 - f
-    → leb ((g + 1) % 65536) room ≡ withinLimit limit f g
-room-judges limit f g room h k e =
+-- beside a recorded figure, a room judges as the limit does if it is at most 65,535 and the other figures below it are
+-- those whose sum with that figure is within the limit
+pub room-judges : (limit f room : ℕ) → (f ≡ 65535 → ⊥) → room ≤ 65535
+    → ((g : ℕ) → (g ≡ 65535 → ⊥) → (g < room → f + g ≤ limit) × (f + g ≤ limit → g < room))
+    → (g : ℕ) → ltb g room ≡ withinLimit limit f g
+room-judges limit f room recorded capped fits g =
     elim (ℕ-discrete g 65535) [
-      | yes q ↦ rw q (le-leb 0 room (omega arith) ∙ sym (unrecorded-allows limit f .1))
+      | yes q ↦ rw q (le-ltb 65535 room capped ∙ sym (unrecorded-forbids limit f .1))
       | no d ↦
-          let small : (g + 1) % 65536 ≡ g + 1 = omega arith in
-          rw small
-          (bool-ext (leb (g + 1) room) (leb (f + g) limit)
-          (λ t. le-leb (f + g) limit (omega (arith, leb-true (g + 1) room t)))
-          (λ t. le-leb (g + 1) room (omega (arith, leb-true (f + g) limit t))))
-          ∙ sym (recorded-judges limit f g (λ q. omega arith) d)
+          bool-ext (ltb g room) (leb (f + g) limit)
+          (λ t. le-leb (f + g) limit (fits g d .0 (ltb-true g room t)))
+          (λ t. lt-ltb g room (fits g d .1 (leb-true (f + g) limit t)))
+          ∙ sym (recorded-judges limit f g recorded d)
     ]
-
--- with a figure that is not recorded, a limit permits all values
-pub limit-free : (b : List ℕ) (limit place n p f : ℕ) → f ≡ 65535 → p ≡ 2 ^ n → p - 1 ≡ rowOf n (limited b limit f place)
-unfolding limited
-limit-free b limit place n p f e q =
-    rw (e, q)
-    (row-full n
-    ∙ row-ext n (λ w. true) (limited b limit 65535 place) (λ w h. sym (unrecorded-allows limit (figureAt b place w) .0)))
 
 module _ (b : List ℕ) (at here v there : ℕ) where
   -- a limit's row, from either variable

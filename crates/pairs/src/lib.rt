@@ -7,7 +7,8 @@ use format::read;
 use index::parts;
 ghost use mathlib.Core.Bool.{true};
 ghost use mathlib.Core.Path.{_≡_};
-ghost use Prim.Native.Nat.{ℕ, _+_, _-_, _<_, _≤_};
+ghost use Prim.Native.Nat.{ℕ, _<_, _≤_};
+ghost use lib.Dec.{ltb};
 ghost use lib.ListN.{length};
 ghost use Rattle.base.specs.Row.{bit, rowOf};
 ghost use Rattle.index.specs.Allowed.{permitsFrom, limited, inColumn, Loaded};
@@ -17,39 +18,40 @@ ghost use Rattle.plan.specs.Decode.{planOf};
 ghost use Rattle.plan.specs.Network.{withinLimit, shareConstraint, networkOf};
 ghost use Rattle.plan.specs.Plan.{sizeOf};
 
-// One more than what a limit leaves beside figure f, and 0 where f is over it.
+// The sodium figure that means "not recorded".
+const UNRECORDED: usize = 65535;
+
+// The room that a limit leaves beside figure f: it permits exactly the figures below the room. Beside an unrecorded one
+// there is none. It is at most 65,535, so that an unrecorded figure is never below it: the limit 65,535 would let it pass
+// beside 0.
 fn room_beside(limit: usize, f: usize) -> usize
     requires { ⌜ limit < 65536 ⌝ }
-    ensures { λ r. ⌜ r ≡ limit + 1 - f ⌝ }
+    ensures { λ r. ⌜ ((g : ℕ) → ltb g r ≡ withinLimit limit f g) ⌝ }
 {
-    if f <= limit { limit + 1 - f } else { 0 }
-}
-
-// Whether figure g fits into that room beside a recorded figure. 65,535 is no recorded figure, and then nothing is judged:
-// one more than it becomes 0, so that one test serves both.
-fn permits_figure(room: usize, g: usize) -> bool
-    requires { ⌜ g < 65536 ⌝ }
-    ensures { λ r. ⌜ ((limit f : ℕ) → f < 65535 → room ≡ limit + 1 - f → r ≡ withinLimit limit f g) ⌝ }
-{
-    (g + 1) % 65536 <= room
+    if f == UNRECORDED {
+        return 0;
+    }
+    if limit < f {
+        0
+    } else if limit - f < UNRECORDED {
+        limit - f + 1
+    } else {
+        UNRECORDED
+    }
 }
 
 // The row of the values of the variable at `place` whose figures a limit permits with figure f; it has `values` of them.
-// A figure that is not recorded goes with all of them. From the last one down the row is doubled: that is quicker than
-// to shift each bit to its place.
+// From the last one down the row is doubled: that is quicker than to shift each bit to its place.
 fn limit_row(b: &[u8], limit: usize, f: usize, place: usize, values: usize) -> usize
-    requires { ⌜ (place ≤ length (now b)) × (f < 65536) × (values ≤ 16) × (limit < 65536) ⌝ }
+    requires { ⌜ (place ≤ length (now b)) × (values ≤ 16) × (limit < 65536) ⌝ }
     ensures { λ r. ⌜ r ≡ rowOf values (limited (now (b .entry)) limit f place) ⌝ }
 {
-    if f == 65535 {
-        return power(values) - 1;
-    }
     let room = room_beside(limit, f);
     let mut row = 0;
     let mut w = values;
     while w != 0 {
         w -= 1;
-        row = 2 * row + row_if(permits_figure(room, read::figure(b, place, w)), 0);
+        row = 2 * row + row_if(read::figure(b, place, w) < room, 0);
     }
     row
 }

@@ -12,9 +12,9 @@ use Rattle.plan.specs.Plan.{Plan, Relation, table, sumLimit, Constraint,
 unfoldable pub unrecorded : ℕ → Bool
 unrecorded figure = eqb figure 65535
 
--- a sodium rule allows a pair when the figures sum to at most its limit, and does not judge a pair with an unrecorded one
+-- a sodium rule allows a pair exactly if both figures are recorded and their sum is within its limit
 unfoldable pub withinLimit : ℕ → ℕ → ℕ → Bool
-withinLimit limit f g = unrecorded f || unrecorded g || leb (f + g) limit
+withinLimit limit f g = not (unrecorded f) && not (unrecorded g) && leb (f + g) limit
 
 -- the rule allows value `v` of its first variable `x` with value `w` of its second variable `y`
 unfoldable pub permits : Plan → Relation → ℕ → ℕ → ℕ → ℕ → Bool
