@@ -92,7 +92,7 @@ fn limit(rng: &mut Rng, one: &Variable, other: &Variable, scale: u16) -> u16 {
             let other = other.values.last().map_or(0, |value| value.sodium);
             one.wrapping_add(other).wrapping_sub(rng.below(2) as u16)
         }
-        // Lower limits would leave little to delete after loading.
+        // Not below the scale: more plans would end bare.
         _ => rng.between(usize::from(scale), 2 * usize::from(scale)).min(65_535) as u16,
     }
 }
