@@ -5,14 +5,14 @@ use mathlib.Core.Option.{none, some}
 use mathlib.Core.Path.{_≡_, ap}
 use borrow.Author.Tests.{lt-ltb, le-ltb}
 use Rattle.disac4.specs.Outcome.{bufferChecks, bufferFault}
-use Rattle.turns.specs.Bad.{badTurn}
+use Rattle.inputs.specs.Bad.{badTurn}
 use Rattle.parser.proofs.Scanned.{verdict-passes, verdict-fails}
-use Rattle.plan.specs.Check.{firstFault, faultAt, verdictOf}
-use Rattle.plan.specs.Fault.{decline}
-use Rattle.plan.specs.declared.Fault.{Fault}
-use Rattle.plan.specs.declared.Fault.the-variants.{BadTurn}
-use Rattle.plan.specs.declared.Verdict.{Verdict}
-use Rattle.plan.specs.declared.Verdict.the-variants.{Passes, Fails}
+use Rattle.faults.specs.CheckList.{firstFault, faultAt, verdictOf}
+use Rattle.faults.specs.Fault.{decline}
+use Rattle.faults.specs.declared.Fault.{Fault}
+use Rattle.faults.specs.declared.Fault.the-variants.{BadTurn}
+use Rattle.faults.specs.declared.Verdict.{Verdict}
+use Rattle.faults.specs.declared.Verdict.the-variants.{Passes, Fails}
 
 -- what a verdict on the buffers stands for
 module _ (work lists : List ℕ) (v : Verdict) (e : v ≡ verdictOf (firstFault (bufferChecks work lists))) where

@@ -1,9 +1,9 @@
 // The runs that the library delivers: the turn run and the round run. Neither asks anything of its caller. The plan check, which is
 // delivered beside them, is the parser's.
 use disac4::Answer;
+use faults::Fault;
+use faults::Verdict;
 use plan::Checked;
-use plan::Fault;
-use plan::Verdict;
 use plan::declined;
 ghost use mathlib.Core.Path.{_≡_};
 ghost use Rattle.base.specs.Choice.{firstOf};
@@ -14,17 +14,17 @@ ghost use Rattle.plan.specs.Answer.{checkOf};
 fn check_run(plan: &[u8], turns: &[u8], work: &[u16], lists: &[u16]) -> Checked
     ensures { λ r. ⌜ r ≡ checkOf (now (plan .entry)) (firstOf (bufferFault (now (work .entry)) (now (lists .entry))) (inputFault (now (plan .entry)) (now (turns .entry)))) ⌝ }
 {
-    let verdict = turns::check_buffers(work, lists);
+    let verdict = inputs::check_buffers(work, lists);
     if let Verdict::Fails(fault) = verdict {
         return declined(fault, 0);
     }
-    if !turns::list_fits(turns) {
+    if !inputs::list_fits(turns) {
         return declined(Fault::BadTurnList, 0);
     }
     match parser::check_plan(plan) {
         Checked::Declined(d) => Checked::Declined(d),
         Checked::Accepted(f) => {
-            let bad = turns::first_bad(turns, f.workers);
+            let bad = inputs::first_bad(turns, f.workers);
             if bad < turns.len() / 2 {
                 return declined(Fault::BadTurn, bad);
             }

@@ -1,8 +1,8 @@
 pub mod Acting
 pub mod Cleared
 pub mod Done
-pub mod ListLaws
 pub mod Overwritten
+pub mod Pushing
 pub mod Queue
 pub mod Ranges
 pub mod Regions

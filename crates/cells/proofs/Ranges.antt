@@ -4,7 +4,7 @@ use mathlib.Core.List.{List}
 use mathlib.Core.Path.{_≡_}
 use lib.ListN.{length}
 use Rattle.cells.specs.Layout.{BEHIND, WORKCELLS, LABELROOM, regionAt, Fits}
-use Rattle.cells.specs.Lists.{Pushes}
+use Rattle.cells.specs.Queues.{Pushes}
 use Rattle.cells.specs.declared.Region.{Region}
 
 module _ (cells : List ℕ) (g : Region) (i : ℕ) (known : regionAt (g .id) ≡ g) where

@@ -8,7 +8,7 @@ use Rattle.base.proofs.Loops.{loop-keeps}
 use Rattle.base.specs.Below.{loop}
 use Rattle.cells.proofs.Stores.{store-apart}
 use Rattle.cells.specs.Layout.{WORKERS, LOG, WORK, DOMAIN, TAIL, LOGEND, LABELROOM}
-use Rattle.cells.specs.Lists.{pushM, deleteM}
+use Rattle.cells.specs.Queues.{pushM, deleteM}
 use Rattle.cells.specs.Memory.{Mem, store}
 use Rattle.cells.specs.View.{labelNumber}
 

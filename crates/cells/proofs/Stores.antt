@@ -9,7 +9,7 @@ use Rattle.base.proofs.Bools.{and-left, and-right, and-intro, refuted}
 use Rattle.base.proofs.Choice.{cond-true, cond-false}
 use Rattle.base.proofs.Loops.{loop-same}
 use Rattle.cells.specs.Layout.{WORKERS, LOG, WORK, TAIL, LABELROOM}
-use Rattle.cells.specs.Lists.{pushM, copyLabelM, copyM}
+use Rattle.cells.specs.Queues.{pushM, copyLabelM, copyM}
 use Rattle.cells.specs.Memory.{Mem, store}
 
 module _ (m : Mem) (r i j v : ℕ) where

@@ -1,5 +1,5 @@
 pub mod Acts
 pub mod Layout
-pub mod Lists
 pub mod Memory
+pub mod Queues
 pub mod View

@@ -1,7 +1,7 @@
 // The work cells: where each part of a state stands, and the lists that workers keep in them.
 pub mod clear;
 pub mod layout;
-pub mod lists;
+pub mod queues;
 
 // A part of the work cells: rows of as many columns, from a fixed place on.
 pub struct Region {

@@ -49,7 +49,7 @@ fn support_rows(b: &[u8], cells: &[u16], x: usize, y: usize, others: &mut [u16; 
     let mut rows = no_rows();
     let mut v = 0;
     while v < n {
-        let row = pairs::support_row(b, cells, x, v, y);
+        let row = supports::support_row(b, cells, x, v, y);
         rows[v] = row as u16;
         gather(others, row, v);
         v += 1;

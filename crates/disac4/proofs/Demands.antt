@@ -21,7 +21,7 @@ use Rattle.disac4.proofs.Delivered.{quiet-sent, quiet-read, quiet-treat
 use Rattle.disac4.proofs.Final.{closed-stays, domain-shrinks}
 use Rattle.disac4.proofs.Fold.{play-append}
 use Rattle.disac4.proofs.Largest.{never-lost, quiet-largest}
-use Rattle.disac4.proofs.Progress.{progress}
+use Rattle.disac4.proofs.GoesOn.{progress}
 use Rattle.disac4.proofs.RoundRun.{turns-closed, turns-open, round-run-closes, round-run-complete}
 use Rattle.disac4.proofs.Rounds.{round-allowed}
 use Rattle.disac4.proofs.Safety.{closed-quiet}

@@ -17,6 +17,7 @@ pub mod Expected
 pub mod Final
 pub mod Flow
 pub mod Fold
+pub mod GoesOn
 pub mod Idle
 pub mod IdleAction
 pub mod Largest
@@ -26,7 +27,6 @@ pub mod Order
 pub mod Outcome
 pub mod PollBound
 pub mod Potential
-pub mod Progress
 pub mod QueueLengths
 pub mod Quiet
 pub mod Remaining

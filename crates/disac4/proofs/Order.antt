@@ -12,12 +12,12 @@ use Rattle.base.proofs.Below.{first-below, first-at, none-first}
 use Rattle.base.proofs.Choice.{by-test, cond-true, cond-false, none≢some, some-same, unless-some}
 use Rattle.base.specs.Below.{firstBelow}
 use Rattle.base.specs.Choice.{firstOf}
-use Rattle.plan.specs.Check.{_orElse_, firstFault, faultAt}
+use Rattle.faults.specs.CheckList.{_orElse_, firstFault, faultAt}
 use Rattle.plan.specs.Decode.{planFault}
-use Rattle.plan.specs.Fault.{decline}
+use Rattle.faults.specs.Fault.{decline}
 use Rattle.format.specs.Format.{workerCount}
-use Rattle.plan.specs.declared.Decline.{Decline}
-use Rattle.plan.specs.declared.Fault.the-variants.{ShortWork, ShortLists, BadTurnList, BadTurn}
+use Rattle.faults.specs.declared.Decline.{Decline}
+use Rattle.faults.specs.declared.Fault.the-variants.{ShortWork, ShortLists, BadTurnList, BadTurn}
 use Rattle.disac4.specs.Outcome.{bufferChecks, bufferFault, inputFault, runOf, roundRun, workNeed, listNeed, LongEnough}
 use Rattle.disac4.specs.Round.{roundRunTurns}
 use Rattle.disac4.specs.System.{systemAt}

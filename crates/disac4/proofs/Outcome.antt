@@ -11,7 +11,7 @@ use lib.Seq.{getD-append-add, getD-drop}
 use Rattle.base.proofs.Below.{length-list-below}
 use Rattle.base.proofs.Choice.{none≢some}
 use Rattle.base.specs.Choice.{firstOf}
-use Rattle.plan.specs.declared.Decline.{Decline}
+use Rattle.faults.specs.declared.Decline.{Decline}
 use Rattle.plan.proofs.WellFormed.{read-well-formed}
 use Rattle.plan.specs.Decode.{planFault}
 use Rattle.plan.specs.Network.{networkOf}

@@ -13,7 +13,7 @@ use Rattle.base.specs.Below.{one}
 use Rattle.disac4.proofs.Bound.{turns-bounded, potential-loaded}
 use Rattle.disac4.proofs.Fold.{after-same, play-append}
 use Rattle.disac4.proofs.Potential.{potential}
-use Rattle.disac4.proofs.Progress.{progress}
+use Rattle.disac4.proofs.GoesOn.{progress}
 use Rattle.disac4.proofs.Rounds.{allowed-round}
 use Rattle.disac4.specs.Fold.{playBy, gatherBy, countBy}
 use Rattle.disac4.specs.Loading.{load}

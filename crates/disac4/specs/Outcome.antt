@@ -6,11 +6,11 @@ use mathlib.Core.Path.{_≡_}
 use lib.Dec.{leb}
 use lib.ListN.{length, getD, drop, replicate}
 use Rattle.base.specs.Choice.{firstOf}
-use Rattle.plan.specs.Check.{Check, _orElse_, firstFault, faultAt}
+use Rattle.faults.specs.CheckList.{Check, _orElse_, firstFault, faultAt}
 use Rattle.plan.specs.Decode.{planFault}
 use Rattle.format.specs.Format.{workerCount}
-use Rattle.plan.specs.declared.Decline.{Decline}
-use Rattle.plan.specs.declared.Fault.the-variants.{ShortWork, ShortLists, BadTurnList}
+use Rattle.faults.specs.declared.Decline.{Decline}
+use Rattle.faults.specs.declared.Fault.the-variants.{ShortWork, ShortLists, BadTurnList}
 use Rattle.disac4.specs.Report.{listCells, final, reportOf}
 use Rattle.disac4.specs.Round.{roundRunTurns}
 use Rattle.disac4.specs.System.{System, systemAt}

@@ -8,9 +8,9 @@ use lib.ListN.{length}
 use Rattle.base.specs.Below.{listBelow, firstBelow}
 use Rattle.base.specs.Bytes.{byteAt}
 use Rattle.base.specs.Choice.{between}
-use Rattle.plan.specs.Fault.{decline}
-use Rattle.plan.specs.declared.Decline.{Decline}
-use Rattle.plan.specs.declared.Fault.the-variants.{BadTurn}
+use Rattle.faults.specs.Fault.{decline}
+use Rattle.faults.specs.declared.Decline.{Decline}
+use Rattle.faults.specs.declared.Fault.the-variants.{BadTurn}
 use Rattle.disac4.specs.Action.{treat, send, readWorker, answer, ask, readController}
 use Rattle.disac4.specs.Fold.{isSome, afterBy, playBy, countBy}
 use Rattle.disac4.specs.State.{State}

@@ -11,8 +11,8 @@ use Rattle.base.specs.Bytes.{hex}
 use Rattle.network.specs.Network.{Label, label, labelsWhere}
 use Rattle.network.specs.Solution.{solvable}
 use Rattle.plan.specs.Decode.{planFault}
-use Rattle.plan.specs.Fault.{numberOf}
-use Rattle.plan.specs.declared.Decline.{Decline}
+use Rattle.faults.specs.Fault.{numberOf}
+use Rattle.faults.specs.declared.Decline.{Decline}
 use Rattle.disac4.specs.Event.{events, unsent, deleted}
 use Rattle.disac4.specs.Loading.{load}
 use Rattle.disac4.specs.Outcome.{inputFault}

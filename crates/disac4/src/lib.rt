@@ -1,5 +1,5 @@
 // The protocol: definitions, theorems, and the types of a run's answer.
-use plan::Decline;
+use faults::Decline;
 
 // Where a run ends: closed is bare if some variable's domain (list) is empty.
 pub enum Status {
@@ -55,6 +55,14 @@ pub struct Tally {
     pub marks: u16,
     pub polling: bool,
     pub closed: bool,
+}
+
+// How far a run has come: the tally, and the counts of its report.
+pub struct Progress {
+    pub tally: Tally,
+    pub changes: usize,
+    pub sends: usize,
+    pub polls: usize,
 }
 
 // A run's answer.

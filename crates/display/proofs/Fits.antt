@@ -14,8 +14,8 @@ use Rattle.disac4.specs.System.{systemAt}
 use Rattle.disac4.specs.Turn.{Turn, turnsOf}
 use Rattle.plan.proofs.Faults.{decoded, place-within}
 use Rattle.plan.specs.Decode.{planOf, decode, decodedAs}
-use Rattle.plan.specs.Fault.{decline}
-use Rattle.plan.specs.declared.Fault.the-variants.{ShortWork, ShortLists, BadTurnList, BadTurn}
+use Rattle.faults.specs.Fault.{decline}
+use Rattle.faults.specs.declared.Fault.the-variants.{ShortWork, ShortLists, BadTurnList, BadTurn}
 use Rattle.text.proofs.Length.{run-short, decline-short}
 use Rattle.display.specs.Shown.{shownOf, runBy, shown, freshWork, freshLists}
 

@@ -15,7 +15,7 @@ use Rattle.disac4.specs.Turn.{Turn, turn}
 use Rattle.engine.proofs.RunLaws.{workers-are}
 use Rattle.refinement.proofs.Start.{fits-regions}
 use Rattle.refinement.proofs.Underway.{going-inv, going-ready, at-next}
-use Rattle.index.specs.Allowed.{Loaded}
+use Rattle.rows.specs.Permits.{Loaded}
 use Rattle.refinement.specs.Inv.{LoadedNumber}
 use Rattle.cells.specs.Acts.{Acts}
 use Rattle.cells.specs.Layout.{WORKERS, HEAD}
@@ -23,7 +23,7 @@ use Rattle.cells.specs.Memory.{memOf}
 use Rattle.refinement.specs.Run.{turnOn, Going, Plays, Playable}
 use Rattle.controller.specs.Controller.{machine}
 use Rattle.refinement.specs.Step.{stepM}
-use Rattle.refinement.specs.declared.Progress.{Progress}
+use Rattle.disac4.specs.declared.Progress.{Progress}
 use Rattle.plan.proofs.Parts.{variables-read}
 use Rattle.plan.specs.Decode.{planFault}
 use Rattle.format.specs.Format.{workerCount}

@@ -9,7 +9,7 @@ use Rattle.base.specs.Below.{gatherBelow}
 use Rattle.disac4.specs.Turn.{Turn}
 use Rattle.refinement.proofs.Underway.{plays-none, plays-then, goes-after}
 use Rattle.refinement.specs.Run.{Going, Plays}
-use Rattle.refinement.specs.declared.Progress.{Progress}
+use Rattle.disac4.specs.declared.Progress.{Progress}
 
 -- the loop's invariant before step `k`
 pub record Playing (b : List ℕ) (n : ℕ) (f : ℕ → List Turn) (cells₀ : List ℕ) (g₀ : Progress) (k : ℕ) (cells : List ℕ) (g : Progress)

@@ -25,7 +25,7 @@ use Rattle.format.specs.Format.{workerCount}
 use Rattle.refinement.proofs.Underway.{plays-none, plays-then, goes-after}
 use Rattle.refinement.specs.Run.{Going, Plays, Playable, turnOn, workerOn}
 use Rattle.refinement.specs.Step.{workerM}
-use Rattle.refinement.specs.declared.Progress.{Progress}
+use Rattle.disac4.specs.declared.Progress.{Progress}
 
 -- ---- no turns, and two lists of turns
 

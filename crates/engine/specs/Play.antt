@@ -5,7 +5,7 @@ use mathlib.Core.Path.{_≡_}
 use Rattle.disac4.specs.Turn.{Turn}
 use Rattle.disac4.specs.declared.Tally.{Tally}
 use Rattle.refinement.specs.Run.{Going, Plays}
-use Rattle.refinement.specs.declared.Progress.{Progress}
+use Rattle.disac4.specs.declared.Progress.{Progress}
 
 -- some turns of an accepted plan have been played, and the tally is `t`
 pub record Running (b cells : List ℕ) (t : Tally) : Type 0 where

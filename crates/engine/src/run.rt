@@ -2,10 +2,10 @@
 use controller::Controlled;
 use disac4::ANSWER_ACTION;
 use disac4::POLL_ACTION;
+use disac4::Progress;
 use disac4::SEND_ACTION;
 use disac4::TREAT_ACTION;
 use disac4::Tally;
-use refinement::Progress;
 ghost use mathlib.Core.Bool.{true, cond};
 ghost use mathlib.Core.List.{[], _∷_};
 ghost use mathlib.Core.Path.{_≡_};

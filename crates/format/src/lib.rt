@@ -1,2 +1,3 @@
-// A plan's bytes: where its parts stand; how those of the head and of the variables are read.
+// A plan's bytes: where its parts stand, and how they are read.
+pub mod constraint;
 pub mod read;

@@ -6,9 +6,10 @@ use mathlib.Core.Path.{_≡_, refl, sym, _∙_, ap, ap₂}
 use native.Mathlib.Omega.{arith}
 use Rattle.base.proofs.Members.{all-places}
 use Rattle.base.specs.Below.{allBelow}
-use Rattle.index.proofs.Accepted.{acceptsAt, accepts-apart}
+use Rattle.rows.proofs.Accepted.{acceptsAt, accepts-apart}
 use Rattle.index.proofs.Nearest.{last-low, last-settled, last-passes, last-all}
-use Rattle.index.specs.Index.{over, chainBelow}
+use Rattle.rows.specs.Permits.{over}
+use Rattle.index.specs.Index.{chainBelow}
 use Rattle.plan.proofs.Parts.{constraints-read}
 use Rattle.plan.specs.Decode.{planOf}
 use Rattle.format.specs.Format.{constraintCount}

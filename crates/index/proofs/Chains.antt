@@ -12,7 +12,8 @@ use Rattle.index.proofs.ConstraintChains.{chains-keep, chains-heads, ch
 use Rattle.index.proofs.Nearest.{last-any}
 use Rattle.index.proofs.OwnChains.{own-first, own-follow, own-keeps}
 use Rattle.index.proofs.Places.{places-keep, places-at}
-use Rattle.index.specs.Index.{over, chainBelow, Indexed, placesM, chainsM, ownM, indexM}
+use Rattle.rows.specs.Permits.{over}
+use Rattle.index.specs.Index.{chainBelow, Indexed, placesM, chainsM, ownM, indexM}
 use Rattle.cells.specs.Layout.{HEADS, PLACES, NEXT, FIRST, FOLLOW}
 use Rattle.cells.specs.Memory.{Mem}
 use Rattle.plan.specs.Decode.{planFault}

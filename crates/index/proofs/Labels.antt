@@ -17,8 +17,8 @@ use Rattle.index.proofs.Owners.{owner-range}
 use Rattle.index.proofs.Pairing.{paired}
 use Rattle.index.proofs.Linked.{linked-chain, linked-inside}
 use Rattle.index.proofs.Places.{few-sections, few-values}
-use Rattle.index.specs.Allowed.{Loaded}
-use Rattle.index.specs.Index.{over, owns, ownLinked, Indexed, Located, Ready}
+use Rattle.rows.specs.Permits.{Loaded, over}
+use Rattle.index.specs.Index.{owns, ownLinked, Indexed, Located, Ready}
 use Rattle.cells.specs.Layout.{WORKCELLS}
 use Rattle.cells.specs.Memory.{Mem, memOf}
 use Rattle.cells.specs.View.{Numbered}

@@ -1,9 +1,7 @@
-pub mod Accepted
 pub mod Along
 pub mod Chains
 pub mod ConstraintChains
 pub mod CounterRows
-pub mod Ends
 pub mod Kept
 pub mod Labels
 pub mod Leads

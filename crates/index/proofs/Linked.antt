@@ -12,7 +12,8 @@ use Rattle.base.specs.Below.{anyBelow}
 use Rattle.base.specs.Row.{rowOf, rowCount}
 use Rattle.index.proofs.Nearest.{last-any}
 use Rattle.index.proofs.Places.{few-values}
-use Rattle.index.specs.Index.{over, chainBelow}
+use Rattle.rows.specs.Permits.{over}
+use Rattle.index.specs.Index.{chainBelow}
 use Rattle.network.specs.Network.{supports, supportCount}
 use Rattle.plan.proofs.Links.{linked-in-range}
 use Rattle.plan.proofs.Parts.{variables-read, constraints-read, size-read}

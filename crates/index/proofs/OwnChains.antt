@@ -18,7 +18,8 @@ use Rattle.plan.specs.Decode.{planFault}
 use Rattle.index.proofs.Leads.{leads-same, leads-none, leads-first, leads-follow}
 use Rattle.index.proofs.Own.{next-here, next-past, next-none}
 use Rattle.index.proofs.Owners.{owner-range, owns-it, owns-alone}
-use Rattle.index.specs.Index.{over, owns, ownLinked, nextOwn, leadM, leadsM, lastLeadsM, ownM}
+use Rattle.rows.specs.Permits.{over}
+use Rattle.index.specs.Index.{owns, ownLinked, nextOwn, leadM, leadsM, lastLeadsM, ownM}
 use Rattle.cells.specs.Layout.{HEADS, FIRST, FOLLOW}
 use Rattle.cells.specs.Memory.{Mem}
 

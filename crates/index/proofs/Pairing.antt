@@ -9,11 +9,12 @@ use borrow.Author.Tests.{eqb-false, not-true}
 use native.Mathlib.Omega.{arith}
 use lib.Dec.{eqb}
 use Rattle.disac4.specs.System.{systemOf, systemAt}
-use Rattle.index.proofs.Ends.{Ends, ends, over-ends}
+use Rattle.rows.proofs.Ends.{Ends, ends, over-ends}
 use Rattle.index.proofs.Nearest.{last-low, last-settled, last-passes}
 use Rattle.index.proofs.Linked.{linked-chain}
 use Rattle.index.proofs.Places.{few-sections}
-use Rattle.index.specs.Index.{over, chainBelow, Indexed, Paired}
+use Rattle.rows.specs.Permits.{over}
+use Rattle.index.specs.Index.{chainBelow, Indexed, Paired}
 use Rattle.cells.specs.Layout.{HEADS}
 use Rattle.cells.specs.Memory.{Mem}
 use Rattle.plan.specs.Decode.{planFault, planOf}

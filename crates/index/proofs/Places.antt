@@ -13,13 +13,14 @@ use Rattle.base.proofs.Choice.{cond-true, cond-false}
 use Rattle.base.proofs.Loops.{loop-same, loop-from}
 use Rattle.base.specs.Below.{loop}
 use Rattle.base.specs.Bytes.{wordAt}
-use Rattle.plan.proofs.Checks.{each-holds}
+use Rattle.faults.proofs.Checks.{each-holds}
 use Rattle.plan.proofs.Faults.{sound-section}
 use Rattle.plan.proofs.InOrder.{InOrder, ordered}
 use Rattle.plan.proofs.Parts.{variables-read, constraints-read, size-read}
 use Rattle.plan.proofs.Sections.{each-section, section-complete}
 use Rattle.plan.proofs.WellFormed.{read-well-formed}
-use Rattle.plan.specs.Check.{firstFault, headChecks, variableChecks, constraintChecks, constraintLength}
+use Rattle.faults.specs.CheckList.{firstFault}
+use Rattle.plan.specs.Check.{headChecks, variableChecks, constraintChecks, constraintLength}
 use Rattle.plan.specs.Decode.{planFault, planOf}
 use Rattle.format.specs.Format.{sectionStart, variableCount, constraintCount, sectionCount, sizeAt, firstAt, kindAt, numberedSize}
 use Rattle.plan.specs.WellFormed.{WellFormed, VariableFits}

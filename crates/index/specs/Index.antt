@@ -12,14 +12,9 @@ use Rattle.base.specs.Below.{anyBelow, loop}
 use Rattle.disac4.specs.System.{System, systemAt}
 use Rattle.cells.specs.Layout.{HEADS, PLACES, NEXT, FIRST, FOLLOW, WORKCELLS}
 use Rattle.cells.specs.Memory.{Mem, memOf, store}
-use Rattle.plan.specs.Decode.{planFault, planOf}
+use Rattle.plan.specs.Decode.{planFault}
 use Rattle.format.specs.Format.{sectionStart, constraintStart, variableCount, constraintCount, sectionCount, firstAt, secondAt}
-use Rattle.plan.specs.Network.{ties}
-use Rattle.plan.specs.Plan.{constraintOf}
-
--- constraint `c` of the plan is over `x` and `y`, either way round
-unfoldable pub over : List ℕ → ℕ → ℕ → ℕ → Bool
-over b x y c = ties (constraintOf (planOf b) c) x y
+use Rattle.rows.specs.Permits.{over}
 
 -- one more than the last of `at 0`, `at 1`, .. before `at n` that passes the test, 0 for none
 unfoldable pub nearest : (ℕ → ℕ) → (ℕ → Bool) → ℕ → ℕ
@@ -61,11 +56,6 @@ pub record Located (b cells : List ℕ) : Type 0 where
   pub sound : planFault b ≡ none
   pub places : (k : ℕ) → k < sectionCount b → memOf cells PLACES 0 k ≡ sectionStart b k
   pub long : WORKCELLS ≤ length cells
-
--- `at` is where section `k` starts, within the plan
-pub record Placed (b : List ℕ) (at k : ℕ) : Type 0 where
-  pub start : at ≡ sectionStart b k
-  pub within : at ≤ length b
 
 -- an accepted plan, with its index in the work cells
 pub record Ready (b cells : List ℕ) : Type 0 where

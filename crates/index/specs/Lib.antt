@@ -1,2 +1,1 @@
-pub mod Allowed
 pub mod Index

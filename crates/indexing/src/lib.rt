@@ -1,6 +1,7 @@
 // Writes the index of an accepted plan into the work cells: where its sections start, the constraints over each two variables as
 // a chain, and the variables of each worker that are linked with another one as a chain too.
 use cells::layout;
+use format::constraint;
 use format::read;
 use index::parts;
 ghost use mathlib.Core.Option.{none};
@@ -51,8 +52,8 @@ fn index_chains(b: &[u8], cells: &mut [u16])
         let at = parts::place(b, cells, variables + c + 1);
         link(
             cells,
-            constraints::first(b, at) - 1,
-            constraints::second(b, at) - 1,
+            constraint::first(b, at) - 1,
+            constraint::second(b, at) - 1,
             c,
         );
         c += 1;

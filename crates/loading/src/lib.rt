@@ -2,7 +2,7 @@
 use base::power;
 use base::row_holds;
 use cells::layout;
-use cells::lists;
+use cells::queues;
 use counting::count_supports;
 use format::read;
 use index::parts;
@@ -19,7 +19,7 @@ ghost use Rattle.plan.specs.Decode.{planOf};
 ghost use Rattle.plan.specs.Network.{shareConstraint};
 ghost use Rattle.plan.specs.Plan.{sizeOf};
 ghost use Rattle.format.specs.Format.{variableCount};
-ghost use Rattle.index.specs.Allowed.{Loaded};
+ghost use Rattle.rows.specs.Permits.{Loaded};
 ghost use Rattle.index.specs.Index.{Ready};
 ghost use Rattle.loading.specs.Load.{suitedRow, listLabelM, listValuesM, listVariableM, listM, loadM};
 
@@ -67,7 +67,7 @@ fn list_label(b: &[u8], cells: &mut [u16], x: usize, v: usize, supported: bool)
     layout::put(cells, layout::DOMAIN, x, v, layout::LISTED);
     if !supported {
         let owner = parts::owner(b, cells, x);
-        lists::delete(cells, owner - 1, x, v);
+        queues::delete(cells, owner - 1, x, v);
     }
 }
 

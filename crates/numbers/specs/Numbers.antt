@@ -6,10 +6,10 @@ use Rattle.disac4.specs.declared.Answer.{Answer}
 use Rattle.disac4.specs.declared.Answer.the-variants.{Reported, Declined}
 use Rattle.disac4.specs.declared.Status.{Status}
 use Rattle.disac4.specs.declared.Status.the-variants.{Open, Closed, Bare}
-use Rattle.plan.specs.Fault.{numberOf}
+use Rattle.faults.specs.Fault.{numberOf}
 use Rattle.plan.specs.declared.Checked as checked
 use Rattle.plan.specs.declared.Checked.{Checked}
-use Rattle.plan.specs.declared.Decline.{Decline}
+use Rattle.faults.specs.declared.Decline.{Decline}
 
 -- a number for each status
 abbrev pub statusNumber : Status → ℕ

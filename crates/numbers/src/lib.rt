@@ -23,7 +23,7 @@ pub fn checked_numbers(checked: Checked) -> [usize; 5]
         Checked::Accepted(f) => [0, f.workers, f.variables, f.constraints, f.labels],
         Checked::Declined(d) => {
             let fault = d.fault;
-            [plan::fault_number(fault), d.place, 0, 0, 0]
+            [faults::fault_number(fault), d.place, 0, 0, 0]
         }
     }
 }
@@ -46,7 +46,7 @@ pub fn answer_numbers(answer: Answer) -> [usize; 6]
         }
         Answer::Declined(d) => {
             let fault = d.fault;
-            [plan::fault_number(fault), d.place, 0, 0, 0, 0]
+            [faults::fault_number(fault), d.place, 0, 0, 0, 0]
         }
     }
 }

@@ -12,19 +12,20 @@ use lib.Seq.{getD-set-same, getD-set-other}
 use Rattle.base.proofs.Below.{below-cases, first-at, first-more}
 use Rattle.base.specs.Below.{firstBelow}
 use Rattle.format.specs.Format.{behind, sectionStart, variableCount, sectionCount, numberedSize}
-use Rattle.plan.proofs.Checks.{each-holds}
+use Rattle.faults.proofs.Checks.{each-holds}
 use Rattle.plan.proofs.Head.{head-fits}
 use Rattle.plan.proofs.Sections.{passed-before, start-within}
-use Rattle.plan.specs.Check.{firstFault, variableChecks, sectionChecks, faultAt, sectionFault, verdictOf}
+use Rattle.faults.specs.CheckList.{firstFault, faultAt, verdictOf}
+use Rattle.plan.specs.Check.{variableChecks, sectionChecks, sectionFault}
 use Rattle.plan.specs.Decode.{trailingFault, sectionsFault}
-use Rattle.plan.specs.Fault.{decline}
+use Rattle.faults.specs.Fault.{decline}
 use Rattle.sections.specs.Known.{VariablesKnown}
 use Rattle.parser.specs.Known.{PassedBefore}
 use Rattle.plan.specs.Answer.{checkOf}
 use Rattle.plan.specs.declared.Checked.the-variants.{Declined}
-use Rattle.plan.specs.declared.Fault.{Fault}
-use Rattle.plan.specs.declared.Verdict.{Verdict}
-use Rattle.plan.specs.declared.Verdict.the-variants.{Passes, Fails}
+use Rattle.faults.specs.declared.Fault.{Fault}
+use Rattle.faults.specs.declared.Verdict.{Verdict}
+use Rattle.faults.specs.declared.Verdict.the-variants.{Passes, Fails}
 
 -- the section behind section k starts where that one ends
 pub next-start : (b : List ℕ) (k at next : ℕ) → at ≡ sectionStart b k → next ≡ behind b at → next ≡ sectionStart b (k + 1)

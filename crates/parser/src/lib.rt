@@ -1,6 +1,6 @@
 // The plan check: from a plan's bytes to its counts, or to its first fault and the fault's place.
+use faults::Fault;
 use plan::Checked;
-use plan::Fault;
 use plan::declined;
 use reader::byte_at;
 ghost use mathlib.Core.Path.{_≡_};

@@ -1,10 +1,11 @@
 // The sections of a plan in turn.
+use faults::Fault;
+use faults::Verdict;
 use format::read;
 use plan::Checked;
 use plan::Counts;
-use plan::Fault;
-use plan::Verdict;
 use plan::declined;
+use sections::constraint;
 use sections::section;
 use sections::variable;
 ghost use mathlib.Core.Path.{_≡_};
@@ -12,7 +13,8 @@ ghost use Prim.Native.Nat.{_≤_};
 ghost use lib.ListN.{length, set};
 ghost use Rattle.format.specs.Format.{sectionStart};
 ghost use Rattle.network.specs.Network.{labelCount};
-ghost use Rattle.plan.specs.Check.{sectionChecks, firstFault, verdictOf};
+ghost use Rattle.plan.specs.Check.{sectionChecks};
+ghost use Rattle.faults.specs.CheckList.{firstFault, verdictOf};
 ghost use Rattle.plan.specs.Decode.{planOf, planEnd, trailingFault, sectionsFault};
 ghost use Rattle.sections.specs.Known.{VariablesKnown};
 ghost use Rattle.parser.specs.Known.{PassedBefore};
@@ -47,7 +49,7 @@ fn check_section(b: &[u8], k: usize, at: usize, starts: &[usize; 33]) -> Verdict
     if k <= read::variable_count(b) {
         return variable::check_variable(b, at);
     }
-    relations::check_constraint(b, at, starts)
+    constraint::check_constraint(b, at, starts)
 }
 
 // L: how many values the variables have together.

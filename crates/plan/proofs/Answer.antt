@@ -10,7 +10,7 @@ use Rattle.plan.specs.Decode.{planFault, planOf, decode}
 use Rattle.plan.specs.declared.Checked.{Checked}
 use Rattle.plan.specs.declared.Checked.the-variants.{Accepted, Declined}
 use Rattle.plan.specs.declared.Counts.{Counts}
-use Rattle.plan.specs.declared.Decline.{Decline}
+use Rattle.faults.specs.declared.Decline.{Decline}
 
 module _ (b : List ℕ) where
   -- the plan check finds the plan's own fault

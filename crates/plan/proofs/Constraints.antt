@@ -12,15 +12,16 @@ use Rattle.base.proofs.Below.{all-below, length-list-below, getD-list-below}
 use Rattle.base.proofs.Choice.{cond-true, by-test}
 use Rattle.base.specs.Below.{allBelow, listBelow}
 use Rattle.format.specs.Format.{constraintStart, constraintCount, firstAt, secondAt, kindAt, tableRowAt, numberedSize}
-use Rattle.plan.proofs.Checks.{each-holds}
+use Rattle.faults.proofs.Checks.{each-holds}
 use Rattle.plan.proofs.InOrder.{InOrder, ordered}
 use Rattle.plan.proofs.Parts.{variables-read, constraint-read, size-read}
 use Rattle.plan.proofs.Passed.{constraint-passed}
-use Rattle.plan.specs.Check.{_orElse_, tableFits, constraintChecks}
+use Rattle.faults.specs.CheckList.{_orElse_}
+use Rattle.plan.specs.Check.{tableFits, constraintChecks}
 use Rattle.plan.specs.Decode.{planFault, relationAt, constraintAt, planOf}
 use Rattle.plan.specs.Plan.{table, sizeOf, constraintOf}
 use Rattle.plan.specs.WellFormed.{ConstraintFits}
-use Rattle.plan.specs.declared.Fault.the-variants.{Truncated}
+use Rattle.faults.specs.declared.Fault.the-variants.{Truncated}
 
 -- a relation is a table only where the kind is 0, and then its rows are those of the bytes
 table-read : (b : List ℕ) (at : ℕ) (rows : List ℕ) → relationAt b at ≡ table rows

@@ -17,12 +17,13 @@ use Rattle.format.specs.Format.{sectionStart, variableCount, constraintCount, s
 use Rattle.plan.proofs.Answer.{plan-check, no-fault, its-fault}
 use Rattle.plan.proofs.Sections.{section-complete, section-number, section-declines, passed-before, start-within}
 use Rattle.plan.specs.Answer.{countsOf, checkedAs, planCheck}
-use Rattle.plan.specs.Check.{firstFault, sectionChecks, sectionFault}
+use Rattle.faults.specs.CheckList.{firstFault}
+use Rattle.plan.specs.Check.{sectionChecks, sectionFault}
 use Rattle.plan.specs.Decode.{planEnd, trailingFault, sectionsFault, planFault, planOf, accepted, declined, decodedAs, decode}
-use Rattle.plan.specs.Fault.{numberOf, decline}
+use Rattle.faults.specs.Fault.{numberOf, decline}
 use Rattle.plan.specs.Plan.{Plan}
-use Rattle.plan.specs.declared.Decline.{Decline}
-use Rattle.plan.specs.declared.Fault.the-variants.{Truncated, BadVersion, TrailingBytes}
+use Rattle.faults.specs.declared.Decline.{Decline}
+use Rattle.faults.specs.declared.Fault.the-variants.{Truncated, BadVersion, TrailingBytes}
 
 -- the five ways in which the check of a plan ends
 pub data Ending (b : List ℕ) (o : Option Decline) : Type 0 where

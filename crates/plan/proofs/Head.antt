@@ -10,8 +10,9 @@ use Rattle.base.proofs.Bools.{and-left, and-right}
 use Rattle.base.proofs.Choice.{between-low, between-high}
 use Rattle.base.specs.Choice.{between}
 use Rattle.format.specs.Format.{workerCount, variableCount, constraintCount}
-use Rattle.plan.proofs.Checks.{each-holds}
-use Rattle.plan.specs.Check.{firstFault, headInRange, headChecks}
+use Rattle.faults.proofs.Checks.{each-holds}
+use Rattle.faults.specs.CheckList.{firstFault}
+use Rattle.plan.specs.Check.{headInRange, headChecks}
 
 -- the head's counts, as `WellFormed` has them
 pub record HeadFits (b : List ℕ) : Type 0 where

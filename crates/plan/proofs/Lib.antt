@@ -1,8 +1,5 @@
 pub mod Answer
-pub mod Branches
-pub mod Checks
 pub mod Constraints
-pub mod FaultNumbers
 pub mod Faults
 pub mod Head
 pub mod InOrder

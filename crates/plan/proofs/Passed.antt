@@ -7,7 +7,8 @@ use native.Mathlib.Omega.{arith}
 use borrow.Author.Tests.{le-leb, lt-leb, ne-eqb}
 use Rattle.format.specs.Format.{sectionStart, constraintStart, variableCount, constraintCount}
 use Rattle.plan.proofs.Faults.{sound-section}
-use Rattle.plan.specs.Check.{firstFault, headChecks, variableChecks, constraintChecks, sectionChecks}
+use Rattle.faults.specs.CheckList.{firstFault}
+use Rattle.plan.specs.Check.{headChecks, variableChecks, constraintChecks, sectionChecks}
 use Rattle.plan.specs.Decode.{planFault}
 
 module _ (b : List ℕ) (none-found : planFault b ≡ none) where

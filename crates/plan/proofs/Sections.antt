@@ -13,11 +13,12 @@ use Rattle.base.proofs.Choice.{none≢some, some-same}
 use Rattle.base.specs.Below.{firstBelow}
 use Rattle.base.specs.Choice.{allOf, between}
 use Rattle.format.specs.Format.{sectionStart, variableCount}
-use Rattle.plan.proofs.Checks.{each-holds, fault-among}
-use Rattle.plan.specs.Check.{Check, firstFault, complete, headChecks, variableChecks, constraintChecks, sectionChecks, faultAt, sectionFault}
-use Rattle.plan.specs.Fault.{numberOf}
-use Rattle.plan.specs.declared.Decline.{Decline}
-use Rattle.plan.specs.declared.Fault.{Fault}
+use Rattle.faults.proofs.Checks.{each-holds, fault-among}
+use Rattle.faults.specs.CheckList.{Check, firstFault, faultAt}
+use Rattle.plan.specs.Check.{complete, headChecks, variableChecks, constraintChecks, sectionChecks, sectionFault}
+use Rattle.faults.specs.Fault.{numberOf}
+use Rattle.faults.specs.declared.Decline.{Decline}
+use Rattle.faults.specs.declared.Fault.{Fault}
 
 -- what holds of the checks of each kind of section holds of every section's
 pub each-section : (P : List Check → Type 0) (b : List ℕ) (k : ℕ) → P (headChecks b (sectionStart b k))

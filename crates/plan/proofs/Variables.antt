@@ -13,14 +13,15 @@ use Rattle.base.proofs.Choice.{between-low, between-high}
 use Rattle.base.specs.Below.{anyBelow}
 use Rattle.base.specs.Choice.{between}
 use Rattle.format.specs.Format.{sectionStart, workerCount, variableCount, sizeAt, codeAt, numberedSize}
-use Rattle.plan.proofs.Checks.{each-holds}
+use Rattle.faults.proofs.Checks.{each-holds}
 use Rattle.plan.proofs.Parts.{variable-read, size-read, value-read}
 use Rattle.plan.proofs.Passed.{variable-passed}
-use Rattle.plan.specs.Check.{_orElse_, repeatsCode, variableChecks}
+use Rattle.faults.specs.CheckList.{_orElse_}
+use Rattle.plan.specs.Check.{repeatsCode, variableChecks}
 use Rattle.plan.specs.Decode.{planFault, variableAt, planOf}
 use Rattle.plan.specs.Plan.{Value, variableOf, valueOf, sizeOf}
 use Rattle.plan.specs.WellFormed.{VariableFits}
-use Rattle.plan.specs.declared.Fault.the-variants.{Truncated}
+use Rattle.faults.specs.declared.Fault.the-variants.{Truncated}
 
 -- the variable of section x + 1
 module _ (b : List ℕ) (none-found : planFault b ≡ none) (x : ℕ) (h : x < variableCount b) where

@@ -2,34 +2,16 @@
 use Prim.Native.Nat.{ℕ, _+_, _*_, _^_}
 use mathlib.Core.Bool.{Bool, true, cond, _&&_, not}
 use mathlib.Core.List.{List, [], _∷_}
-use mathlib.Core.Option.{Option, none, some}
+use mathlib.Core.Option.{Option}
 use lib.Dec.{leb, ltb, eqb}
 use lib.ListN.{length}
 use Rattle.base.specs.Below.{allBelow, anyBelow}
 use Rattle.base.specs.Bytes.{wordAt}
 use Rattle.base.specs.Choice.{between}
 use Rattle.format.specs.Format.{behind, sectionStart, workerCount, variableCount, constraintCount, ownerAt, sizeAt, codeAt, firstAt, secondAt, kindAt, tableRowAt, numberedSize}
-use Rattle.plan.specs.Fault.{decline}
-use Rattle.plan.specs.declared.Decline.{Decline}
-use Rattle.plan.specs.declared.Fault.{Fault}
-use Rattle.plan.specs.declared.Fault.the-variants.{Truncated, BadLength, BadCount, BadNumber, RepeatedCode, BadConstraint}
-use Rattle.plan.specs.declared.Verdict.{Verdict}
-use Rattle.plan.specs.declared.Verdict.the-variants.{Passes, Fails}
-
--- a test and the fault of a section that fails it
-pub record Check : Type 0 where
-  pub holds : Bool
-  pub fault : Fault
-
--- such a check, written by its two parts
-infix 20 _orElse_
-abbrev pub _orElse_ : Bool → Fault → Check
-t orElse f = record { holds = t; fault = f }
-
--- the fault of the first check that fails
-abbrev pub firstFault : List Check → Option Fault
-firstFault [] = none
-firstFault (c ∷ cs) = cond (c .holds) (firstFault cs) (some (c .fault))
+use Rattle.faults.specs.CheckList.{Check, _orElse_, firstFault, faultAt}
+use Rattle.faults.specs.declared.Decline.{Decline}
+use Rattle.faults.specs.declared.Fault.the-variants.{Truncated, BadLength, BadCount, BadNumber, RepeatedCode, BadConstraint}
 
 -- neither the section nor its length is cut off: a length that is cut off puts the end past the bytes all the same
 unfoldable pub complete : List ℕ → ℕ → Bool
@@ -92,16 +74,6 @@ sectionChecks b k =
     cond (eqb k 0) (headChecks b (sectionStart b k))
     (cond (leb k (variableCount b)) (variableChecks b (sectionStart b k)) (constraintChecks b (sectionStart b k)))
 
--- a fault of the section that starts at `at`
-abbrev pub faultAt : ℕ → Option Fault → Option Decline
-faultAt at none = none
-faultAt at (some f) = some (decline f at)
-
 -- the fault of section k, at the section's start
 unfoldable pub sectionFault : List ℕ → ℕ → Option Decline
 sectionFault b k = faultAt (sectionStart b k) (firstFault (sectionChecks b k))
-
--- what a section's checks find, as the functions that check a section answer it: the fault without its place
-abbrev pub verdictOf : Option Fault → Verdict
-verdictOf none = Passes
-verdictOf (some f) = Fails f

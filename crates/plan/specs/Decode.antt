@@ -10,10 +10,10 @@ use Rattle.base.specs.Bytes.{byteAt}
 use Rattle.base.specs.Choice.{firstOf}
 use Rattle.format.specs.Format.{sectionStart, constraintStart, workerCount, variableCount, constraintCount, sectionCount, ownerAt, sizeAt, codeAt, figureAt, firstAt, secondAt, kindAt, tableRowAt, limitAt, numberedSize}
 use Rattle.plan.specs.Check.{sectionFault}
-use Rattle.plan.specs.Fault.{decline}
+use Rattle.faults.specs.Fault.{decline}
 use Rattle.plan.specs.Plan.{Value, Variable, Relation, table, sumLimit, Constraint, Plan}
-use Rattle.plan.specs.declared.Decline.{Decline}
-use Rattle.plan.specs.declared.Fault.the-variants.{Truncated, BadVersion, TrailingBytes}
+use Rattle.faults.specs.declared.Decline.{Decline}
+use Rattle.faults.specs.declared.Fault.the-variants.{Truncated, BadVersion, TrailingBytes}
 
 -- where the last rule ends
 unfoldable pub planEnd : List ℕ → ℕ

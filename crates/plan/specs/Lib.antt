@@ -2,7 +2,6 @@ pub mod Answer
 pub mod Check
 pub mod Computes
 pub mod Decode
-pub mod Fault
 pub mod Network
 pub mod Plan
 pub mod WellFormed

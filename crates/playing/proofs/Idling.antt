@@ -29,7 +29,7 @@ use Rattle.refinement.proofs.Start.{fits-regions}
 use Rattle.refinement.proofs.Underway.{going-inv, going-after}
 use Rattle.refinement.specs.Run.{workerOn, Going, Plays}
 use Rattle.refinement.specs.Step.{withMem, stepM, afterM}
-use Rattle.refinement.specs.declared.Progress.{Progress}
+use Rattle.disac4.specs.declared.Progress.{Progress}
 
 -- at first nothing is known
 pub nothing-known : (b cells : List ℕ) (t : Tally) (table : List ℕ) → length table ≡ cellCount

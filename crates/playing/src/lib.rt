@@ -1,10 +1,10 @@
 // Plays the turns of a list one after the other, and passes over those that are known to be idle.
 use crate::settle::settle;
 use base::byte_at;
+use disac4::Progress;
 use engine::run;
 use flags::Table;
 use flags::is_set;
-use refinement::Progress;
 ghost use mathlib.Core.Bool.{true};
 ghost use mathlib.Core.List.{[], _∷_};
 ghost use mathlib.Core.Option.{none};

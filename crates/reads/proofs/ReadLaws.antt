@@ -7,9 +7,9 @@ use native.Mathlib.Omega.{arith}
 use borrow.Author.Tests.{lt-ltb, le-ltb, le-leb, ltb-true, leb-true}
 use Rattle.base.proofs.Bools.{and-left, and-right, and-intro, refuted}
 use Rattle.base.proofs.Choice.{cond-true, cond-false}
-use Rattle.cells.proofs.ListLaws.{copy-none}
+use Rattle.cells.proofs.Pushing.{copy-none}
 use Rattle.cells.specs.Layout.{WORKERS, CURSORS, BOUNDS, SENDS, LISTS, POLLS, LABELROOM, SENDROOM, LISTSMAX}
-use Rattle.cells.specs.Lists.{copyM}
+use Rattle.cells.specs.Queues.{copyM}
 use Rattle.cells.specs.Memory.{Mem, store}
 use Rattle.reads.specs.Reads.{listEnd, takenWith, takenM, hasList, readListM, heldM, readPollM}
 

@@ -5,7 +5,7 @@ use mathlib.Core.Bool.{Bool, cond, _&&_}
 use mathlib.Core.Option.{Option, none, some}
 use lib.Dec.{leb, ltb}
 use Rattle.cells.specs.Layout.{WORKERS, CURSORS, BOUNDS, SENDS, LISTS, HELD, POLLS, LABELROOM, SENDROOM, LISTSMAX}
-use Rattle.cells.specs.Lists.{copyM}
+use Rattle.cells.specs.Queues.{copyM}
 use Rattle.cells.specs.Memory.{Mem, store}
 
 -- ---- row `i` reads from row `j`

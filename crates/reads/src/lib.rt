@@ -11,14 +11,14 @@ use cells::layout::SENDS;
 use cells::layout::WORKERS;
 use cells::layout::get;
 use cells::layout::put;
-use cells::lists::copy;
+use cells::queues::copy;
 use disac4::Timestamp;
 ghost use mathlib.Core.Path.{_≡_};
 ghost use Prim.Native.Nat.{_-_, _<_, _≤_};
 ghost use lib.ListN.{length};
 ghost use Rattle.cells.specs.Acts.{Acts};
 ghost use Rattle.cells.specs.Layout.{WORKCELLS, LABELROOM, SENDROOM, LISTSMAX};
-ghost use Rattle.cells.specs.Lists.{copyM};
+ghost use Rattle.cells.specs.Queues.{copyM};
 ghost use Rattle.cells.specs.Memory.{memOf};
 ghost use Rattle.reads.specs.Reads.{readListM, takenWith, heldM, readPollM};
 

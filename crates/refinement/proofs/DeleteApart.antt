@@ -6,7 +6,7 @@ use native.Mathlib.Omega.{arith}
 use Rattle.disac4.specs.System.{System}
 use Rattle.cells.proofs.Stores.{store-same, store-other, OffList, push-other}
 use Rattle.cells.specs.Layout.{WORKERS, LOG, WORK, DOMAIN, COUNTERS, TAIL, LOGEND}
-use Rattle.cells.specs.Lists.{pushM, deleteM}
+use Rattle.cells.specs.Queues.{pushM, deleteM}
 use Rattle.cells.specs.Memory.{Mem, store}
 use Rattle.cells.specs.View.{labelNumber, counterRow}
 

@@ -12,7 +12,7 @@ use Rattle.network.specs.Network.{Label, label}
 use Rattle.cells.proofs.Queue.{labels-same, labels-none, labels-last, labels-length, label-of-number}
 use Rattle.cells.proofs.Stores.{store-same, store-other, OffList, push-stores, push-other, copy-other}
 use Rattle.cells.specs.Layout.{WORKERS, LOG, WORK, DOMAIN, TAIL, LOGEND, LABELROOM}
-use Rattle.cells.specs.Lists.{pushM, deleteM, copyLabelM, copyM}
+use Rattle.cells.specs.Queues.{pushM, deleteM, copyLabelM, copyM}
 use Rattle.cells.specs.Memory.{Mem, store}
 use Rattle.cells.specs.View.{labelNumber, labelOf, labelsBetween}
 use Rattle.refinement.specs.Inv.{LoadedNumber}

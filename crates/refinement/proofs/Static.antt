@@ -12,7 +12,7 @@ use Rattle.disac4.specs.Turn.{Turn, pollAction, allowed}
 use Rattle.disac4.specs.declared.Tally.{Tally}
 use Rattle.cells.proofs.RegionsKept.{kept-same, kept-then, kept-repeated, kept-stored, push-kept}
 use Rattle.cells.specs.Layout.{WORKERS, CURSORS, BOUNDS, LOG, WORK, OUT, WANTED, HEAD, TAIL, POLLS}
-use Rattle.cells.specs.Lists.{copyLabelM, copyM}
+use Rattle.cells.specs.Queues.{copyLabelM, copyM}
 use Rattle.cells.specs.Memory.{Mem}
 use Rattle.index.proofs.Kept.{IndexKept}
 use Rattle.sends.specs.Sends.{sentM, maySend, sendM}

@@ -27,7 +27,7 @@ use Rattle.cells.specs.Memory.{Mem, memOf}
 use Rattle.refinement.specs.Run.{viewOf, changesWhereM, startM, At, Going, Plays}
 use Rattle.controller.specs.Controller.{Machine, machine}
 use Rattle.refinement.specs.Step.{stepM, afterM}
-use Rattle.refinement.specs.declared.Progress.{Progress}
+use Rattle.disac4.specs.declared.Progress.{Progress}
 use Rattle.plan.proofs.Faults.{decoded}
 use Rattle.plan.specs.Decode.{planFault, planOf}
 

@@ -21,7 +21,7 @@ use Rattle.controller.specs.Controller.{Machine, machine}
 use Rattle.refinement.specs.Step.{readM, workerM, stepM}
 use Rattle.cells.specs.View.{view}
 use Rattle.treating.specs.Treat.{HeadLoaded}
-use Rattle.refinement.specs.declared.Progress.{Progress}
+use Rattle.disac4.specs.declared.Progress.{Progress}
 use Rattle.plan.specs.Decode.{planFault}
 use Rattle.format.specs.Format.{workerCount}
 

@@ -1,6 +1,6 @@
 -- The list cells and the report, from the rows of the domains in memory.
 use Prim.Native.Nat.{ℕ, suc, _+_, _<_, _≤_}
-use mathlib.Core.Bool.{Bool, cond}
+use mathlib.Core.Bool.{cond}
 use mathlib.Core.List.{List, _++_}
 use mathlib.Core.Option.{Option, none, some, Option·getD}
 use mathlib.Core.Path.{_≡_, sym, _∙_, ap, ap₂}
@@ -23,7 +23,7 @@ use Rattle.cells.proofs.Overwritten.{written-all, written-length, written-next}
 use Rattle.cells.specs.Memory.{Mem}
 use Rattle.refinement.specs.Run.{reportM}
 use Rattle.cells.specs.View.{inDomain, view}
-use Rattle.refinement.specs.declared.Progress.{Progress}
+use Rattle.disac4.specs.declared.Progress.{Progress}
 use Rattle.plan.proofs.Parts.{variables-read}
 use Rattle.plan.specs.Decode.{planOf}
 use Rattle.format.specs.Format.{variableCount}

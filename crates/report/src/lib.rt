@@ -1,10 +1,10 @@
 // What a finished run gives: the list cells of its variables, and its report.
 use cells::layout;
+use disac4::Progress;
 use disac4::Report;
 use disac4::Status;
 use format::read;
 use index::parts;
-use refinement::Progress;
 ghost use mathlib.Core.Bool.{cond};
 ghost use mathlib.Core.Path.{_≡_};
 ghost use Prim.Native.Nat.{_<_, _≤_};

@@ -22,7 +22,7 @@ use Rattle.rounds.specs.Rounds.{Begun}
 use Rattle.refinement.specs.Run.{viewOf, Going, Plays}
 use Rattle.controller.specs.Controller.{machine}
 use Rattle.cells.specs.View.{view}
-use Rattle.refinement.specs.declared.Progress.{Progress}
+use Rattle.disac4.specs.declared.Progress.{Progress}
 use Rattle.format.specs.Format.{workerCount}
 
 -- the state that the cells and the tally stand for

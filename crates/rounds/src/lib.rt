@@ -1,11 +1,11 @@
 // The round, and rounds until the plan is closed.
 use disac4::ANSWER_ACTION;
 use disac4::POLL_ACTION;
+use disac4::Progress;
 use disac4::SEND_ACTION;
 use disac4::TREAT_ACTION;
 use disac4::Tally;
 use engine::run;
-use refinement::Progress;
 ghost use mathlib.Core.Bool.{cond};
 ghost use mathlib.Core.List.{[], _∷_, map};
 ghost use mathlib.Core.Path.{_≡_};

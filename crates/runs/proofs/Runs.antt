@@ -9,12 +9,12 @@ use Rattle.disac4.specs.System.{systemAt}
 use Rattle.disac4.specs.Turn.{Turn}
 use Rattle.disac4.specs.declared.Answer.the-variants.{Reported}
 use Rattle.disac4.specs.declared.Report.{Report}
-use Rattle.ends.proofs.Finishing.{work-of-turns}
+use Rattle.runs.proofs.Finishing.{work-of-turns}
 use Rattle.cells.specs.Layout.{WORKCELLS}
 use Rattle.cells.specs.Memory.{Mem, memOf}
 use Rattle.rounds.specs.Rounds.{Begun}
 use Rattle.refinement.specs.Run.{At, Plays, Finishes}
-use Rattle.refinement.specs.declared.Progress.{Progress}
+use Rattle.disac4.specs.declared.Progress.{Progress}
 use Rattle.plan.specs.Decode.{planFault}
 
 -- a plan is loaded: what the engine asks

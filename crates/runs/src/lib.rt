@@ -13,6 +13,8 @@ ghost use Rattle.disac4.specs.Turn.{turnFault, turnsOf};
 ghost use Rattle.plan.specs.Decode.{planFault};
 ghost use Rattle.format.specs.Format.{workerCount};
 
+mod ends;
+
 // Plays a list of allowed turns on an accepted plan.
 pub fn play_list(plan: &[u8], turns: &[u8], work: &mut [u16], lists: &mut [u16], p: usize) -> Report
     requires { ⌜ (planFault (now plan) ≡ none) × (WORKCELLS ≤ length (now work)) × (LISTCELLS ≤ length (now lists)) × (p ≡ workerCount (now plan)) × (turnFault p (now turns) ≡ none) ⌝ }

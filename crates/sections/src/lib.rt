@@ -1,3 +1,4 @@
-// The checks of single sections: of the head and of a variable.
+// The checks of single sections: of the head, of a variable and of a constraint.
+pub mod constraint;
 pub mod section;
 pub mod variable;

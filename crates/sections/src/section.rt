@@ -1,13 +1,14 @@
 // What the checks of every kind of section share, and the checks of the head.
 use base::between;
+use faults::Fault;
+use faults::Verdict;
 use format::read;
-use plan::Fault;
-use plan::Verdict;
 use reader::word_at;
 ghost use mathlib.Core.Path.{_≡_};
 ghost use Prim.Native.Nat.{_≤_};
 ghost use lib.ListN.{length};
-ghost use Rattle.plan.specs.Check.{complete as completeOf, headInRange, headChecks, firstFault, verdictOf};
+ghost use Rattle.plan.specs.Check.{complete as completeOf, headInRange, headChecks};
+ghost use Rattle.faults.specs.CheckList.{firstFault, verdictOf};
 
 // Neither the section nor its length is cut off.
 pub fn complete(b: &[u8], at: usize) -> bool

@@ -1,14 +1,15 @@
 // The checks of a variable's section (document 01: a slot).
 use crate::section;
 use base::between;
+use faults::Fault;
+use faults::Verdict;
 use format::read;
-use plan::Fault;
-use plan::Verdict;
 use reader::word_at;
 ghost use mathlib.Core.Path.{_≡_};
 ghost use Prim.Native.Nat.{_≤_};
 ghost use lib.ListN.{length};
-ghost use Rattle.plan.specs.Check.{repeatsCode, variableChecks, firstFault, verdictOf};
+ghost use Rattle.plan.specs.Check.{repeatsCode, variableChecks};
+ghost use Rattle.faults.specs.CheckList.{firstFault, verdictOf};
 ghost use Rattle.format.specs.Format.{variableCount, numberedSize};
 ghost use Rattle.sections.specs.Known.{VariablesKnown};
 

@@ -9,16 +9,16 @@ use lib.ListN.{length, getD, length-append}
 use Rattle.base.proofs.Below.{gather-length}
 use Rattle.base.specs.Bytes.{byteAt, wordAt}
 use Rattle.base.specs.Row.{bit}
-use Rattle.plan.proofs.FaultNumbers.{number-range}
+use Rattle.faults.proofs.FaultNumbers.{number-range}
 use Rattle.plan.proofs.Faults.{decode-plan}
 use Rattle.plan.proofs.Parts.{variables-read, size-read, value-read}
 use Rattle.plan.proofs.WellFormed.{read-well-formed}
 use Rattle.plan.specs.Decode.{planFault, planOf, accepted, decode}
-use Rattle.plan.specs.Fault.{numberOf}
+use Rattle.faults.specs.Fault.{numberOf}
 use Rattle.format.specs.Format.{sectionStart}
 use Rattle.plan.specs.Plan.{Plan, Value, variableOf, valueOf, sizeOf}
 use Rattle.plan.specs.WellFormed.{WellFormed}
-use Rattle.plan.specs.declared.Decline.{Decline}
+use Rattle.faults.specs.declared.Decline.{Decline}
 use Rattle.disac4.proofs.RunFits.{RunFits, run-fits}
 use Rattle.disac4.specs.Report.{reportOf}
 use Rattle.disac4.specs.System.{systemAt}

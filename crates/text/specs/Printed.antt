@@ -2,8 +2,8 @@
 use Prim.Native.Nat.{ℕ}
 use mathlib.Core.List.{List, [], _∷_, _++_}
 use Rattle.plan.specs.Decode.{planOf}
-use Rattle.plan.specs.Fault.{numberOf}
-use Rattle.plan.specs.declared.Decline.{Decline}
+use Rattle.faults.specs.Fault.{numberOf}
+use Rattle.faults.specs.declared.Decline.{Decline}
 use Rattle.disac4.specs.declared.Answer.{Answer}
 use Rattle.disac4.specs.declared.Answer.the-variants.{Reported, Declined}
 use Rattle.disac4.specs.declared.Report.{Report}

@@ -4,7 +4,7 @@ use buffer::push_spaced;
 use buffer::push_word;
 use disac4::Report;
 use disac4::Status;
-use plan::Decline;
+use faults::Decline;
 ghost use Rattle.buffer.specs.Buffer.{Adds};
 ghost use Rattle.text.specs.Printed.{statusWord, reportLine, declineLine};
 
@@ -38,7 +38,7 @@ pub fn push_decline(out: &mut [u8], at: usize, decline: Decline) -> usize
 {
     let fault = decline.fault;
     let mut place = push_word(out, at, b"declined");
-    place = push_spaced(out, place, plan::fault_number(fault));
+    place = push_spaced(out, place, faults::fault_number(fault));
     place = push_spaced(out, place, decline.place);
     push(out, place, b'\n')
 }

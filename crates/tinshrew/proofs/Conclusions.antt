@@ -39,7 +39,7 @@ use Rattle.plan.specs.Answer.{planCheck, checkedAs, countsOf}
 use Rattle.plan.specs.Decode.{planOf, decode, accepted, declined}
 use Rattle.plan.specs.declared.Checked as checked
 use Rattle.plan.specs.declared.Checked.{Checked}
-use Rattle.plan.specs.declared.Decline.{Decline}
+use Rattle.faults.specs.declared.Decline.{Decline}
 use Rattle.plan.specs.declared.Counts.{Counts}
 use Rattle.tinshrew.proofs.Faults.{declined-plan, none-found, one-found, in-table, empty-fits}
 use Rattle.tinshrew.specs.Conclusions.{AcceptedPlan, DeclinedPlan, PlanAndBuffersFit, TurnsFit, FirstFault, InTable, DeclinedRun, listedIn, ReportedRun, RunTells}

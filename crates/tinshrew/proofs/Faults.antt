@@ -12,14 +12,14 @@ use Rattle.disac4.proofs.Order.{short-work, short-lists, buffers-fit, bad-turn-
 use Rattle.disac4.specs.Outcome.{bufferFault, inputFault}
 use Rattle.disac4.specs.System.{systemOf}
 use Rattle.disac4.specs.Turn.{turnListFits, turnFault}
-use Rattle.turns.proofs.TurnLists.{is-allowed}
+use Rattle.inputs.proofs.TurnLists.{is-allowed}
 use Rattle.plan.proofs.Faults.{decoded, not-decoded, decode-plan, decode-fault, number-within, place-within}
 use Rattle.plan.specs.Decode.{planOf, decode, declined}
-use Rattle.plan.specs.Fault.{numberOf, decline}
+use Rattle.faults.specs.Fault.{numberOf, decline}
 use Rattle.format.specs.Format.{workerCount}
-use Rattle.plan.specs.declared.Decline.{Decline}
-use Rattle.plan.specs.declared.Fault.{Fault}
-use Rattle.plan.specs.declared.Fault.the-variants.{ShortWork, ShortLists, BadTurnList}
+use Rattle.faults.specs.declared.Decline.{Decline}
+use Rattle.faults.specs.declared.Fault.{Fault}
+use Rattle.faults.specs.declared.Fault.the-variants.{ShortWork, ShortLists, BadTurnList}
 use Rattle.tinshrew.specs.Conclusions.{DeclinedPlan, PlanAndBuffersFit, TurnsFit, FirstFault, few-work-cells, few-list-cells, bad-list, bad-plan, bad-turn, InTable}
 
 -- ---- the plan

@@ -11,11 +11,11 @@ use Rattle.disac4.specs.Turn.{Turn, turnsOf}
 use Rattle.disac4.specs.declared.Answer.{Answer}
 use Rattle.disac4.specs.declared.Answer.the-variants.{Reported, Declined}
 use Rattle.plan.specs.Answer.{planCheck}
-use Rattle.plan.specs.Fault.{numberOf}
+use Rattle.faults.specs.Fault.{numberOf}
 use Rattle.plan.specs.declared.Checked as checked
 use Rattle.plan.specs.declared.Checked.{Checked}
-use Rattle.plan.specs.declared.Decline.{Decline}
-use Rattle.plan.proofs.FaultNumbers.{number-range}
+use Rattle.faults.specs.declared.Decline.{Decline}
+use Rattle.faults.proofs.FaultNumbers.{number-range}
 use Rattle.numbers.specs.Numbers.{answerNumbers, checkedNumbers}
 use Rattle.tinshrew.proofs.Conclusions.{check-accepts, check-accepted, check-declined, turn-run-tells, round-run-tells}
 use Rattle.tinshrew.specs.Conclusions.{PlanAndBuffersFit, TurnsFit, DeclinedRun, ReportedRun, RunTells}

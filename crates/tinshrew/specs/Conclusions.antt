@@ -20,9 +20,9 @@ use Rattle.network.specs.Consistency.{Within, Largest}
 use Rattle.network.specs.Network.{Network, Domains, loaded}
 use Rattle.plan.specs.Answer.{countsOf}
 use Rattle.plan.specs.Decode.{decode, accepted, declined, planOf}
-use Rattle.plan.specs.Fault.{numberOf, decline}
-use Rattle.plan.specs.declared.Decline.{Decline}
-use Rattle.plan.specs.declared.Fault.the-variants.{ShortWork, ShortLists, BadTurnList, BadTurn}
+use Rattle.faults.specs.Fault.{numberOf, decline}
+use Rattle.faults.specs.declared.Decline.{Decline}
+use Rattle.faults.specs.declared.Fault.the-variants.{ShortWork, ShortLists, BadTurnList, BadTurn}
 use Rattle.plan.specs.declared.Counts.{Counts}
 
 -- ---- the plan check

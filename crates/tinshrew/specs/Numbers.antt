@@ -11,7 +11,7 @@ use Rattle.disac4.specs.declared.Report.{Report}
 use Rattle.numbers.specs.Numbers.{answerNumbers, checkedNumbers}
 use Rattle.plan.specs.Decode.{decode, accepted, planOf}
 use Rattle.plan.specs.declared.Checked as checked
-use Rattle.plan.specs.declared.Decline.{Decline}
+use Rattle.faults.specs.declared.Decline.{Decline}
 use Rattle.tinshrew.specs.Conclusions.{AcceptedPlan, DeclinedPlan}
 
 -- `Gives`, with the answer as its numbers

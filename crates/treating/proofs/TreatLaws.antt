@@ -20,9 +20,9 @@ use Rattle.plan.specs.Decode.{planOf}
 use Rattle.plan.specs.Network.{pairAllowed, shareConstraint, networkOf}
 use Rattle.plan.specs.Plan.{sizeOf}
 use Rattle.index.proofs.Linked.{supports-allowed}
-use Rattle.index.specs.Allowed.{Loaded}
+use Rattle.rows.specs.Permits.{Loaded}
 use Rattle.cells.specs.Layout.{WORKERS, WORK, DOMAIN, COUNTERS, HEAD, TAIL, LABELROOM}
-use Rattle.cells.specs.Lists.{deleteM}
+use Rattle.cells.specs.Queues.{deleteM}
 use Rattle.cells.specs.Memory.{Mem, store}
 use Rattle.treating.specs.Treat.{SupportRow, loseM, touchM, touchVariableM, touchVariablesM, hasWork, HeadLoaded, treatM}
 use Rattle.cells.specs.View.{LISTED, inDomain, counterRow}

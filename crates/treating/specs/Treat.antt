@@ -8,9 +8,9 @@ use lib.Dec.{ltb, eqb}
 use Rattle.base.specs.Below.{loop}
 use Rattle.base.specs.Row.{bit}
 use Rattle.disac4.specs.System.{System}
-use Rattle.index.specs.Allowed.{Loaded}
+use Rattle.rows.specs.Permits.{Loaded}
 use Rattle.cells.specs.Layout.{WORKERS, WORK, COUNTERS, HEAD, TAIL, LABELROOM}
-use Rattle.cells.specs.Lists.{deleteM}
+use Rattle.cells.specs.Queues.{deleteM}
 use Rattle.cells.specs.Memory.{Mem, store}
 use Rattle.cells.specs.View.{inDomain, counterRow}
 

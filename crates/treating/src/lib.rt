@@ -1,6 +1,6 @@
 // Treating a label: which labels lose it as a support, and which of them are deleted.
 use cells::layout;
-use cells::lists;
+use cells::queues;
 use index::parts;
 ghost use mathlib.Core.Bool.{true};
 ghost use mathlib.Core.Path.{_≡_};
@@ -9,7 +9,7 @@ ghost use lib.ListN.{length};
 ghost use Rattle.base.specs.Below.{loop};
 ghost use Rattle.base.specs.Row.{bit};
 ghost use Rattle.disac4.specs.System.{System, systemAt};
-ghost use Rattle.index.specs.Allowed.{Loaded};
+ghost use Rattle.rows.specs.Permits.{Loaded};
 ghost use Rattle.index.specs.Index.{ownLinked, Ready};
 ghost use Rattle.cells.specs.Acts.{Acts};
 ghost use Rattle.cells.specs.Layout.{WORKCELLS};
@@ -25,7 +25,7 @@ fn lose(cells: &mut [u16], i: usize, x: usize, v: usize, row: usize)
     let count = layout::get(cells, layout::COUNTERS, row, v);
     if count <= 1 {
         layout::put(cells, layout::COUNTERS, row, v, 0);
-        lists::delete(cells, i, x, v);
+        queues::delete(cells, i, x, v);
     } else {
         layout::put(cells, layout::COUNTERS, row, v, count - 1);
     }
@@ -61,7 +61,7 @@ fn touch_variable(b: &[u8], cells: &mut [u16], i: usize, y: usize, w: usize, x: 
     ensures { λ _. ⌜ memOf (now (cells .exit)) ≡ touchVariableM (systemAt (now (b .entry))) i y w x (memOf (now (cells .entry))) ⌝ }
 {
     let n = parts::size(b, cells, x);
-    let supported = pairs::support_row(b, cells, y, w, x);
+    let supported = supports::support_row(b, cells, y, w, x);
     let row = parts::counter_row(cells, x, y);
     touch_values(cells, i, x, n, supported, row);
 }

@@ -59,10 +59,10 @@ fn accepted(f: plan::Counts) {
     io::write_all(1, b"\n");
 }
 
-fn declined(d: plan::Decline) {
+fn declined(d: faults::Decline) {
     let fault = d.fault;
     io::write_all(1, b"declined");
-    number(plan::fault_number(fault));
+    number(faults::fault_number(fault));
     number(d.place);
     io::write_all(1, b"\n");
 }

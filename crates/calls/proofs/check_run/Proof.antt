@@ -9,13 +9,13 @@ use Rattle.base.specs.Choice.{firstOf}
 use Rattle.disac4.proofs.Order.{bad-turn-list, then-plan}
 use Rattle.disac4.specs.Outcome.{bufferFault, inputFault}
 use Rattle.disac4.specs.Turn.{turnListFits}
-use Rattle.turns.specs.Bad.{badTurn}
+use Rattle.inputs.specs.Bad.{badTurn}
 use Rattle.plan.proofs.Answer.{plan-check, no-fault, its-workers, its-fault, answer-accepted, answer-declined}
-use Rattle.plan.proofs.Branches.{holds, fails}
+use Rattle.faults.proofs.Branches.{holds, fails}
 use Rattle.plan.specs.Decode.{planFault}
 use Rattle.format.specs.Format.{workerCount}
 use Rattle.plan.specs.declared.Checked.the-variants.{Accepted}
-use Rattle.plan.specs.declared.Decline.{Decline}
+use Rattle.faults.specs.declared.Decline.{Decline}
 use Rattle.calls.proofs.Tests.{buffers-pass, buffers-fail, bad-turn, no-bad-turn}
 use Rattle.plan.specs.Answer.{checkOf}
 use borrow.Author.Needs.{needs}

@@ -9,7 +9,7 @@ use Rattle.disac4.specs.Turn.{allowed, turn, turnAt, turnsOf}
 use Rattle.playing.proofs.Idling.{nothing-known}
 use Rattle.engine.proofs.Playing.{Playing, none-played, goes-on, one-more, all-played}
 use Rattle.playing.specs.Known.{KnownIdle}
-use Rattle.turns.proofs.TurnLists.{turn-read, is-allowed}
+use Rattle.inputs.proofs.TurnLists.{turn-read, is-allowed}
 use Rattle.playing.proofs.play_turns.Statement.{statement}
 use Rattle.playing.proofs.play_turns.Tie as tie
 

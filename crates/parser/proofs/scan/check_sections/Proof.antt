@@ -8,7 +8,8 @@ use native.Mathlib.Omega.{arith}
 use lib.ListN.{length, length-set}
 use Rattle.format.specs.Format.{sectionStart, sectionCount}
 use Rattle.parser.proofs.Scanned.{variables-known, next-within, next-start, passed-more, fault-answer, end-answer, verdict-passes, verdict-fails}
-use Rattle.plan.specs.Check.{firstFault, sectionChecks}
+use Rattle.faults.specs.CheckList.{firstFault}
+use Rattle.plan.specs.Check.{sectionChecks}
 use Rattle.plan.specs.Decode.{planEnd}
 use Rattle.parser.specs.Known.{PassedBefore}
 use Rattle.parser.proofs.scan.check_sections.Statement.{statement}

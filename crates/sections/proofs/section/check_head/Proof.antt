@@ -3,8 +3,9 @@ use borrow.Author.Needs.{needs}
 use borrow.Author.Tests.{eq-eqb, ne-eqb}
 use mathlib.Core.List.{List}
 use mathlib.Core.Path.{_∙_}
-use Rattle.plan.proofs.Branches.{holds, fails, Past}
-use Rattle.plan.specs.Check.{Check, headChecks}
+use Rattle.faults.proofs.Branches.{holds, fails, Past}
+use Rattle.faults.specs.CheckList.{Check}
+use Rattle.plan.specs.Check.{headChecks}
 use Rattle.sections.proofs.section.check_head.Statement.{statement}
 use Rattle.sections.proofs.section.check_head.Tie as tie
 

@@ -3,8 +3,9 @@ use borrow.Author.Needs.{needs}
 use borrow.Author.Tests.{le-leb, lt-leb, eq-eqb, ne-eqb}
 use mathlib.Core.List.{List}
 use mathlib.Core.Path.{_∙_}
-use Rattle.plan.proofs.Branches.{holds, fails, Past}
-use Rattle.plan.specs.Check.{Check, variableChecks}
+use Rattle.faults.proofs.Branches.{holds, fails, Past}
+use Rattle.faults.specs.CheckList.{Check}
+use Rattle.plan.specs.Check.{variableChecks}
 use Rattle.sections.proofs.variable.check_variable.Statement.{statement}
 use Rattle.sections.proofs.variable.check_variable.Tie as tie
 

@@ -1,0 +1,3 @@
+pub mod Branches
+pub mod Checks
+pub mod FaultNumbers

@@ -1,0 +1,2 @@
+pub mod CheckList
+pub mod Fault

@@ -1,0 +1,96 @@
+// What a constraint permits, as rows of values, read from a plan's bytes alone.
+use base::row_holds;
+use base::row_if;
+use format::constraint;
+use format::read;
+ghost use mathlib.Core.Path.{_≡_};
+ghost use Prim.Native.Nat.{ℕ, _<_, _≤_};
+ghost use lib.Dec.{ltb};
+ghost use lib.ListN.{length};
+ghost use Rattle.base.specs.Row.{bit, rowOf};
+ghost use Rattle.plan.specs.Network.{withinLimit};
+ghost use Rattle.rows.specs.Permits.{permitsFrom, limited, inColumn};
+
+// The sodium figure that means "not recorded".
+const UNRECORDED: usize = 65535;
+
+// The room that a limit leaves beside figure f: it permits exactly the figures below the room. Beside an unrecorded one
+// there is none. It is at most 65,535, so that an unrecorded figure is never below it: the limit 65,535 would let it pass
+// beside 0.
+fn room_beside(limit: usize, f: usize) -> usize
+    requires { ⌜ limit < 65536 ⌝ }
+    ensures { λ r. ⌜ ((g : ℕ) → ltb g r ≡ withinLimit limit f g) ⌝ }
+{
+    if f == UNRECORDED {
+        return 0;
+    }
+    if limit < f {
+        0
+    } else if limit - f < UNRECORDED {
+        limit - f + 1
+    } else {
+        UNRECORDED
+    }
+}
+
+// The row of the values of the variable at `place` whose figures a limit permits with figure f; it has `values` of them.
+// From the last one down the row is doubled: that is quicker than to shift each bit to its place.
+fn limit_row(b: &[u8], limit: usize, f: usize, place: usize, values: usize) -> usize
+    requires { ⌜ (place ≤ length (now b)) × (values ≤ 16) × (limit < 65536) ⌝ }
+    ensures { λ r. ⌜ r ≡ rowOf values (limited (now (b .entry)) limit f place) ⌝ }
+{
+    let room = room_beside(limit, f);
+    let mut row = 0;
+    let mut w = values;
+    while w != 0 {
+        w -= 1;
+        row = 2 * row + row_if(read::figure(b, place, w) < room, 0);
+    }
+    row
+}
+
+// The row of the values of a table's first variable whose rows hold value v of the second; it has `values` of them.
+// It is doubled in the same way. Value v stands in one byte of each row, so the other is not read.
+fn table_column(b: &[u8], at: usize, v: usize, values: usize) -> usize
+    requires { ⌜ (at ≤ length (now b)) × (v < 16) × (values ≤ 16) ⌝ }
+    ensures { λ r. ⌜ r ≡ rowOf values (inColumn (now (b .entry)) at v) ⌝ }
+{
+    let half = 1 - v / 8;
+    let k = v % 8;
+    let mut row = 0;
+    let mut w = values;
+    while w != 0 {
+        w -= 1;
+        row = 2 * row + row_if(row_holds(constraint::table_byte(b, at, w, half), k), 0);
+    }
+    row
+}
+
+// The row of the values that the constraint at `at` permits with value v of the variable at `here`, which is its
+// first where `leads`; the other variable, at `there`, has `values` of them. A table's row for v is read at once.
+pub fn constraint_row(
+    b: &[u8],
+    at: usize,
+    leads: bool,
+    here: usize,
+    v: usize,
+    there: usize,
+    values: usize,
+) -> usize
+    requires { ⌜ (at ≤ length (now b)) × (here ≤ length (now b)) × (there ≤ length (now b)) × (v < 16) × (values ≤ 16) ⌝ }
+    ensures { λ r. ⌜ ((w : ℕ) → w < values → bit r w ≡ permitsFrom (now (b .entry)) at leads here v there w) ⌝ }
+{
+    if constraint::kind(b, at) != 0 {
+        return limit_row(
+            b,
+            constraint::limit(b, at),
+            read::figure(b, here, v),
+            there,
+            values,
+        );
+    }
+    if leads {
+        return constraint::table_row(b, at, v);
+    }
+    table_column(b, at, v, values)
+}

@@ -1,0 +1,104 @@
+// The checks of a constraint's section (document 01: a rule).
+use crate::section;
+use crate::variable::numbered_size;
+use base::power;
+use faults::Fault;
+use faults::Verdict;
+use format::constraint;
+use format::read;
+use reader::word_at;
+ghost use mathlib.Core.Path.{_≡_};
+ghost use mathlib.Core.Bool.{true};
+ghost use Prim.Native.Nat.{_≤_, _<_, _^_};
+ghost use lib.Dec.{ltb};
+ghost use lib.ListN.{length};
+ghost use Rattle.base.specs.Below.{allBelow};
+ghost use Rattle.format.specs.Format.{tableRowAt};
+ghost use Rattle.plan.specs.Check.{variablesInOrder, constraintLength, tableFits, constraintChecks};
+ghost use Rattle.faults.specs.CheckList.{firstFault, verdictOf};
+ghost use Rattle.sections.specs.Known.{VariablesKnown};
+
+// Both variables' numbers are in range, and the first is the smaller.
+fn variables_in_order(b: &[u8], at: usize) -> bool
+    requires { ⌜ at ≤ length (now b) ⌝ }
+    ensures { λ r. ⌜ r ≡ variablesInOrder (now (b .entry)) at ⌝ }
+{
+    let first = constraint::first(b, at);
+    let second = constraint::second(b, at);
+    if first < 1 {
+        return false;
+    }
+    if second <= first {
+        return false;
+    }
+    second <= read::variable_count(b)
+}
+
+// The length that the constraint's content calls for.
+fn constraint_length(b: &[u8], at: usize, starts: &[usize; 33]) -> usize
+    requires { ⌜ VariablesKnown (now b) (now starts) × (at ≤ length (now b)) × (variablesInOrder (now b) at ≡ true) ⌝ }
+    ensures { λ r. ⌜ r ≡ constraintLength (now (b .entry)) at ⌝ }
+{
+    if constraint::kind(b, at) == 0 {
+        3 + 2 * numbered_size(b, starts, constraint::first(b, at))
+    } else {
+        5
+    }
+}
+
+// No row of a table holds a value from `width` on.
+fn rows_fit(b: &[u8], at: usize, rows: usize, width: usize) -> bool
+    requires { ⌜ (at ≤ length (now b)) × (rows ≤ 16) × (width ≤ 16) ⌝ }
+    ensures { λ r. ⌜ r ≡ allBelow rows (λ v. ltb (tableRowAt (now (b .entry)) at v) (2 ^ width)) ⌝ }
+{
+    let limit = power(width);
+    let mut v = 0;
+    while v < rows {
+        if limit <= constraint::table_row(b, at, v) {
+            return false;
+        }
+        v += 1;
+    }
+    true
+}
+
+// No bit of a table stands at or past the second variable's count.
+fn table_fits(b: &[u8], at: usize, starts: &[usize; 33]) -> bool
+    requires { ⌜ VariablesKnown (now b) (now starts) × (at ≤ length (now b)) × (variablesInOrder (now b) at ≡ true) ⌝ }
+    ensures { λ r. ⌜ r ≡ tableFits (now (b .entry)) at ⌝ }
+{
+    if constraint::kind(b, at) != 0 {
+        return true;
+    }
+    let rows = numbered_size(b, starts, constraint::first(b, at));
+    let width = numbered_size(b, starts, constraint::second(b, at));
+    rows_fit(b, at, rows, width)
+}
+
+// A constraint's section: 1, 3 (length under 3), 7 (kind), 5, 3, 7 (bits).
+pub fn check_constraint(b: &[u8], at: usize, starts: &[usize; 33]) -> Verdict
+    requires { ⌜ VariablesKnown (now b) (now starts) × (at ≤ length (now b)) ⌝ }
+    ensures { λ r. ⌜ r ≡ verdictOf (firstFault (constraintChecks (now (b .entry)) at)) ⌝ }
+{
+    let length = word_at(b, at);
+    let kind = constraint::kind(b, at);
+    if !section::complete(b, at) {
+        return Verdict::Fails(Fault::Truncated);
+    }
+    if length < 3 {
+        return Verdict::Fails(Fault::BadLength); // no room for the kind
+    }
+    if 1 < kind {
+        return Verdict::Fails(Fault::BadConstraint); // no such kind
+    }
+    if !variables_in_order(b, at) {
+        return Verdict::Fails(Fault::BadNumber);
+    }
+    if length != constraint_length(b, at, starts) {
+        return Verdict::Fails(Fault::BadLength);
+    }
+    if !table_fits(b, at, starts) {
+        return Verdict::Fails(Fault::BadConstraint);
+    }
+    Verdict::Passes
+}
