@@ -22,15 +22,17 @@ ghost use mathlib.Core.Path.{_≡_};
 ghost use Prim.Native.Nat.{_<_, _≤_};
 ghost use lib.Dec.{eqb};
 ghost use lib.ListN.{length};
+ghost use Rattle.disac4.specs.Need.{workNeed};
+ghost use Rattle.format.specs.Limits.{maxWorkers};
 ghost use Rattle.cells.specs.Acts.{Acts};
-ghost use Rattle.cells.specs.Layout.{WORKERS, LISTS, HELD, WORKCELLS, OUTROOM, POLLROOM};
+ghost use Rattle.cells.specs.Layout.{WORKERS, LISTS, HELD, OUTROOM, POLLROOM};
 ghost use Rattle.cells.specs.Memory.{memOf};
 ghost use Rattle.cells.specs.View.{pollAt};
 ghost use Rattle.answers.specs.Answers.{answerM, answeredWith, emptyM};
 
 // Puts row `i`'s reply to the poll of this number, behind `outs` messages to the controller.
 fn put_reply(cells: &mut [u16], i: usize, number: Timestamp, outs: usize)
-    requires { ⌜ (WORKCELLS ≤ length (now cells)) × (i < 8) × (outs < OUTROOM) ⌝ }
+    requires { ⌜ (workNeed ≤ length (now cells)) × (i < maxWorkers) × (outs < OUTROOM) ⌝ }
     ensures { λ r. ⌜ memOf (now (cells .exit)) ≡ answeredWith i (number .0) outs (memOf (now (cells .entry))) ⌝ }
 {
     put(cells, OUT, i, outs, number.0 as usize);
@@ -40,7 +42,7 @@ fn put_reply(cells: &mut [u16], i: usize, number: Timestamp, outs: usize)
 
 // Whether both lists of row `i` are empty.
 fn both_empty(cells: &[u16], i: usize) -> bool
-    requires { ⌜ (WORKCELLS ≤ length (now cells)) × (i < 8) ⌝ }
+    requires { ⌜ (workNeed ≤ length (now cells)) × (i < maxWorkers) ⌝ }
     ensures { λ r. ⌜ r ≡ emptyM i (memOf (now (cells .entry))) ⌝ }
 {
     let head = get(cells, WORKERS, i, HEAD);
@@ -59,7 +61,7 @@ fn both_empty(cells: &[u16], i: usize) -> bool
 
 // The poll that row `i` holds: its number, and the wanted count that stands there.
 fn held_poll(cells: &[u16], i: usize) -> Poll
-    requires { ⌜ (WORKCELLS ≤ length (now cells)) × (i < 8) × (memOf (now cells) WORKERS i HELD ≤ POLLROOM) ⌝ }
+    requires { ⌜ (workNeed ≤ length (now cells)) × (i < maxWorkers) × (memOf (now cells) WORKERS i HELD ≤ POLLROOM) ⌝ }
     ensures { λ r. ⌜ r ≡ pollAt (memOf (now (cells .entry))) (memOf (now (cells .entry)) WORKERS i HELD) ⌝ }
 {
     let number = get(cells, WORKERS, i, HELD);
@@ -72,7 +74,7 @@ fn held_poll(cells: &[u16], i: usize) -> Poll
 
 // Row `i`'s count of lists.
 fn list_counter(cells: &[u16], i: usize) -> ListCounter
-    requires { ⌜ (WORKCELLS ≤ length (now cells)) × (i < 8) ⌝ }
+    requires { ⌜ (workNeed ≤ length (now cells)) × (i < maxWorkers) ⌝ }
     ensures { λ r. ⌜ r .0 ≡ memOf (now (cells .entry)) WORKERS i LISTS ⌝ }
 {
     ListCounter(get(cells, WORKERS, i, LISTS) as u16)
@@ -87,7 +89,7 @@ fn same_count(a: ListCounter, b: ListCounter) -> bool
 
 // Answer: row `i` replies to the poll it holds, where both its lists are empty and its list counter is the wanted count.
 pub fn answer(cells: &mut [u16], i: usize) -> usize
-    requires { ⌜ (WORKCELLS ≤ length (now cells)) × (i < 8) ⌝ }
+    requires { ⌜ (workNeed ≤ length (now cells)) × (i < maxWorkers) ⌝ }
     ensures { λ r. ⌜ Acts (answerM i) (memOf (now (cells .entry))) (memOf (now (cells .exit))) r ⌝ }
 {
     let held = get(cells, WORKERS, i, HELD);

@@ -12,6 +12,7 @@ use Rattle.base.specs.Below.{listBelow}
 use Rattle.network.specs.Network.{Label, label}
 use Rattle.disac4.specs.Action.{isEmpty}
 use Rattle.cells.specs.Memory.{Mem}
+use Rattle.cells.specs.Layout.{VALUEROOM}
 use Rattle.cells.specs.View.{labelNumber, labelOf, Queue, queue, contents, labelsBetween}
 
 module _ {A : Type 0} where
@@ -124,8 +125,8 @@ unfolding labelsBetween contents
 labels-length m r i from to = length-list-below (to - from) (λ d. labelOf (m r i (from + d)))
 
 -- a cell holds the label that was put into it
-pub label-of-number : (x v : ℕ) → v < 16 → labelOf (labelNumber x v) ≡ label x v
+pub label-of-number : (x v : ℕ) → v < VALUEROOM → labelOf (labelNumber x v) ≡ label x v
 label-of-number x v h =
-    let p : labelNumber x v / 16 ≡ x = omega arith in
-    let q : labelNumber x v % 16 ≡ v = omega arith in
+    let p : labelNumber x v / VALUEROOM ≡ x = omega arith in
+    let q : labelNumber x v % VALUEROOM ≡ v = omega arith in
     λ i. record { variable = p i; value = q i }

@@ -11,12 +11,13 @@ use borrow.Author.Tests.{leb-true, lt-ltb, ltb-true}
 use lib.Dec.{leb, ltb}
 use lib.ListN.{length, getD, set, List·getD-eq-default}
 use lib.Seq.{getD-set-same, getD-set-other}
+use Rattle.disac4.specs.Need.{workNeed}
 use Rattle.base.proofs.Below.{all-below, below-cases}
 use Rattle.base.proofs.Bools.{and-left, and-right, and-intro}
 use Rattle.base.proofs.Choice.{cond-true}
 use Rattle.base.specs.Below.{allBelow}
 use Rattle.cells.proofs.Stores.{store-is}
-use Rattle.cells.specs.Layout.{BEHIND, WORKCELLS, regions, region, regionAt, address, Fits}
+use Rattle.cells.specs.Layout.{BEHIND, regions, region, regionAt, address, Fits}
 use Rattle.cells.specs.Memory.{memOf, store}
 use Rattle.cells.specs.declared.Region.{Region}
 
@@ -26,6 +27,7 @@ ends g = g .base + g .rows * g .cols
 
 -- each region ends before the next begins, computed over the table
 apart : allBelow BEHIND (λ r. leb (ends (regionAt r)) (regionAt (suc r) .base)) ≡ true
+unfolding workNeed
 apart = refl
 
 next-apart : (r : ℕ) → r < BEHIND → ends (regionAt r) ≤ regionAt (suc r) .base
@@ -34,8 +36,8 @@ next-apart r h =
     (all-below BEHIND (λ r. leb (ends (regionAt r)) (regionAt (suc r) .base)) apart r h)
 
 -- behind the table all is one region
-pub past-table : (r : ℕ) → BEHIND ≤ r → regionAt r ≡ region BEHIND WORKCELLS 1 (2 ^ 64)
-past-table r h = List·getD-eq-default regions (region BEHIND WORKCELLS 1 (2 ^ 64)) h
+pub past-table : (r : ℕ) → BEHIND ≤ r → regionAt r ≡ region BEHIND workNeed 1 (2 ^ 64)
+past-table r h = List·getD-eq-default regions (region BEHIND workNeed 1 (2 ^ 64)) h
 
 before : (r s : ℕ) → r < BEHIND → r < s → ends (regionAt r) ≤ regionAt s .base
 before r zero h l = omega arith
@@ -56,7 +58,7 @@ within : (g : Region) (i j : ℕ) → i < g .rows → j < g .cols → address g 
 within g i j h l = omega (arith, mul-le-mul-right (g .cols) h)
 
 -- a place of a region of the table is one of the needed cells
-pub place-low : (r i j : ℕ) → r < BEHIND → i < regionAt r .rows → j < regionAt r .cols → address (regionAt r) i j < WORKCELLS
+pub place-low : (r i j : ℕ) → r < BEHIND → i < regionAt r .rows → j < regionAt r .cols → address (regionAt r) i j < workNeed
 place-low r i j h row col = omega (arith, within (regionAt r) i j row col, before r BEHIND h h)
 
 -- within a region, two places are one only if row and column are
@@ -99,7 +101,7 @@ mem-get cells r i j row col =
     cond-true _ 0 (and-intro (lt-ltb i (regionAt r .rows) row) (lt-ltb j (regionAt r .cols) col))
 
 module _ (cells : List ℕ) (r i j v : ℕ) (low : r < BEHIND) (row : i < regionAt r .rows) (col : j < regionAt r .cols)
-    (long : WORKCELLS ≤ length cells) where
+    (long : workNeed ≤ length cells) where
   -- the cells after a store
   abbrev new : List ℕ
   new = set cells (address (regionAt r) i j) v
@@ -142,9 +144,9 @@ module _ (cells : List ℕ) (g : Region) (i j : ℕ) (fits : Fits cells g i j) w
   col-known = subst (λ (h : Region). j < h .cols) (sym (fits .known)) (fits .col)
 
   -- a place is one of the needed cells
-  pub place-needed : address g i j < WORKCELLS
+  pub place-needed : address g i j < workNeed
   place-needed =
-      by-table (λ h. address h i j < WORKCELLS) (place-low (g .id) i j (fits .writable) row-known col-known)
+      by-table (λ h. address h i j < workNeed) (place-low (g .id) i j (fits .writable) row-known col-known)
 
   pub get-law : memOf cells (g .id) i j ≡ getD cells (address g i j) 0
   get-law =

@@ -1,8 +1,10 @@
 -- Where everything stands in the work cells: one table of regions. The constants of `src/layout.rt` are its lines.
-use Prim.Native.Nat.{ℕ, _+_, _*_, _^_, _<_, _≤_}
+use Prim.Native.Nat.{ℕ, suc, _+_, _*_, _^_, _<_, _≤_}
 use mathlib.Core.List.{List, [], _∷_}
 use mathlib.Core.Path.{_≡_}
 use lib.ListN.{length, getD}
+use Rattle.disac4.specs.Need.{workNeed}
+use Rattle.format.specs.Limits.{maxWorkers, maxVariables, maxValues, maxLabels, maxConstraints, maxPairs}
 use Rattle.cells.specs.declared.Region.{Region}
 
 -- ---- the regions' numbers
@@ -107,29 +109,37 @@ OUTREAD = 8
 
 -- ---- sizes and limits
 
--- the work cells that a run needs, `workNeed` of disac4 and WORK_CELLS in its code: the table's regions lie within
-abbrev pub WORKCELLS : ℕ
-WORKCELLS = 24576
+-- columns of a worker's row, and of a sender's row of cursors
+abbrev pub WORKERCOLS : ℕ
+WORKERCOLS = 16
 
--- the list cells that a run needs, `listNeed` of disac4 and LIST_CELLS in its code
-abbrev pub LISTCELLS : ℕ
-LISTCELLS = 32
+-- values of a variable that the cells have room for: as many as a plan may give it
+abbrev pub VALUEROOM : ℕ
+VALUEROOM = maxValues
 
 -- labels that a row of LOG or WORK has room for: as many as a plan may have
 abbrev pub LABELROOM : ℕ
-LABELROOM = 512
+LABELROOM = maxLabels
 
 -- list messages that a worker has room for: BOUNDS has a column more, for where the last one ends
 abbrev pub SENDROOM : ℕ
-SENDROOM = 519
+SENDROOM = LABELROOM + 7
 
 -- messages from a worker to the controller that there is room for
 abbrev pub OUTROOM : ℕ
-OUTROOM = 520
+OUTROOM = LABELROOM + 8
 
 -- polls that there is room for: WANTED has a column more, since no poll has number 0
 abbrev pub POLLROOM : ℕ
-POLLROOM = 519
+POLLROOM = LABELROOM + 7
+
+-- the highest row of COUNTERS: each two linked variables have two, and row 0 is no one's
+abbrev pub COUNTERMAX : ℕ
+COUNTERMAX = 2 * maxPairs
+
+-- sections of a plan that there is room for
+abbrev pub PLACEROOM : ℕ
+PLACEROOM = 176
 
 -- the highest list counter: a cell holds no more
 abbrev pub LISTSMAX : ℕ
@@ -141,28 +151,41 @@ LISTSMAX = 65535
 abbrev pub region : ℕ → ℕ → ℕ → ℕ → Region
 region id base rows cols = record { id = id; base = base; rows = rows; cols = cols }
 
--- the regions, each at its number: one begins where the one before it ends
-abbrev pub regions : List Region
-regions =
-    region WORKERS 0 8 16
-    ∷ region CURSORS 128 8 16
-    ∷ region BOUNDS 256 8 (SENDROOM + 1)
-    ∷ region LOG 4416 8 LABELROOM
-    ∷ region WORK 8512 8 LABELROOM
-    ∷ region OUT 12608 8 OUTROOM
-    ∷ region WANTED 16768 1 (POLLROOM + 1)
-    ∷ region DOMAIN 17288 32 16
-    ∷ region COUNTERS 17800 257 16
-    ∷ region HEADS 21912 32 32
-    ∷ region PLACES 22936 1 176
-    ∷ region NEXT 23112 1 128
-    ∷ region FIRST 23240 8 32
-    ∷ region FOLLOW 23496 32 32
+-- a region's rows and columns
+abbrev pub Size : Type 0
+Size = ℕ × ℕ
+
+-- the sizes of the regions, in the order of their numbers
+abbrev pub sizes : List Size
+sizes =
+    (maxWorkers, WORKERCOLS)  -- WORKERS
+    ∷ (maxWorkers, WORKERCOLS)  -- CURSORS
+    ∷ (maxWorkers, SENDROOM + 1)  -- BOUNDS
+    ∷ (maxWorkers, LABELROOM)  -- LOG
+    ∷ (maxWorkers, LABELROOM)  -- WORK
+    ∷ (maxWorkers, OUTROOM)  -- OUT
+    ∷ (1, POLLROOM + 1)  -- WANTED
+    ∷ (maxVariables, VALUEROOM)  -- DOMAIN
+    ∷ (COUNTERMAX + 1, VALUEROOM)  -- COUNTERS
+    ∷ (maxVariables, maxVariables)  -- HEADS
+    ∷ (1, PLACEROOM)  -- PLACES
+    ∷ (1, maxConstraints)  -- NEXT
+    ∷ (maxWorkers, maxVariables)  -- FIRST
+    ∷ (maxVariables, maxVariables)  -- FOLLOW
     ∷ []
+
+-- regions of these sizes, numbered from `id` and standing from `at` on: each begins where the one before it ends
+abbrev pub placed : ℕ → ℕ → List Size → List Region
+placed id at [] = []
+placed id at (s ∷ rest) = region id at (s .0) (s .1) ∷ placed (suc id) (at + s .0 * s .1) rest
+
+-- the regions, each at its number
+abbrev pub regions : List Region
+regions = placed 0 0 sizes
 
 -- the region of a number: past the table, all the cells behind the needed ones
 abbrev pub regionAt : ℕ → Region
-regionAt r = getD regions r (region BEHIND WORKCELLS 1 (2 ^ 64))
+regionAt r = getD regions r (region BEHIND workNeed 1 (2 ^ 64))
 
 -- the place of a row and column in the cells
 abbrev pub address : Region → ℕ → ℕ → ℕ
@@ -174,4 +197,4 @@ pub record Fits (cells : List ℕ) (g : Region) (i j : ℕ) : Type 0 where
   pub writable : g .id < BEHIND
   pub row : i < g .rows
   pub col : j < g .cols
-  pub long : WORKCELLS ≤ length cells
+  pub long : workNeed ≤ length cells

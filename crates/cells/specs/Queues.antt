@@ -5,8 +5,10 @@ use mathlib.Core.List.{List}
 use mathlib.Core.Path.{_≡_}
 use lib.Dec.{ltb}
 use lib.ListN.{length}
+use Rattle.disac4.specs.Need.{workNeed}
+use Rattle.format.specs.Limits.{maxWorkers}
 use Rattle.base.specs.Below.{loop}
-use Rattle.cells.specs.Layout.{WORKERS, LOG, WORK, DOMAIN, BEHIND, TAIL, LOGEND, WORKCELLS, LABELROOM, regionAt}
+use Rattle.cells.specs.Layout.{WORKERS, LOG, WORK, DOMAIN, BEHIND, TAIL, LOGEND, LABELROOM, regionAt, WORKERCOLS}
 use Rattle.cells.specs.Memory.{Mem, store}
 use Rattle.cells.specs.View.{labelNumber}
 use Rattle.cells.specs.declared.Region.{Region}
@@ -15,12 +17,12 @@ use Rattle.cells.specs.declared.Region.{Region}
 pub record Pushes (cells : List ℕ) (g : Region) (col i c : ℕ) : Type 0 where
   pub known : regionAt (g .id) ≡ g
   pub writable : g .id < BEHIND
-  pub rows : g .rows ≡ 8
+  pub rows : g .rows ≡ maxWorkers
   pub cols : g .cols ≡ LABELROOM
-  pub row : i < 8
-  pub end : col < 16
+  pub row : i < maxWorkers
+  pub end : col < WORKERCOLS
   pub small : c < 65536
-  pub long : WORKCELLS ≤ length cells
+  pub long : workNeed ≤ length cells
 
 -- `c` at the end of row `i` of a region whose end is kept in a column of the worker's row; there is room for LABELROOM
 unfoldable pub pushM : ℕ → ℕ → ℕ → ℕ → Mem → Mem

@@ -4,6 +4,7 @@ use mathlib.Core.Bool.{Bool, false, cond, _&&_}
 use mathlib.Core.List.{List, []}
 use mathlib.Core.Option.{Option, none, some}
 use lib.Dec.{leb, ltb, eqb}
+use Rattle.format.specs.Limits.{maxPairs}
 use Rattle.base.specs.Below.{one, listBelow}
 use Rattle.base.specs.Choice.{between}
 use Rattle.base.specs.Row.{bit}
@@ -12,18 +13,18 @@ use Rattle.disac4.specs.System.{System}
 use Rattle.disac4.specs.declared.Poll.{Poll}
 use Rattle.disac4.specs.declared.Tally.{Tally}
 use Rattle.network.specs.Network.{Label, label, loaded}
-use Rattle.cells.specs.Layout.{WORKERS, CURSORS, BOUNDS, LOG, WORK, OUT, WANTED, DOMAIN, COUNTERS, HEADS, HEAD, TAIL, LOGEND, SENDS, LISTS, HELD, POLLS, OUTEND, OUTREAD}
+use Rattle.cells.specs.Layout.{WORKERS, CURSORS, BOUNDS, LOG, WORK, OUT, WANTED, DOMAIN, COUNTERS, HEADS, HEAD, TAIL, LOGEND, SENDS, LISTS, HELD, POLLS, OUTEND, OUTREAD, VALUEROOM}
 use Rattle.cells.specs.Memory.{Mem}
 
 -- ---- single cells
 
--- a label in a cell: 16 for each variable before it, and its value
+-- a label in a cell: VALUEROOM for each variable before it, and its value
 abbrev pub labelNumber : ℕ → ℕ → ℕ
-labelNumber x v = x * 16 + v
+labelNumber x v = x * VALUEROOM + v
 
 -- the label that a cell holds
 abbrev pub labelOf : ℕ → Label
-labelOf c = label (c / 16) (c % 16)
+labelOf c = label (c / VALUEROOM) (c % VALUEROOM)
 
 -- what a domain cell holds while its value is not deleted
 abbrev pub LISTED : ℕ
@@ -44,7 +45,7 @@ counterRow m x y = 2 * m HEADS x y - 1 + one (ltb y x)
 -- the two variables have a row of counters
 pub record Numbered (m : Mem) (x y : ℕ) : Type 0 where
   pub low : 0 < m HEADS x y
-  pub high : m HEADS x y ≤ 128
+  pub high : m HEADS x y ≤ maxPairs
 
 -- ---- queues in a row
 

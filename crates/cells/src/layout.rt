@@ -1,24 +1,43 @@
-// The regions of the work cells: the lines of the table in specs/Layout.antt; and reads and stores by row and column.
+// The regions of the work cells, each from where the one before it ends, as specs/Layout.antt has them; and reads and stores by row
+// and column.
 use crate::Region;
 use base::row_if;
+use format::limits::MAX_CONSTRAINTS;
+use format::limits::MAX_LABELS;
+use format::limits::MAX_PAIRS;
+use format::limits::MAX_VALUES;
+use format::limits::MAX_VARIABLES;
+use format::limits::MAX_WORKERS;
 ghost use mathlib.Core.Path.{_≡_};
-ghost use Prim.Native.Nat.{_<_, _≤_};
+ghost use Prim.Native.Nat.{_-_, _<_, _≤_};
 ghost use lib.Dec.{eqb};
 ghost use Rattle.base.specs.Row.{rowOf};
-ghost use Rattle.cells.specs.Layout.{Fits};
+ghost use Rattle.cells.specs.Layout.{VALUEROOM, Fits};
 ghost use Rattle.cells.specs.Memory.{memOf, store};
 
+// Columns of a worker's row, and of a sender's row of cursors.
+pub const WORKERCOLS: usize = 16;
+
+// Values of a variable that the cells have room for: as many as a plan may give it.
+pub const VALUEROOM: usize = MAX_VALUES;
+
 // Labels that a row of LOG or WORK has room for: as many as a plan may have.
-pub const LABELROOM: usize = 512;
+pub const LABELROOM: usize = MAX_LABELS;
 
 // List messages that a worker has room for.
-pub const SENDROOM: usize = 519;
+pub const SENDROOM: usize = LABELROOM + 7;
 
 // Messages from a worker to the controller that there is room for.
-pub const OUTROOM: usize = 520;
+pub const OUTROOM: usize = LABELROOM + 8;
 
 // Polls that there is room for.
-pub const POLLROOM: usize = 519;
+pub const POLLROOM: usize = LABELROOM + 7;
+
+// The highest row of COUNTERS: each two linked variables have two, and row 0 is no one's.
+pub const COUNTERMAX: usize = 2 * MAX_PAIRS;
+
+// Sections of a plan that there is room for.
+pub const PLACEROOM: usize = 176;
 
 // The highest list counter: a cell holds no more.
 pub const LISTSMAX: usize = 65535;
@@ -26,99 +45,125 @@ pub const LISTSMAX: usize = 65535;
 pub const WORKERS: Region = Region {
     id: 0,
     base: 0,
-    rows: 8,
-    cols: 16,
+    rows: MAX_WORKERS,
+    cols: WORKERCOLS,
 };
+
+const CURSORS_AT: usize = MAX_WORKERS * WORKERCOLS;
 
 pub const CURSORS: Region = Region {
     id: 1,
-    base: 128,
-    rows: 8,
-    cols: 16,
+    base: CURSORS_AT,
+    rows: MAX_WORKERS,
+    cols: WORKERCOLS,
 };
+
+const BOUNDS_AT: usize = CURSORS_AT + MAX_WORKERS * WORKERCOLS;
 
 pub const BOUNDS: Region = Region {
     id: 2,
-    base: 256,
-    rows: 8,
+    base: BOUNDS_AT,
+    rows: MAX_WORKERS,
     cols: SENDROOM + 1,
 };
 
+const LOG_AT: usize = BOUNDS_AT + MAX_WORKERS * (SENDROOM + 1);
+
 pub const LOG: Region = Region {
     id: 3,
-    base: 4416,
-    rows: 8,
+    base: LOG_AT,
+    rows: MAX_WORKERS,
     cols: LABELROOM,
 };
+
+const WORK_AT: usize = LOG_AT + MAX_WORKERS * LABELROOM;
 
 pub const WORK: Region = Region {
     id: 4,
-    base: 8512,
-    rows: 8,
+    base: WORK_AT,
+    rows: MAX_WORKERS,
     cols: LABELROOM,
 };
 
+const OUT_AT: usize = WORK_AT + MAX_WORKERS * LABELROOM;
+
 pub const OUT: Region = Region {
     id: 5,
-    base: 12608,
-    rows: 8,
+    base: OUT_AT,
+    rows: MAX_WORKERS,
     cols: OUTROOM,
 };
 
+const WANTED_AT: usize = OUT_AT + MAX_WORKERS * OUTROOM;
+
 pub const WANTED: Region = Region {
     id: 6,
-    base: 16768,
+    base: WANTED_AT,
     rows: 1,
     cols: POLLROOM + 1,
 };
 
+const DOMAIN_AT: usize = WANTED_AT + POLLROOM + 1;
+
 pub const DOMAIN: Region = Region {
     id: 7,
-    base: 17288,
-    rows: 32,
-    cols: 16,
+    base: DOMAIN_AT,
+    rows: MAX_VARIABLES,
+    cols: VALUEROOM,
 };
+
+const COUNTERS_AT: usize = DOMAIN_AT + MAX_VARIABLES * VALUEROOM;
 
 pub const COUNTERS: Region = Region {
     id: 8,
-    base: 17800,
-    rows: 257,
-    cols: 16,
+    base: COUNTERS_AT,
+    rows: COUNTERMAX + 1,
+    cols: VALUEROOM,
 };
+
+const HEADS_AT: usize = COUNTERS_AT + (COUNTERMAX + 1) * VALUEROOM;
 
 pub const HEADS: Region = Region {
     id: 9,
-    base: 21912,
-    rows: 32,
-    cols: 32,
+    base: HEADS_AT,
+    rows: MAX_VARIABLES,
+    cols: MAX_VARIABLES,
 };
+
+const PLACES_AT: usize = HEADS_AT + MAX_VARIABLES * MAX_VARIABLES;
 
 pub const PLACES: Region = Region {
     id: 10,
-    base: 22936,
+    base: PLACES_AT,
     rows: 1,
-    cols: 176,
+    cols: PLACEROOM,
 };
+
+const NEXT_AT: usize = PLACES_AT + PLACEROOM;
 
 pub const NEXT: Region = Region {
     id: 11,
-    base: 23112,
+    base: NEXT_AT,
     rows: 1,
-    cols: 128,
+    cols: MAX_CONSTRAINTS,
 };
+
+const FIRST_AT: usize = NEXT_AT + MAX_CONSTRAINTS;
 
 pub const FIRST: Region = Region {
     id: 12,
-    base: 23240,
-    rows: 8,
-    cols: 32,
+    base: FIRST_AT,
+    rows: MAX_WORKERS,
+    cols: MAX_VARIABLES,
 };
+
+const FOLLOW_AT: usize = FIRST_AT + MAX_WORKERS * MAX_VARIABLES;
 
 pub const FOLLOW: Region = Region {
     id: 13,
-    base: 23496,
-    rows: 32,
-    cols: 32,
+    base: FOLLOW_AT,
+    rows: MAX_VARIABLES,
+    cols: MAX_VARIABLES,
 };
 
 // The columns of a worker's row.
@@ -166,9 +211,9 @@ pub fn put(cells: &mut [u16], g: Region, i: usize, j: usize, v: usize)
     cells[base + i * cols + j] = v as u16;
 }
 
-// The row of the values below n, of at most 16, whose cells in row i of a region hold c.
+// The row of the values below n whose cells in row i of a region hold c.
 pub fn row_holding(cells: &[u16], g: Region, i: usize, n: usize, c: usize) -> usize
-    requires { ⌜ Fits (now cells) g i 15 × (n ≤ 16) ⌝ }
+    requires { ⌜ Fits (now cells) g i (VALUEROOM - 1) × (n ≤ VALUEROOM) ⌝ }
     ensures { λ r. ⌜ r ≡ rowOf n (λ v. eqb (memOf (now (cells .entry)) (g .id) i v) c) ⌝ }
 {
     let mut row = 0;

@@ -5,6 +5,7 @@ use crate::layout::LABELROOM;
 use crate::layout::LOG;
 use crate::layout::LOGEND;
 use crate::layout::TAIL;
+use crate::layout::VALUEROOM;
 use crate::layout::WORK;
 use crate::layout::WORKERS;
 use crate::layout::get;
@@ -12,7 +13,9 @@ use crate::layout::put;
 ghost use mathlib.Core.Path.{_≡_};
 ghost use Prim.Native.Nat.{_+_, _<_, _≤_};
 ghost use lib.ListN.{length};
-ghost use Rattle.cells.specs.Layout.{WORKCELLS, LABELROOM};
+ghost use Rattle.disac4.specs.Need.{workNeed};
+ghost use Rattle.format.specs.Limits.{maxWorkers, maxVariables};
+ghost use Rattle.cells.specs.Layout.{LABELROOM, VALUEROOM};
 ghost use Rattle.cells.specs.Queues.{Pushes, pushM, deleteM, copyM};
 ghost use Rattle.cells.specs.Memory.{memOf};
 
@@ -30,10 +33,10 @@ pub fn push(cells: &mut [u16], g: Region, col: usize, i: usize, c: usize)
 
 // Row `i` deletes label `v` of `x`.
 pub fn delete(cells: &mut [u16], i: usize, x: usize, v: usize)
-    requires { ⌜ (WORKCELLS ≤ length (now cells)) × (i < 8) × (x < 32) × (v < 16) ⌝ }
+    requires { ⌜ (workNeed ≤ length (now cells)) × (i < maxWorkers) × (x < maxVariables) × (v < VALUEROOM) ⌝ }
     ensures { λ r. ⌜ memOf (now (cells .exit)) ≡ deleteM i x v (memOf (now (cells .entry))) ⌝ }
 {
-    let c = x * 16 + v;
+    let c = x * VALUEROOM + v;
     put(cells, DOMAIN, x, v, 0);
     push(cells, LOG, LOGEND, i, c);
     push(cells, WORK, TAIL, i, c);
@@ -41,7 +44,7 @@ pub fn delete(cells: &mut [u16], i: usize, x: usize, v: usize)
 
 // The first `n` labels behind `from` in row `j`'s log join the end of row `i`'s work list.
 pub fn copy(cells: &mut [u16], j: usize, i: usize, from: usize, n: usize)
-    requires { ⌜ (WORKCELLS ≤ length (now cells)) × (j < 8) × (i < 8) × (from + n ≤ LABELROOM) ⌝ }
+    requires { ⌜ (workNeed ≤ length (now cells)) × (j < maxWorkers) × (i < maxWorkers) × (from + n ≤ LABELROOM) ⌝ }
     ensures { λ r. ⌜ memOf (now (cells .exit)) ≡ copyM j i from n (memOf (now (cells .entry))) ⌝ }
 {
     let mut k = 0;

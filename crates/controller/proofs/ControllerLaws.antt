@@ -7,6 +7,7 @@ use mathlib.Core.Path.{_≡_, sym, _∙_}
 use native.Mathlib.Omega.{arith}
 use borrow.Author.Tests.{ltb-true, le-leb, lt-leb, not-true, not-false}
 use lib.Dec.{ltb, eqb}
+use Rattle.format.specs.Limits.{maxWorkers}
 use Rattle.base.proofs.Bools.{and-left, and-right}
 use Rattle.base.proofs.Choice.{cond-true, cond-false}
 use Rattle.base.specs.Row.{bit}
@@ -26,7 +27,7 @@ module _ (marks i : ℕ) (small : marks < 256) {held : Bool} (q : held ≡ bit m
   unfolding withMark
   mark-stays h = (rw (← q, h), small)
 
-  pub mark-joins : {r : ℕ} → r ≡ 2 ^ i → i < 8 → held ≡ false → (marks + r ≡ withMark marks i) × (marks + r < 256)
+  pub mark-joins : {r : ℕ} → r ≡ 2 ^ i → i < maxWorkers → held ≡ false → (marks + r ≡ withMark marks i) × (marks + r < 256)
   unfolding withMark
   mark-joins {r} e l h =
       let joined : marks + r ≡ withMark marks i = rw (← q, h, e) in

@@ -7,12 +7,14 @@ use mathlib.Core.Option.{Option, none, some}
 use mathlib.Core.Path.{_≡_}
 use lib.Dec.{leb, ltb, eqb}
 use lib.ListN.{length}
+use Rattle.format.specs.Limits.{maxWorkers}
 use Rattle.base.specs.Row.{bit}
 use Rattle.cells.specs.Acts.{Acts}
-use Rattle.cells.specs.Layout.{OUT, WANTED, WORKERS, OUTEND, OUTREAD, WORKCELLS, OUTROOM, POLLROOM, LISTSMAX}
+use Rattle.cells.specs.Layout.{OUT, WANTED, WORKERS, OUTEND, OUTREAD, OUTROOM, POLLROOM, LISTSMAX}
 use Rattle.cells.specs.Memory.{Mem, memOf, store}
 use Rattle.cells.specs.View.{LISTMARK}
 use Rattle.disac4.specs.System.{System}
+use Rattle.disac4.specs.Need.{workNeed}
 use Rattle.disac4.specs.declared.Tally.{Tally}
 
 -- the work cells as a memory, and the tally beside them
@@ -101,7 +103,7 @@ hearM sys i s =
 
 -- what the code of that read asks: the needed cells, and a tally, a count of workers and a row of at most eight
 abbrev pub Hearable : List ℕ → Tally → ℕ → ℕ → Type 0
-Hearable cells t p i = (WORKCELLS ≤ length cells) × (t .marks < 256) × (i < 8) × (p ≤ 8)
+Hearable cells t p i = (workNeed ≤ length cells) × (t .marks < 256) × (i < maxWorkers) × (p ≤ maxWorkers)
 
 -- and what it does to cells and tally, of `p` workers: it gives 1 where something changed
 abbrev pub Heard : List ℕ → Tally → ℕ → ℕ → List ℕ → Tally → ℕ → Type 0

@@ -21,8 +21,10 @@ ghost use mathlib.Core.Path.{_≡_};
 ghost use Prim.Native.Nat.{_<_, _≤_};
 ghost use lib.Dec.{ltb, eqb};
 ghost use lib.ListN.{length};
+ghost use Rattle.disac4.specs.Need.{workNeed};
+ghost use Rattle.format.specs.Limits.{maxWorkers};
 ghost use Rattle.cells.specs.Acts.{Acts};
-ghost use Rattle.cells.specs.Layout.{WANTED, WORKCELLS, OUTROOM, POLLROOM, LISTSMAX};
+ghost use Rattle.cells.specs.Layout.{WANTED, OUTROOM, POLLROOM, LISTSMAX};
 ghost use Rattle.cells.specs.Memory.{memOf, store};
 ghost use Rattle.controller.specs.Controller.{askedT, asksT, countedT, withMark, markedT, toldT, machine, pollM, Hearable, Heard};
 
@@ -78,7 +80,7 @@ fn counted(t: Tally) -> Tally
 
 // A row of marks with that of row `i`.
 fn with_mark(marks: usize, i: usize) -> usize
-    requires { ⌜ (marks < 256) × (i < 8) ⌝ }
+    requires { ⌜ (marks < 256) × (i < maxWorkers) ⌝ }
     ensures { λ r. ⌜ (r ≡ withMark marks i) × (r < 256) ⌝ }
 {
     if row_holds(marks, i) {
@@ -90,7 +92,7 @@ fn with_mark(marks: usize, i: usize) -> usize
 
 // A reply to the open poll marks its worker; with all `p` marked, the plan is closed.
 fn marked(t: Tally, p: usize, i: usize) -> Tally
-    requires { ⌜ (t .marks < 256) × (i < 8) × (p ≤ 8) ⌝ }
+    requires { ⌜ (t .marks < 256) × (i < maxWorkers) × (p ≤ maxWorkers) ⌝ }
     ensures { λ r. ⌜ r ≡ markedT p i t ⌝ }
 {
     let lists = t.lists;
@@ -114,7 +116,7 @@ fn same_number(a: Timestamp, b: Timestamp) -> bool
 
 // The tally after the message `c` from row `i` was read.
 fn told(t: Tally, p: usize, i: usize, c: usize) -> Tally
-    requires { ⌜ (t .lists .0 < LISTSMAX) × (t .marks < 256) × (i < 8) × (p ≤ 8) ⌝ }
+    requires { ⌜ (t .lists .0 < LISTSMAX) × (t .marks < 256) × (i < maxWorkers) × (p ≤ maxWorkers) ⌝ }
     ensures { λ r. ⌜ r ≡ toldT p i c t ⌝ }
 {
     let at = t.timestamp;
@@ -144,7 +146,7 @@ fn open_poll(t: Tally) -> Poll
 
 // Puts a poll where all workers read it: its wanted count, at its number.
 fn put_poll(cells: &mut [u16], q: Poll)
-    requires { ⌜ (WORKCELLS ≤ length (now cells)) × (q .number .0 ≤ POLLROOM) ⌝ }
+    requires { ⌜ (workNeed ≤ length (now cells)) × (q .number .0 ≤ POLLROOM) ⌝ }
     ensures { λ r. ⌜ memOf (now (cells .exit)) ≡ store (memOf (now (cells .entry))) WANTED 0 (q .number .0) (q .wanted .0) ⌝ }
 {
     let number = q.number;
@@ -154,7 +156,7 @@ fn put_poll(cells: &mut [u16], q: Poll)
 
 // Poll: where none is open, the controller sends the next one, with its count of lists.
 pub fn poll(cells: &mut [u16], t: Tally) -> Controlled
-    requires { ⌜ WORKCELLS ≤ length (now cells) ⌝ }
+    requires { ⌜ workNeed ≤ length (now cells) ⌝ }
     ensures { λ r. ⌜ Acts pollM (machine (now (cells .entry)) t) (machine (now (cells .exit)) (r .tally)) (r .changed) ⌝ }
 {
     if !asks(t) {

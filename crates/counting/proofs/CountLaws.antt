@@ -20,13 +20,14 @@ use Rattle.plan.specs.Decode.{planFault, planOf}
 use Rattle.plan.specs.Network.{shareConstraint, networkOf}
 use Rattle.plan.specs.Plan.{Plan}
 use Rattle.cells.specs.Memory.{Mem}
+use Rattle.cells.specs.Layout.{VALUEROOM}
 use Rattle.index.proofs.Linked.{linked-inside}
 use Rattle.index.proofs.Places.{few-values}
 use Rattle.counting.specs.Count.{FirstRows, supportRow, countPairM, countAgainstM, countBothM}
 
 -- a variable has at most 16 values, so a row of them fits a cell
 module _ (b : List ℕ) (sound : planFault b ≡ none) (x y : ℕ) (e : shareConstraint (planOf b) x y ≡ true) where
-  pub size-low : networkOf (planOf b) .size y ≤ 16
+  pub size-low : networkOf (planOf b) .size y ≤ VALUEROOM
   unfolding networkOf
   size-low = let h = linked-inside b sound x y e .1 in omega (arith, size-read b y h, few-values b sound y h)
 
@@ -37,7 +38,7 @@ module _ (b : List ℕ) (sound : planFault b ≡ none) (x y : ℕ) (e : shareCon
 -- ---- rows
 
 -- one row more
-pub rows-more : (f : ℕ → ℕ) (k : ℕ) (rows : List ℕ) (row : ℕ) → k < 16 → FirstRows f k rows → row ≡ f k → FirstRows f (k + 1) (set rows k row)
+pub rows-more : (f : ℕ → ℕ) (k : ℕ) (rows : List ℕ) (row : ℕ) → k < VALUEROOM → FirstRows f k rows → row ≡ f k → FirstRows f (k + 1) (set rows k row)
 rows-more f k rows row h r e = record {
   long = length-set rows k row ∙ r .long;
   each =
@@ -56,12 +57,12 @@ module _ (plan : Plan) (x y : ℕ) where
   gathered v w = rowOf v (held w)
 
   -- these rows hold lower values only
-  pub gathered-small : (v : ℕ) (rows : List ℕ) → FirstRows (gathered v) 16 rows → (w : ℕ) → w < 16 → getD rows w 0 < 2 ^ v
+  pub gathered-small : (v : ℕ) (rows : List ℕ) → FirstRows (gathered v) VALUEROOM rows → (w : ℕ) → w < VALUEROOM → getD rows w 0 < 2 ^ v
   gathered-small v rows g w h = omega (arith, g .each w h, row-small v (held w))
 
   -- one value more
-  pub gathered-more : (v : ℕ) (rows new : List ℕ) (row : ℕ) → FirstRows (gathered v) 16 rows → row ≡ supportRow (networkOf plan) x y v
-      → FirstRows (λ w. getD rows w 0 + cond (bit row w) (2 ^ v) 0) 16 new → FirstRows (gathered (v + 1)) 16 new
+  pub gathered-more : (v : ℕ) (rows new : List ℕ) (row : ℕ) → FirstRows (gathered v) VALUEROOM rows → row ≡ supportRow (networkOf plan) x y v
+      → FirstRows (λ w. getD rows w 0 + cond (bit row w) (2 ^ v) 0) VALUEROOM new → FirstRows (gathered (v + 1)) VALUEROOM new
   gathered-more v rows new row g e a = record {
     long = a .long;
     each = λ w h.
@@ -69,7 +70,7 @@ module _ (plan : Plan) (x y : ℕ) where
   }
 
   -- when all values are gathered, these are the rows of supports
-  pub gathered-all : (rows : List ℕ) → networkOf plan .size y ≤ 16 → FirstRows (gathered (networkOf plan .size x)) 16 rows
+  pub gathered-all : (rows : List ℕ) → networkOf plan .size y ≤ VALUEROOM → FirstRows (gathered (networkOf plan .size x)) VALUEROOM rows
       → FirstRows (supportRow (networkOf plan) y x) (networkOf plan .size y) rows
   unfolding supports networkOf
   gathered-all rows low g = record {

@@ -8,7 +8,7 @@ use Rattle.base.specs.Below.{loop}
 use Rattle.base.specs.Row.{rowOf}
 use Rattle.disac4.specs.System.{System}
 use Rattle.network.specs.Network.{Network, supports, supportCount}
-use Rattle.cells.specs.Layout.{COUNTERS}
+use Rattle.cells.specs.Layout.{COUNTERS, VALUEROOM}
 use Rattle.cells.specs.Memory.{Mem, store}
 use Rattle.cells.specs.View.{counterRow}
 
@@ -18,7 +18,7 @@ supportRow net x y v = rowOf (net .size y) (supports net x v y)
 
 -- sixteen rows, of which the first `n` are those that `f` gives
 pub record FirstRows (f : ℕ → ℕ) (n : ℕ) (rows : List ℕ) : Type 0 where
-  pub long : length rows ≡ 16
+  pub long : length rows ≡ VALUEROOM
   pub each : (v : ℕ) → v < n → getD rows v 0 ≡ f v
 
 -- the counter of value `v` of `x` against `y`, in row `at`

@@ -4,6 +4,7 @@ use base::row_count;
 use base::row_holds;
 use base::row_if;
 use cells::layout;
+use cells::layout::VALUEROOM;
 use format::read;
 use index::parts;
 ghost use mathlib.Core.Bool.{true, cond};
@@ -18,22 +19,26 @@ ghost use Rattle.plan.specs.Plan.{sizeOf};
 ghost use Rattle.format.specs.Format.{variableCount};
 ghost use Rattle.index.specs.Index.{Ready};
 ghost use Rattle.cells.specs.Memory.{memOf};
+ghost use Rattle.cells.specs.Layout.{VALUEROOM};
 ghost use Rattle.counting.specs.Count.{FirstRows, supportRow, countPairM, countBothM, countVariableM, countSupportsM};
 
+// A row for each value of a variable.
+type Rows = [u16; VALUEROOM];
+
 // Rows without a value.
-fn no_rows() -> [u16; 16]
-    ensures { λ r. ⌜ FirstRows (λ w. 0) 16 r ⌝ }
+fn no_rows() -> Rows
+    ensures { λ r. ⌜ FirstRows (λ w. 0) VALUEROOM r ⌝ }
 {
-    [0; 16]
+    [0; VALUEROOM]
 }
 
 // Puts value v into the row of each value that the row of v holds. The rows have lower values only, so its bit is added.
-fn gather(rows: &mut [u16; 16], row: usize, v: usize)
-    requires { ⌜ (length (now rows) ≡ 16) × (v < 16) × ((w : ℕ) → w < 16 → getD (now rows) w 0 < 2 ^ v) ⌝ }
-    ensures { λ _. ⌜ FirstRows (λ w. getD (now (rows .entry)) w 0 + cond (bit row w) (2 ^ v) 0) 16 (now (rows .exit)) ⌝ }
+fn gather(rows: &mut Rows, row: usize, v: usize)
+    requires { ⌜ (length (now rows) ≡ VALUEROOM) × (v < VALUEROOM) × ((w : ℕ) → w < VALUEROOM → getD (now rows) w 0 < 2 ^ v) ⌝ }
+    ensures { λ _. ⌜ FirstRows (λ w. getD (now (rows .entry)) w 0 + cond (bit row w) (2 ^ v) 0) VALUEROOM (now (rows .exit)) ⌝ }
 {
     let mut w = 0;
-    while w < 16 {
+    while w < VALUEROOM {
         rows[w] += row_if(row_holds(row, w), v) as u16;
         w += 1;
     }
@@ -41,8 +46,8 @@ fn gather(rows: &mut [u16; 16], row: usize, v: usize)
 
 // The rows of the values of x against y, which shares a constraint with x. On the way the rows of y against x are gathered
 // in `others`: that of a value of y has the values of x whose rows hold it.
-fn support_rows(b: &[u8], cells: &[u16], x: usize, y: usize, others: &mut [u16; 16]) -> [u16; 16]
-    requires { ⌜ Ready (now b) (now cells) × (shareConstraint (planOf (now b)) x y ≡ true) × FirstRows (λ w. 0) 16 (now others) ⌝ }
+fn support_rows(b: &[u8], cells: &[u16], x: usize, y: usize, others: &mut Rows) -> Rows
+    requires { ⌜ Ready (now b) (now cells) × (shareConstraint (planOf (now b)) x y ≡ true) × FirstRows (λ w. 0) VALUEROOM (now others) ⌝ }
     ensures { λ r. ⌜ FirstRows (supportRow (networkOf (planOf (now (b .entry)))) x y) (sizeOf (planOf (now (b .entry))) x) r × FirstRows (supportRow (networkOf (planOf (now (b .entry)))) y x) (sizeOf (planOf (now (b .entry))) y) (now (others .exit)) ⌝ }
 {
     let n = parts::size(b, cells, x);
@@ -58,7 +63,7 @@ fn support_rows(b: &[u8], cells: &[u16], x: usize, y: usize, others: &mut [u16; 
 }
 
 // The counters of the values of x against y, whose rows are given. Every count is made by the function that calls itself.
-fn put_counts(b: &[u8], cells: &mut [u16], x: usize, y: usize, rows: &[u16; 16])
+fn put_counts(b: &[u8], cells: &mut [u16], x: usize, y: usize, rows: &Rows)
     requires { ⌜ Ready (now b) (now cells) × (shareConstraint (planOf (now b)) x y ≡ true) × FirstRows (supportRow (networkOf (planOf (now b))) x y) (sizeOf (planOf (now b)) x) (now rows) ⌝ }
     ensures { λ _. ⌜ memOf (now (cells .exit)) ≡ countPairM (systemAt (now (b .entry))) x y (memOf (now (cells .entry))) ⌝ }
 {

@@ -6,6 +6,7 @@ use mathlib.Core.Path.{_≡_, refl, sym, _∙_}
 use native.Mathlib.Omega.{arith}
 use borrow.Author.Tests.{leb-true, eqb-true, eqb-false, le-leb, ne-eqb, not-true}
 use lib.Dec.{leb, eqb}
+use Rattle.format.specs.Limits.{maxWorkers}
 use Rattle.base.proofs.Bools.{decided, clash, and-left, and-right, and-intro, or-cases, or-left, or-right, not-of}
 use Rattle.base.proofs.Choice.{cond-true, cond-false, between-low, between-high}
 use Rattle.base.specs.Choice.{between}
@@ -69,22 +70,22 @@ module _ (p : ℕ) (t : Turn) (ok : allowed p t ≡ true) where
       sym (cond-true (controllerMay p (t .action)) (leb (t .actor) p && workerMay p (t .actor) (t .action)) e) ∙ ok
 
 -- an action of a worker is below 12
-pub worker-bound : (p k d : ℕ) → p ≤ 8 → workerMay p k d ≡ true → d < 12
+pub worker-bound : (p k d : ℕ) → p ≤ maxWorkers → workerMay p k d ≡ true → d < pollAction
 worker-bound p k d few ok =
     ⊎-elim (λ r. omega (arith, r .0)) (λ b. omega (arith, between-high treatAction answerAction d b)) (worker-cases p k d ok)
 
 -- and of any actor below 13
-pub allowed-bounds : (p : ℕ) (t : Turn) → p ≤ 8 → allowed p t ≡ true → (t .actor < suc p) × (t .action < 13)
+pub allowed-bounds : (p : ℕ) (t : Turn) → p ≤ maxWorkers → allowed p t ≡ true → (t .actor < suc p) × (t .action < suc pollAction)
 allowed-bounds p t few ok = ⊎-elim controller worker (decided (eqb (t .actor) 0))
   where
-    controller : eqb (t .actor) 0 ≡ true → (t .actor < suc p) × (t .action < 13)
+    controller : eqb (t .actor) 0 ≡ true → (t .actor < suc p) × (t .action < suc pollAction)
     controller e = (
       omega (arith, eqb-true (t .actor) 0 e),
       ⊎-elim (λ r. omega (arith, r)) (λ q. omega (arith, eqb-true (t .action) pollAction q))
           (controller-cases p (t .action) (controller-does p t ok e)),
     )
 
-    worker : eqb (t .actor) 0 ≡ false → (t .actor < suc p) × (t .action < 13)
+    worker : eqb (t .actor) 0 ≡ false → (t .actor < suc p) × (t .action < suc pollAction)
     worker n =
         let w = worker-does p t ok n in
         (omega (arith, w .0), omega (arith, worker-bound p (t .actor) (t .action) few (w .1)))

@@ -6,6 +6,7 @@ use mathlib.Core.Logic.{_↔_}
 use mathlib.Core.Path.{_≡_, refl, _∙_, ap}
 use native.Mathlib.Nat.{mul-add, add-mul}
 use native.Mathlib.Omega.{arith}
+use Rattle.format.specs.Limits.{maxWorkers}
 use Rattle.base.proofs.Sums.{sum-zero}
 use Rattle.base.specs.Below.{one}
 use Rattle.disac4.proofs.Channels.{into, into-none}
@@ -19,7 +20,7 @@ use Rattle.disac4.specs.System.{System, turnBound, boundOf, Sound}
 use Rattle.disac4.specs.Turn.{Turn, step, after, play, changes, changesWhere}
 use Rattle.network.specs.Network.{domainSize}
 
-module _ (sys : System) (few : sys .workers ≤ 8) where
+module _ (sys : System) (few : sys .workers ≤ maxWorkers) where
   -- a turn that is not idle lowers the potential by 1 or more
   turn-bounded : (st : State) (t : Turn)
       → one (changes sys st t) + potential sys (after sys st t) ≤ potential sys st

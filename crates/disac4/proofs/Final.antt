@@ -4,6 +4,7 @@ use mathlib.Core.Bool.{true, not}
 use mathlib.Core.List.{List}
 use mathlib.Core.Option.{none}
 use mathlib.Core.Path.{_≡_}
+use Rattle.format.specs.Limits.{maxWorkers}
 use Rattle.base.proofs.Bools.{and-left}
 use Rattle.network.specs.Consistency.{Within}
 use Rattle.disac4.proofs.ByTreat.{by-treat}
@@ -33,7 +34,7 @@ move-shrinks {sys} {st} {s} {es} =
     (λ s new d c n x v h. rw d at h) s es
 
 -- a deleted label stays deleted
-pub domain-shrinks : (sys : System) → sys .workers ≤ 8 → (st : State) (ts : List Turn)
+pub domain-shrinks : (sys : System) → sys .workers ≤ maxWorkers → (st : State) (ts : List Turn)
     → Within (play sys st ts .domain) (st .domain)
 unfolding Within
 domain-shrinks sys few st ts =

@@ -9,6 +9,7 @@ use native.Mathlib.Decide.{ℕ-discrete}
 use native.Mathlib.Omega.{arith}
 use borrow.Author.Tests.{eq-eqb, ne-eqb}
 use lib.Dec.{eqb}
+use Rattle.format.specs.Limits.{maxWorkers}
 use Rattle.base.proofs.Below.{some-below, none-below, every-below}
 use Rattle.base.proofs.Bools.{decided, clash, and-left, and-right, and-intro, and-false, or-false, not-of-true}
 use Rattle.base.proofs.Choice.{cond-false}
@@ -37,7 +38,7 @@ use Rattle.disac4.specs.declared.Poll.{Poll}
 abbrev Stuck : System → State → Type 0
 Stuck sys st = (t : Turn) → allowed (sys .workers) t ≡ true → changes sys st t ≡ false
 
-module _ (sys : System) (st : State) (few : sys .workers ≤ 8) (running : st .controller .closed ≡ false)
+module _ (sys : System) (st : State) (few : sys .workers ≤ maxWorkers) (running : st .controller .closed ≡ false)
     (stuck : Stuck sys st) where
   -- an allowed turn is idle
   step-idle : (t : Turn) → allowed (sys .workers) t ≡ true
@@ -170,18 +171,18 @@ progress {sys} sound ts running = ⊎-elim found (λ e. clash (stuck-closed soun
     changing k d = allowed (sys .workers) (turn k d) && changes sys st (turn k d)
 
     any : Bool
-    any = anyBelow (suc (sys .workers)) (λ k. anyBelow 13 (changing k))
+    any = anyBelow (suc (sys .workers)) (λ k. anyBelow (suc pollAction) (changing k))
 
     found : any ≡ true → (t : Turn) × (allowed (sys .workers) t ≡ true) × (changes sys st t ≡ true)
     found e =
-        let k = some-below (suc (sys .workers)) (λ k. anyBelow 13 (changing k)) e in
-        let d = some-below 13 (changing (k .0)) (k .2) in
+        let k = some-below (suc (sys .workers)) (λ k. anyBelow (suc pollAction) (changing k)) e in
+        let d = some-below (suc pollAction) (changing (k .0)) (k .2) in
         let t = turn (k .0) (d .0) in
         (t, and-left (allowed (sys .workers) t) _ (d .2), and-right (allowed (sys .workers) t) _ (d .2))
 
     none-found : any ≡ false → Stuck sys st
     none-found e t ok =
         let b = allowed-bounds (sys .workers) t (sound .few) ok in
-        let row = none-below (suc (sys .workers)) (λ k. anyBelow 13 (changing k)) e (t .actor) (b .0) in
+        let row = none-below (suc (sys .workers)) (λ k. anyBelow (suc pollAction) (changing k)) e (t .actor) (b .0) in
         ⊎-elim (λ x. clash ok x) (λ x. x)
-        (and-false (allowed (sys .workers) t) (changes sys st t) (none-below 13 (changing (t .actor)) row (t .action) (b .1)))
+        (and-false (allowed (sys .workers) t) (changes sys st t) (none-below (suc pollAction) (changing (t .actor)) row (t .action) (b .1)))

@@ -8,6 +8,7 @@ use mathlib.Core.Path.{_≡_, refl, sym, _∙_, ap, subst}
 use native.Mathlib.Omega.{arith}
 use borrow.Author.Tests.{eqb-true, ne-eqb}
 use lib.Dec.{eqb}
+use Rattle.format.specs.Limits.{maxWorkers}
 use Rattle.base.proofs.Bools.{decided, or-false, or-false-right}
 use Rattle.base.proofs.Choice.{cond-true, cond-false, update₂-first, update₂-each}
 use Rattle.base.specs.Choice.{update₂}
@@ -123,7 +124,7 @@ module _ (sys : System) (st s : State) where
 
 -- after a turn `t` an idle turn `u` is idle still, unless both are of one actor and `u` is the same action or no read, or `t`
 -- sent a message and `u` reads from that actor
-pub idle-still : (sys : System) → sys .workers ≤ 8 → (st : State) (t u : Turn) (s : State)
+pub idle-still : (sys : System) → sys .workers ≤ maxWorkers → (st : State) (t u : Turn) (s : State)
     → (u .actor ≡ t .actor → (u .action ≡ t .action → ⊥) × (u .action < treatAction))
     → (treatAction < t .action → u .action ≡ t .actor → ⊥) → step sys st t ≡ some s → step sys st u ≡ none → step sys s u ≡ none
 unfolding step

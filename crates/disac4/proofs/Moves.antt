@@ -8,6 +8,7 @@ use mathlib.Core.Path.{_≡_, refl, sym, ap, subst}
 use native.Mathlib.Omega.{arith}
 use borrow.Author.Tests.{eqb-true, eqb-false, le-leb, lt-leb, not-false}
 use lib.Dec.{leb, eqb}
+use Rattle.format.specs.Limits.{maxWorkers}
 use Rattle.base.proofs.Bools.{or-false-left, or-false-right}
 use Rattle.base.proofs.Choice.{none≢some, by-test, if-some, unless-some, some-same}
 use Rattle.network.specs.Network.{Label}
@@ -116,7 +117,7 @@ module _ (sys : System) (st : State) where
       (cond (eqb d treatAction) (treatEvent k (st .workList k))
       (cond (leb d (sys .workers)) (readEvent k d (st .channel d k)) []))
 
-  module _ (few : sys .workers ≤ 8) where
+  module _ (few : sys .workers ≤ maxWorkers) where
     -- a worker that does none of the three other actions reads
     other-moves : (k d : ℕ) → Worker sys k → workerMay (sys .workers) k d ≡ true → eqb d treatAction ≡ false
         → eqb d sendAction ≡ false → eqb d answerAction ≡ false → (s : State) → readWorker d k st ≡ some s
@@ -213,7 +214,7 @@ pub data Effect (sys : System) (st : State) (t : Turn) : Type 0 where
       → (m : Moves sys st (after sys st t) (eventsAt sys st t)) → turnOf m ≡ t → Effect sys st t
 
 -- every turn is idle, or allowed and one of the moves of an open plan
-pub effect : (sys : System) (st : State) → sys .workers ≤ 8 → (t : Turn) → Effect sys st t
+pub effect : (sys : System) (st : State) → sys .workers ≤ maxWorkers → (t : Turn) → Effect sys st t
 effect sys st few t = go (step sys st t) refl
   where
     go : (o : Option State) → step sys st t ≡ o → Effect sys st t
@@ -224,7 +225,7 @@ effect sys st few t = go (step sys st t) refl
         acts (ap isSome e) (m .0) (m .1) (b .0) (b .1)
 
 -- what every case of `Moves` keeps holds after any list of turns, with their events
-pub kept : (sys : System) → sys .workers ≤ 8 → (I : State → List Event → Type 0)
+pub kept : (sys : System) → sys .workers ≤ maxWorkers → (I : State → List Event → Type 0)
     → ((st : State) (es : List Event) (s : State) (new : List Event) → st .controller .closed ≡ false → I st es
     → Moves sys st s new → I s (es ++ new))
     → (ts : List Turn) (st : State) → I st [] → I (play sys st ts) (events sys st ts)

@@ -18,7 +18,8 @@ use Rattle.faults.specs.Fault.{decline}
 use Rattle.format.specs.Format.{workerCount}
 use Rattle.faults.specs.declared.Decline.{Decline}
 use Rattle.faults.specs.declared.Fault.the-variants.{ShortWork, ShortLists, BadTurnList, BadTurn}
-use Rattle.disac4.specs.Outcome.{bufferChecks, bufferFault, inputFault, runOf, roundRun, workNeed, listNeed, LongEnough}
+use Rattle.disac4.specs.Outcome.{bufferChecks, bufferFault, inputFault, runOf, roundRun, LongEnough}
+use Rattle.disac4.specs.Need.{workNeed, listNeed}
 use Rattle.disac4.specs.Round.{roundRunTurns}
 use Rattle.disac4.specs.System.{systemAt}
 use Rattle.disac4.specs.Turn.{allowed, turnAt, turnListFits, turnFault, faultOf}

@@ -15,7 +15,8 @@ use Rattle.faults.specs.declared.Decline.{Decline}
 use Rattle.plan.proofs.WellFormed.{read-well-formed}
 use Rattle.plan.specs.Decode.{planFault}
 use Rattle.plan.specs.Network.{networkOf}
-use Rattle.disac4.specs.Outcome.{Gives, overwrite, refused, played, outcomeBy, runOf, bufferFault, workNeed, listNeed, LongEnough, Written}
+use Rattle.disac4.specs.Outcome.{Gives, overwrite, refused, played, outcomeBy, runOf, bufferFault, LongEnough, Written}
+use Rattle.disac4.specs.Need.{workNeed, listNeed}
 use Rattle.disac4.specs.Report.{listCells, final, reportOf}
 use Rattle.disac4.specs.State.{State}
 use Rattle.disac4.specs.System.{System, systemOf, systemAt}

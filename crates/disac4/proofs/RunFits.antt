@@ -1,10 +1,11 @@
 -- The numbers of an accepted plan's run: all of them are below 65,536.
-use Prim.Native.Nat.{ℕ, _*_, _≤_}
+use Prim.Native.Nat.{ℕ, suc, _+_, _*_, _≤_}
 use mathlib.Core.Bool.{true}
 use mathlib.Core.List.{List}
 use mathlib.Core.Path.{_≡_}
 use native.Mathlib.Nat.{mul-le-mul}
 use native.Mathlib.Omega.{arith}
+use Rattle.format.specs.Limits.{maxWorkers, maxVariables, maxLabels}
 use Rattle.network.specs.Network.{labelCount}
 use Rattle.plan.proofs.WellFormed.{well-formed, few-labels}
 use Rattle.plan.specs.Decode.{decode, accepted}
@@ -21,25 +22,29 @@ use Rattle.disac4.specs.Report.{lowestEmpty, isSend, isPoll, final}
 use Rattle.disac4.specs.System.{System, systemOf, turnBound, boundOf, Sound}
 use Rattle.disac4.specs.Turn.{Turn, play, changesWhere}
 
+-- the bound of turns that change something, for as many workers and labels as a plan may have
+abbrev pub maxTurns : ℕ
+maxTurns = 5 * maxWorkers * maxLabels + 2 * maxLabels + 3 * maxWorkers + 1
+
 -- the numbers of the report, the counts of lists, the timestamp and the queues, after a list of turns
 pub record RunFits (sys : System) (ts : List Turn) : Type 0 where
   pub turns : changesWhere sys (λ t. true) (load sys) ts ≤ boundOf sys
-  pub bound : boundOf sys ≤ 21529
-  pub sends : changesWhere sys isSend (load sys) ts ≤ 512
-  pub polls : changesWhere sys isPoll (load sys) ts ≤ 513
-  pub lowest-empty : lowestEmpty sys (final sys ts) ≤ 32
-  pub list-counters : (k : ℕ) → k ≤ sys .workers → final sys ts .listCounter k ≤ 512
-  pub timestamp : final sys ts .controller .timestamp ≤ 513
-  pub queues : QueueLengths sys (final sys ts) 512
+  pub bound : boundOf sys ≤ maxTurns
+  pub sends : changesWhere sys isSend (load sys) ts ≤ maxLabels
+  pub polls : changesWhere sys isPoll (load sys) ts ≤ suc maxLabels
+  pub lowest-empty : lowestEmpty sys (final sys ts) ≤ maxVariables
+  pub list-counters : (k : ℕ) → k ≤ sys .workers → final sys ts .listCounter k ≤ maxLabels
+  pub timestamp : final sys ts .controller .timestamp ≤ suc maxLabels
+  pub queues : QueueLengths sys (final sys ts) maxLabels
 
--- the bound of turns, for at most eight workers and 512 labels
-turn-bound : (p l : ℕ) → p ≤ 8 → l ≤ 512 → turnBound p l ≤ 21529
+-- the highest bound of turns, for as many workers and labels as a plan may have
+turn-bound : (p l : ℕ) → p ≤ maxWorkers → l ≤ maxLabels → turnBound p l ≤ maxTurns
 unfolding turnBound
 turn-bound p l few labels =
-    let five : 5 * p ≤ 40 = omega arith in
+    let five : 5 * p ≤ 5 * maxWorkers = omega arith in
     omega (arith, mul-le-mul five labels)
 
-fits-of : {sys : System} → Sound sys → sys .net .variables ≤ 32 → labelCount (sys .net) ≤ 512 → (ts : List Turn)
+fits-of : {sys : System} → Sound sys → sys .net .variables ≤ maxVariables → labelCount (sys .net) ≤ maxLabels → (ts : List Turn)
     → RunFits sys ts
 unfolding final boundOf
 fits-of {sys} sound few-variables labels ts = record {

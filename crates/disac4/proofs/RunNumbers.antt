@@ -8,6 +8,7 @@ use mathlib.Core.Path.{_≡_, refl, _∙_, ap}
 use native.Mathlib.Omega.{arith}
 use borrow.Author.Tests.{ne-eqb}
 use lib.Dec.{eqb}
+use Rattle.format.specs.Limits.{maxWorkers}
 use Rattle.base.proofs.Below.{first-below}
 use Rattle.base.proofs.Bools.{and-true, and-false-right}
 use Rattle.base.proofs.Choice.{unless-some, some-same}
@@ -85,7 +86,7 @@ list-counter-bound sound ts k b = omega (arith, lists-of-run sound ts k b)
 
 -- ---- polls
 
-module _ (sys : System) (few : sys .workers ≤ 8) where
+module _ (sys : System) (few : sys .workers ≤ maxWorkers) where
   -- a worker's turn is no poll
   of-worker : (k d : ℕ) → Worker sys k → one (isPoll (turn k d)) ≡ 0
   of-worker k d w = ap (λ (b : Bool). one (b && eqb d pollAction)) (ne-eqb k 0 (λ e. omega (arith, w .above)))

@@ -4,6 +4,7 @@ pub mod Demands
 pub mod Event
 pub mod Fold
 pub mod Loading
+pub mod Need
 pub mod Outcome
 pub mod Report
 pub mod Round

@@ -12,6 +12,7 @@ use Rattle.format.specs.Format.{workerCount}
 use Rattle.faults.specs.declared.Decline.{Decline}
 use Rattle.faults.specs.declared.Fault.the-variants.{ShortWork, ShortLists, BadTurnList}
 use Rattle.disac4.specs.Report.{listCells, final, reportOf}
+use Rattle.disac4.specs.Need.{workNeed, listNeed}
 use Rattle.disac4.specs.Round.{roundRunTurns}
 use Rattle.disac4.specs.System.{System, systemAt}
 use Rattle.disac4.specs.Turn.{Turn, turnsOf, turnListFits, turnFault}
@@ -30,14 +31,6 @@ pub record Gives (o : Outcome) (r : Answer) (work lists : List ℕ) : Type 0 whe
   pub answer : r ≡ o .answer
   pub work-cells : work ≡ o .work
   pub list-cells : lists ≡ o .lists
-
--- the work cells that a run needs
-unfoldable pub workNeed : ℕ
-workNeed = 24576
-
--- the list cells that a run needs
-unfoldable pub listNeed : ℕ
-listNeed = 32
 
 -- the first cells hold `new`, later ones keep what they had
 unfoldable pub overwrite : List ℕ → List ℕ → List ℕ

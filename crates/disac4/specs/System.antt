@@ -1,6 +1,7 @@
 -- A constraint network whose variables are spread over workers (kitchens).
 use Prim.Native.Nat.{ℕ, _+_, _*_, _<_, _≤_}
 use mathlib.Core.List.{List}
+use Rattle.format.specs.Limits.{maxWorkers}
 use Rattle.network.specs.Network.{Network, labelCount}
 use Rattle.plan.specs.Decode.{planOf}
 use Rattle.plan.specs.Network.{networkOf}
@@ -29,7 +30,7 @@ pub record Worker (sys : System) (k : ℕ) : Type 0 where
 
 -- one to eight workers, and every variable has its owner among them: so is each accepted plan's system
 pub record Sound (sys : System) : Type 0 where
-  pub few : sys .workers ≤ 8
+  pub few : sys .workers ≤ maxWorkers
   pub some-worker : 0 < sys .workers
   pub owned : (x : ℕ) → x < sys .net .variables → Worker sys (sys .owner x)
 

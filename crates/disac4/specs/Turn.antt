@@ -97,9 +97,13 @@ turnAt b i = turn (byteAt b (2 * i)) (byteAt b (2 * i + 1))
 unfoldable pub turnsOf : List ℕ → List Turn
 turnsOf b = listBelow (length b / 2) (turnAt b)
 
--- of even length and at most 65,536 bytes
+-- the bytes that a turn list may have
+abbrev pub maxTurnBytes : ℕ
+maxTurnBytes = 65536
+
+-- of even length and not too long
 unfoldable pub turnListFits : List ℕ → Bool
-turnListFits b = eqb (length b % 2) 0 && leb (length b) 65536
+turnListFits b = eqb (length b % 2) 0 && leb (length b) maxTurnBytes
 
 -- the fault of turn `i` alone
 abbrev pub faultOf : ℕ → List ℕ → ℕ → Option Decline

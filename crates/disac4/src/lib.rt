@@ -30,10 +30,13 @@ pub const ANSWER_ACTION: usize = 11;
 
 pub const POLL_ACTION: usize = 12;
 
-// As many cells as a run needs, of work and of lists.
-pub const WORK_CELLS: usize = 24576;
+// The bytes that a turn list may have.
+pub const MAX_TURN_BYTES: usize = 65536;
 
-pub const LIST_CELLS: usize = 32;
+// As many cells as a run needs, of work and of lists.
+pub const WORK_NEED: usize = 24576;
+
+pub const LIST_NEED: usize = 32;
 
 // A poll's number.
 pub struct Timestamp(pub u16);

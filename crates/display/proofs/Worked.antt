@@ -7,8 +7,9 @@ use mathlib.Core.Path.{_≡_}
 use native.Mathlib.Omega.{arith}
 use lib.ListN.{length-replicate}
 use Rattle.disac4.proofs.Order.{buffers-fit}
+use Rattle.disac4.specs.Need.{workNeed, listNeed}
 use Rattle.disac4.specs.Computes.{disac4-computes}
-use Rattle.disac4.specs.Outcome.{overwrite, played, bufferFault, inputFault, outcomeBy, runOf, turnRun, workNeed, listNeed}
+use Rattle.disac4.specs.Outcome.{overwrite, played, bufferFault, inputFault, outcomeBy, runOf, turnRun}
 use Rattle.disac4.specs.Turn.{turnsOf}
 use Rattle.disac4.specs.Worked.{planP, turnsT}
 use Rattle.domains.specs.Lines.{newline}

@@ -4,7 +4,8 @@ use mathlib.Core.Bool.{Bool, cond}
 use mathlib.Core.List.{List}
 use mathlib.Core.Path.{_≡_}
 use lib.ListN.{length, take, drop, replicate}
-use Rattle.disac4.specs.Outcome.{Outcome, turnRun, roundRun, workNeed, listNeed}
+use Rattle.disac4.specs.Outcome.{Outcome, turnRun, roundRun}
+use Rattle.disac4.specs.Need.{workNeed, listNeed}
 use Rattle.text.specs.Printed.{printed}
 
 -- the work cells of a run as the program lends them: as many as a run needs, each 0

@@ -1,7 +1,7 @@
 // The text of a whole run, from a plan and its turns to the bytes that the program prints.
 use disac4::Answer;
-use disac4::LIST_CELLS;
-use disac4::WORK_CELLS;
+use disac4::LIST_NEED;
+use disac4::WORK_NEED;
 ghost use Rattle.disac4.specs.Outcome.{Gives};
 ghost use Rattle.display.specs.Shown.{runBy, shown, Shows};
 
@@ -21,8 +21,8 @@ fn run(plan: &[u8], turns: &[u8], rounds: bool, work: &mut [u16], lists: &mut [u
 pub fn show(plan: &[u8], turns: &[u8], rounds: bool, out: &mut [u8; 4096]) -> usize
     ensures { λ r. ⌜ Shows (shown (now (plan .entry)) (now (turns .entry)) rounds) (now (out .entry)) (now (out .exit)) r ⌝ }
 {
-    let mut work = [0u16; WORK_CELLS];
-    let mut lists = [0u16; LIST_CELLS];
+    let mut work = [0u16; WORK_NEED];
+    let mut lists = [0u16; LIST_NEED];
     let answer = run(plan, turns, rounds, &mut work, &mut lists);
     text::print_answer(answer, plan, &lists, out)
 }

@@ -1,5 +1,5 @@
 -- A run that goes on can be played one turn further.
-use Prim.Native.Nat.{ℕ, _+_, _/_, _%_, _≤_}
+use Prim.Native.Nat.{ℕ, _+_, _≤_}
 use mathlib.Core.Bool.{Bool, true, false, cond, _&&_}
 use mathlib.Core.List.{List, [], _∷_}
 use mathlib.Core.Option.{none}
@@ -18,6 +18,7 @@ use Rattle.refinement.proofs.Underway.{going-inv, going-ready, at-next}
 use Rattle.rows.specs.Permits.{Loaded}
 use Rattle.refinement.specs.Inv.{LoadedNumber}
 use Rattle.cells.specs.Acts.{Acts}
+use Rattle.cells.specs.View.{labelOf}
 use Rattle.cells.specs.Layout.{WORKERS, HEAD}
 use Rattle.cells.specs.Memory.{memOf}
 use Rattle.refinement.specs.Run.{turnOn, Going, Plays, Playable}
@@ -27,14 +28,15 @@ use Rattle.disac4.specs.declared.Progress.{Progress}
 use Rattle.plan.proofs.Parts.{variables-read}
 use Rattle.plan.specs.Decode.{planFault}
 use Rattle.format.specs.Format.{workerCount}
+use Rattle.format.specs.Limits.{maxWorkers}
 use Rattle.plan.specs.Network.{networkOf}
 
 module _ (b cells : List ℕ) (g : Progress) (go : Going b cells g) where
-  few : workerCount b ≤ 8
+  few : workerCount b ≤ maxWorkers
   few = omega (arith, fits-regions b (go .sound) .sound .few, workers-are b)
 
   -- the number stands for a label of the plan
-  number-loaded : (c : ℕ) → LoadedNumber (systemAt b) c → Loaded b (c / 16) (c % 16)
+  number-loaded : (c : ℕ) → LoadedNumber (systemAt b) c → Loaded b (labelOf c .variable) (labelOf c .value)
   unfolding systemOf networkOf
   number-loaded c k = record { variable = omega (arith, k .variable, variables-read b); value = k .value }
 

@@ -26,6 +26,7 @@ use Rattle.refinement.specs.Step.{withMem, readM, workerM, stepM}
 use Rattle.treating.specs.Treat.{treatM}
 use Rattle.plan.specs.Decode.{planOf}
 use Rattle.format.specs.Format.{workerCount}
+use Rattle.format.specs.Limits.{maxWorkers}
 
 -- ---- a worker's action, by its number
 
@@ -95,7 +96,7 @@ module _ (sys : System) (actor action : ℕ) (s : Machine) where
 
 -- ---- what an allowed turn's numbers are
 
-module _ (p actor action : ℕ) (few : p ≤ 8) (ok : allowed p (turn actor action) ≡ true) where
+module _ (p actor action : ℕ) (few : p ≤ maxWorkers) (ok : allowed p (turn actor action) ≡ true) where
   -- a worker's turn
   pub worker-numbers : (actor ≡ 0 → ⊥) → (actor - 1 < p) × (action < pollAction)
   worker-numbers n =

@@ -16,7 +16,7 @@ use Rattle.cells.specs.Memory.{memOf}
 use Rattle.controller.specs.Controller.{machine}
 use Rattle.disac4.specs.Report.{isSend, isPoll}
 use Rattle.disac4.specs.System.{systemAt}
-use Rattle.disac4.specs.Turn.{Turn, turn, sendAction, pollAction, allowed}
+use Rattle.disac4.specs.Turn.{Turn, turn, sendAction, pollAction, allowed, treatAction}
 use Rattle.disac4.specs.declared.Tally.{Tally}
 use Rattle.engine.proofs.Advancing.{playable, advanced}
 use Rattle.engine.proofs.RunLaws.{workers-are, acts-beside, turn-closed, turn-works, worker-numbers}
@@ -131,7 +131,7 @@ module _ (b cells : List ℕ) (t : Tally) (k d : ℕ) (run : Running b cells t) 
         (can, omega (arith, w .0), w .1)
 
 -- a read sends nothing
-pub no-send : (j r : ℕ) → j < 9 → cond (eqb j sendAction) r 0 ≡ 0
+pub no-send : (j r : ℕ) → j < treatAction → cond (eqb j sendAction) r 0 ≡ 0
 no-send j r low = cond-false r 0 (ne-eqb j sendAction (omega arith))
 
 -- ---- a loop that plays the list `f i` in step `i`, for each `i` below `n`, each with at most one changing turn

@@ -12,19 +12,20 @@ ghost use mathlib.Core.Path.{_≡_};
 ghost use Prim.Native.Nat.{_<_, _≤_};
 ghost use lib.Dec.{eqb};
 ghost use lib.ListN.{length};
-ghost use Rattle.disac4.specs.Turn.{allowed, turn, sendAction, pollAction};
+ghost use Rattle.disac4.specs.Turn.{allowed, turn, sendAction, pollAction, treatAction};
+ghost use Rattle.disac4.specs.Need.{workNeed};
 ghost use Rattle.cells.specs.Acts.{Acts};
-ghost use Rattle.cells.specs.Layout.{WORKCELLS};
 ghost use Rattle.cells.specs.Memory.{memOf};
 ghost use Rattle.engine.specs.Play.{Running, Works};
 ghost use Rattle.refinement.specs.Run.{Playable, readOn, workerOn, turnOn, Going, Plays};
 ghost use Rattle.controller.specs.Controller.{machine};
 ghost use Rattle.format.specs.Format.{workerCount};
+ghost use Rattle.format.specs.Limits.{maxWorkers};
 ghost use Rattle.disac4.specs.System.{systemAt};
 
 // Row `i` reads from actor `d`: the next poll, or the next list message.
 fn read(cells: &mut [u16], t: Tally, i: usize, d: usize) -> usize
-    requires { ⌜ (WORKCELLS ≤ length (now cells)) × (i < 8) × (d < 9) ⌝ }
+    requires { ⌜ (workNeed ≤ length (now cells)) × (i < maxWorkers) × (d < treatAction) ⌝ }
     ensures { λ r. ⌜ Acts (readOn t i d) (memOf (now (cells .entry))) (memOf (now (cells .exit))) r ⌝ }
 {
     if d == 0 {
@@ -64,7 +65,7 @@ pub fn work_turn(b: &[u8], cells: &mut [u16], t: Tally, p: usize, k: usize, d: u
 
 // The same for a read alone, without the tests for other actions: most turns of a round are reads.
 pub fn read_turn(b: &[u8], cells: &mut [u16], t: Tally, p: usize, k: usize, j: usize) -> usize
-    requires { ⌜ Running (now b) (now cells) t × (p ≡ workerCount (now b)) × (0 < k) × (j < 9) × (allowed p (turn k j) ≡ true) ⌝ }
+    requires { ⌜ Running (now b) (now cells) t × (p ≡ workerCount (now b)) × (0 < k) × (j < treatAction) × (allowed p (turn k j) ≡ true) ⌝ }
     ensures { λ r. ⌜ Works (now (b .entry)) (turn k j ∷ []) (now (cells .entry)) t (now (cells .exit)) r 0 × (r ≤ 1) ⌝ }
 {
     if t.closed {

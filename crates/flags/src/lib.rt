@@ -1,4 +1,5 @@
 // A table with a flag for each turn: a cell for each actor and action, with 1 or 0.
+use format::limits::MAX_WORKERS;
 ghost use mathlib.Core.Path.{_≡_};
 ghost use Prim.Native.Nat.{_<_};
 ghost use lib.Dec.{eqb};
@@ -6,7 +7,7 @@ ghost use lib.ListN.{length};
 ghost use Rattle.flags.specs.Flags.{actors, actions, cellCount, cellAt};
 
 // The controller and at most eight workers.
-pub const ACTORS: usize = 9;
+pub const ACTORS: usize = 1 + MAX_WORKERS;
 // The actions have the numbers 0 to 12.
 pub const ACTIONS: usize = 13;
 // How many cells a table has.

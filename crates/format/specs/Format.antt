@@ -1,6 +1,7 @@
 -- Where the parts of a plan's bytes stand: "The plan as bytes". Reads are total; the checks say which of them mean something.
 use Prim.Native.Nat.{ℕ, zero, suc, _+_, _*_}
 use mathlib.Core.List.{List}
+use Rattle.format.specs.Limits.{rowBytes}
 use Rattle.base.specs.Bytes.{byteAt, wordAt}
 
 -- a section is a 16-bit length and then that many bytes: the place behind the section at `at`
@@ -54,11 +55,11 @@ abbrev pub kindAt : List ℕ → ℕ → ℕ
 kindAt b at = byteAt b (at + 2 + 2)
 
 abbrev pub tableRowAt : List ℕ → ℕ → ℕ → ℕ
-tableRowAt b at v = wordAt b (at + 5 + 2 * v)
+tableRowAt b at v = wordAt b (at + 5 + rowBytes * v)
 
--- a byte of such a row: half 0 is its high byte, and half 1 its low one
+-- a byte of such a row, the highest first
 abbrev pub tableByteAt : List ℕ → ℕ → ℕ → ℕ → ℕ
-tableByteAt b at v half = byteAt b (at + 5 + 2 * v + half)
+tableByteAt b at v part = byteAt b (at + 5 + rowBytes * v + part)
 
 abbrev pub limitAt : List ℕ → ℕ → ℕ
 limitAt b at = wordAt b (at + 5)

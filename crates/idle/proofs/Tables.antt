@@ -13,7 +13,7 @@ use Rattle.base.proofs.Below.{any-below, some-below}
 use Rattle.base.proofs.Bools.{bool-ext, and-intro, and-right, or-false}
 use Rattle.base.proofs.Choice.{pair-other, cond-true, cond-false}
 use Rattle.base.specs.Below.{anyBelow}
-use Rattle.disac4.specs.Turn.{turn}
+use Rattle.disac4.specs.Turn.{turn, treatAction, sendAction, answerAction, pollAction}
 use Rattle.flags.specs.Flags.{actors, actions, cellCount, cellAt}
 use Rattle.idle.specs.Table.{Puts, enables}
 
@@ -55,19 +55,19 @@ module _ {v : ℕ} {p q : ℕ → ℕ → Bool} {before after : List ℕ} where
 
 -- an actor's actions that are no reads, one by one
 pub own-actions : (c : Bool) (a : ℕ) → a < actions
-    → (((c && eqb a 9) || (c && eqb a 10)) || (c && eqb a 11)) || (c && eqb a 12) ≡ c && leb 9 a
+    → (((c && eqb a treatAction) || (c && eqb a sendAction)) || (c && eqb a answerAction)) || (c && eqb a pollAction) ≡ c && leb treatAction a
 own-actions false a h = refl
 own-actions true a h =
-    elim (ℕ-discrete a 9) [
+    elim (ℕ-discrete a treatAction) [
       | yes e ↦ rw e refl
-      | no n₁ ↦ elim (ℕ-discrete a 10) [
+      | no n₁ ↦ elim (ℕ-discrete a sendAction) [
         | yes e ↦ rw e refl
-        | no n₂ ↦ elim (ℕ-discrete a 11) [
+        | no n₂ ↦ elim (ℕ-discrete a answerAction) [
           | yes e ↦ rw e refl
-          | no n₃ ↦ elim (ℕ-discrete a 12) [
+          | no n₃ ↦ elim (ℕ-discrete a pollAction) [
             | yes e ↦ rw e refl
-            | no n₄ ↦ or-false (or-false (or-false (ne-eqb a 9 n₁) (ne-eqb a 10 n₂)) (ne-eqb a 11 n₃)) (ne-eqb a 12 n₄)
-                ∙ sym (lt-leb 9 a (omega arith))
+            | no n₄ ↦ or-false (or-false (or-false (ne-eqb a treatAction n₁) (ne-eqb a sendAction n₂)) (ne-eqb a answerAction n₃)) (ne-eqb a pollAction n₄)
+                ∙ sym (lt-leb treatAction a (omega arith))
           ]
         ]
       ]
@@ -84,16 +84,16 @@ all-reads k j a h =
 
 -- the same turn, and what its actor does but read
 abbrev own : ℕ → ℕ → ℕ → ℕ → Bool
-own k d j a = (eqb j k && eqb a d) || (eqb j k && leb 9 a)
+own k d j a = (eqb j k && eqb a d) || (eqb j k && leb treatAction a)
 
 module _ (k d : ℕ) {before after : List ℕ} where
-  pub forgets-reads : 9 < d → Puts 0 (λ j a. own k d j a || eqb a k) before after
+  pub forgets-reads : treatAction < d → Puts 0 (λ j a. own k d j a || eqb a k) before after
       → Puts 0 (λ j a. enables (turn k d) (turn j a)) before after
   unfolding enables
-  forgets-reads h = puts-as (λ j a l m. ap (λ (t : Bool). own k d j a || (t && eqb a k)) (sym (lt-ltb 9 d h)))
+  forgets-reads h = puts-as (λ j a l m. ap (λ (t : Bool). own k d j a || (t && eqb a k)) (sym (lt-ltb treatAction d h)))
 
-  pub forgets-own : d ≤ 9 → Puts 0 (own k d) before after → Puts 0 (λ j a. enables (turn k d) (turn j a)) before after
+  pub forgets-own : d ≤ treatAction → Puts 0 (own k d) before after → Puts 0 (λ j a. enables (turn k d) (turn j a)) before after
   unfolding enables
   forgets-own h =
       puts-as
-      (λ j a l m. or-comm false (own k d j a) ∙ ap (λ (t : Bool). own k d j a || (t && eqb a k)) (sym (le-ltb 9 d h)))
+      (λ j a l m. or-comm false (own k d j a) ∙ ap (λ (t : Bool). own k d j a || (t && eqb a k)) (sym (le-ltb treatAction d h)))

@@ -14,7 +14,7 @@ ghost use Prim.Native.Nat.{ℕ, _<_};
 ghost use lib.Dec.{leb, eqb};
 ghost use lib.ListN.{length};
 ghost use Rattle.base.specs.Below.{one};
-ghost use Rattle.disac4.specs.Turn.{turn};
+ghost use Rattle.disac4.specs.Turn.{turn, treatAction};
 ghost use Rattle.flags.specs.Flags.{actors, actions, cellCount, cellAt};
 ghost use Rattle.idle.specs.Table.{Puts, enables};
 
@@ -44,7 +44,7 @@ pub fn note(table: &mut Table, k: usize, d: usize, idle: bool)
 // Nothing is known any more of what actor k does but read.
 fn forget_own(table: &mut Table, k: usize)
     requires { ⌜ (length (now table) ≡ cellCount) × (k < actors) ⌝ }
-    ensures { λ _. ⌜ Puts 0 (λ j a. eqb j k && leb 9 a) (now (table .entry)) (now (table .exit)) ⌝ }
+    ensures { λ _. ⌜ Puts 0 (λ j a. eqb j k && leb treatAction a) (now (table .entry)) (now (table .exit)) ⌝ }
 {
     put(table, k, TREAT_ACTION, 0);
     put(table, k, SEND_ACTION, 0);

@@ -7,9 +7,11 @@ use mathlib.Core.Path.{_≡_, refl, sym, _∙_, ap}
 use native.Mathlib.Omega.{arith}
 use lib.ListN.{length}
 use Rattle.disac4.specs.System.{systemOf, systemAt}
+use Rattle.disac4.specs.Need.{workNeed}
 use Rattle.plan.proofs.Parts.{variables-read, variable-read, size-read}
 use Rattle.plan.specs.Decode.{planFault, planOf, variableAt}
 use Rattle.format.specs.Format.{sectionStart, variableCount, constraintCount, ownerAt}
+use Rattle.format.specs.Limits.{maxWorkers, maxVariables}
 use Rattle.plan.specs.Network.{shareConstraint, networkOf}
 use Rattle.plan.specs.Plan.{Variable, sizeOf}
 use Rattle.index.proofs.Nearest.{last-any}
@@ -19,8 +21,8 @@ use Rattle.index.proofs.Linked.{linked-chain, linked-inside}
 use Rattle.index.proofs.Places.{few-sections, few-values}
 use Rattle.rows.specs.Permits.{Loaded, over}
 use Rattle.index.specs.Index.{owns, ownLinked, Indexed, Located, Ready}
-use Rattle.cells.specs.Layout.{WORKCELLS}
 use Rattle.cells.specs.Memory.{Mem, memOf}
+use Rattle.cells.specs.Layout.{VALUEROOM}
 use Rattle.cells.specs.View.{Numbered}
 
 -- the system's sizes are those that the plan's bytes give
@@ -44,13 +46,13 @@ located b cells r = record { sound = r .sound; places = r .index .places; long =
 
 module _ (b : List ℕ) (sound : planFault b ≡ none) where
   -- a label is one of 32 variables and of 16 values
-  pub label-small : (x v : ℕ) → Loaded b x v → (x < 32) × (v < 16)
+  pub label-small : (x v : ℕ) → Loaded b x v → (x < maxVariables) × (v < VALUEROOM)
   label-small x v l =
       omega (arith, few-sections b sound, few-values b sound x (l .variable), size-read b x (l .variable))
 
   -- what is read at a variable's place
   pub owner-there : (x at r : ℕ) → x < variableCount b → at ≡ sectionStart b (suc x) → r ≡ ownerAt b at
-      → (r ≡ systemAt b .owner x) × (0 < r) × (r ≤ 8)
+      → (r ≡ systemAt b .owner x) × (0 < r) × (r ≤ maxWorkers)
   unfolding systemOf variableAt
   owner-there x at r h e q =
       let o : r ≡ systemAt b .owner x =
@@ -68,7 +70,7 @@ module _ (b : List ℕ) (sound : planFault b ≡ none) where
 
 -- so the row can be read
 pub linked-row : (b cells : List ℕ) → Ready b cells → (x y : ℕ) → shareConstraint (planOf b) x y ≡ true
-    → (WORKCELLS ≤ length cells) × (x < 32) × (y < 32) × Numbered (memOf cells) x y
+    → (workNeed ≤ length cells) × (x < maxVariables) × (y < maxVariables) × Numbered (memOf cells) x y
 linked-row b cells ready x y e =
     omega (
       arith,

@@ -20,6 +20,7 @@ use Rattle.plan.proofs.Parts.{variables-read, constraints-read, size-read}
 use Rattle.plan.proofs.WellFormed.{read-well-formed}
 use Rattle.plan.specs.Decode.{planFault, planOf}
 use Rattle.format.specs.Format.{variableCount, constraintCount}
+use Rattle.format.specs.Limits.{maxValues}
 use Rattle.plan.specs.Network.{ties, pairAllowed, shareConstraint, networkOf}
 use Rattle.plan.specs.Plan.{sizeOf, noConstraint, constraintOf}
 
@@ -50,7 +51,7 @@ supports-allowed b n x v y e =
 pub supports-counted : (b : List ℕ) → planFault b ≡ none → (x v y row r : ℕ) → y < variableCount b
     → row ≡ rowOf (sizeOf (planOf b) y) (supports (networkOf (planOf b)) x v y)
     → ((width : ℕ) → row < 2 ^ width → r ≡ rowCount width row)
-    → (r ≡ supportCount (networkOf (planOf b)) x v y) × (r ≤ 16)
+    → (r ≡ supportCount (networkOf (planOf b)) x v y) × (r ≤ maxValues)
 unfolding supportCount networkOf
 supports-counted b none-found x v y row r h e count =
     let n = sizeOf (planOf b) y in

@@ -14,6 +14,7 @@ use Rattle.base.proofs.Loops.{loop-carries, loop-same, loop-from}
 use Rattle.base.specs.Below.{anyBelow, loop}
 use Rattle.disac4.specs.System.{systemAt}
 use Rattle.format.specs.Format.{variableCount, constraintCount}
+use Rattle.format.specs.Limits.{maxWorkers}
 use Rattle.plan.specs.Decode.{planFault}
 use Rattle.index.proofs.Leads.{leads-same, leads-none, leads-first, leads-follow}
 use Rattle.index.proofs.Own.{next-here, next-past, next-none}
@@ -41,7 +42,7 @@ module _ (b : List ℕ) (sound : planFault b ≡ none) (m : Mem)
   abbrev row : ℕ → ℕ
   row x = systemAt b .owner x - 1
 
-  row-low : (x : ℕ) → x < variableCount b → row x < 8
+  row-low : (x : ℕ) → x < variableCount b → row x < maxWorkers
   row-low x h = omega (arith, owner-range b sound x h)
 
   -- the chains of the last `n` variables
@@ -53,7 +54,7 @@ module _ (b : List ℕ) (sound : planFault b ≡ none) (m : Mem)
       ap (λ (h : ℕ). eqb h 0) (own-below-keeps b m n HEADS x y (λ e. omega arith) (λ e. omega arith)) ∙ heads x y
 
   -- each chain begins with the first of them that its row owns and that is linked
-  chained-first : (n : ℕ) → n ≤ variableCount b → (i : ℕ) → i < 8 → (y : ℕ) → y < variableCount b
+  chained-first : (n : ℕ) → n ≤ variableCount b → (i : ℕ) → i < maxWorkers → (y : ℕ) → y < variableCount b
       → chained n FIRST i y ≡ nextOwn b i y n
   unfolding ownLinked
   chained-first n h i l y k =
@@ -86,12 +87,12 @@ module _ (b : List ℕ) (sound : planFault b ≡ none) (m : Mem)
           ]
 
   -- so it does when all are chained
-  pub own-first : (i : ℕ) → i < 8 → (y : ℕ) → y < variableCount b → ownM b m FIRST i y ≡ nextOwn b i y (variableCount b)
+  pub own-first : (i : ℕ) → i < maxWorkers → (y : ℕ) → y < variableCount b → ownM b m FIRST i y ≡ nextOwn b i y (variableCount b)
   unfolding ownM
   own-first = chained-first (variableCount b) (le-refl (variableCount b))
 
   -- and goes on with the next one
-  pub own-follow : (i : ℕ) → i < 8 → (x y : ℕ) → x < variableCount b → y < variableCount b → ownLinked b i y x ≡ true
+  pub own-follow : (i : ℕ) → i < maxWorkers → (x y : ℕ) → x < variableCount b → y < variableCount b → ownLinked b i y x ≡ true
       → ownM b m FOLLOW x y ≡ nextOwn b i y (variableCount b - suc x)
   unfolding ownM ownLinked
   own-follow i l x y h k p =

@@ -8,6 +8,7 @@ use borrow.Author.Tests.{eq-eqb, eqb-true}
 use native.Mathlib.Omega.{arith}
 use Rattle.disac4.specs.System.{systemOf, systemAt}
 use Rattle.format.specs.Format.{variableCount}
+use Rattle.format.specs.Limits.{maxWorkers}
 use Rattle.plan.proofs.Parts.{variables-read}
 use Rattle.plan.proofs.WellFormed.{read-well-formed}
 use Rattle.plan.specs.Decode.{planFault, planOf}
@@ -16,7 +17,7 @@ use Rattle.index.specs.Index.{owns}
 
 -- an owner is one of at most eight workers
 pub owner-range : (b : List ℕ) → planFault b ≡ none → (x : ℕ) → x < variableCount b
-    → (0 < systemAt b .owner x) × (systemAt b .owner x ≤ 8)
+    → (0 < systemAt b .owner x) × (systemAt b .owner x ≤ maxWorkers)
 unfolding systemOf
 owner-range b sound x h =
     let fits : WellFormed (planOf b) = read-well-formed b sound in

@@ -23,6 +23,7 @@ use Rattle.faults.specs.CheckList.{firstFault}
 use Rattle.plan.specs.Check.{headChecks, variableChecks, constraintChecks, constraintLength}
 use Rattle.plan.specs.Decode.{planFault, planOf}
 use Rattle.format.specs.Format.{sectionStart, variableCount, constraintCount, sectionCount, sizeAt, firstAt, kindAt, numberedSize}
+use Rattle.format.specs.Limits.{maxVariables, maxValues, maxConstraints, rowBytes}
 use Rattle.plan.specs.WellFormed.{WellFormed, VariableFits}
 use Rattle.cells.proofs.Done.{Done}
 use Rattle.cells.proofs.Stores.{store-same, store-other, store-apart}
@@ -30,14 +31,18 @@ use Rattle.index.specs.Index.{Located, placeM, placesM}
 use Rattle.cells.specs.Layout.{PLACES}
 use Rattle.cells.specs.Memory.{Mem, memOf}
 
+-- the length of the longest section: a variable with as many values as it may have
+abbrev maxSection : ℕ
+maxSection = 2 + 4 * maxValues
+
 module _ (b : List ℕ) (none-found : planFault b ≡ none) where
   fits : WellFormed (planOf b)
   fits = read-well-formed b none-found
 
-  pub few-sections : (variableCount b ≤ 32) × (constraintCount b ≤ 128)
+  pub few-sections : (variableCount b ≤ maxVariables) × (constraintCount b ≤ maxConstraints)
   few-sections = omega (arith, fits .variables-high, fits .constraints-high, variables-read b, constraints-read b)
 
-  pub few-values : (x : ℕ) → x < variableCount b → numberedSize b (suc x) ≤ 16
+  pub few-values : (x : ℕ) → x < variableCount b → numberedSize b (suc x) ≤ maxValues
   few-values x h =
       let fit : VariableFits (planOf b) x = fits .each-variable x (omega (arith, variables-read b)) in
       omega (arith, fit .few-values, size-read b x h)
@@ -48,27 +53,27 @@ module _ (b : List ℕ) (none-found : planFault b ≡ none) where
   start-inside zero h = omega (arith, section-complete b 0 (sound-section b none-found 0 (omega arith)))
   start-inside (suc k) h = section-complete b k (sound-section b none-found k h)
 
-  -- a constraint's section is no longer than a table of 16 rows
-  constraint-short : (at : ℕ) → InOrder b at → constraintLength b at ≤ 66
+  -- no constraint's section is longer
+  constraint-short : (at : ℕ) → InOrder b at → constraintLength b at ≤ maxSection
   unfolding constraintLength
   constraint-short at order =
       let size = numberedSize b (firstAt b at) in
       let e : suc (firstAt b at - 1) ≡ firstAt b at = omega arith in
-      let small : numberedSize b (suc (firstAt b at - 1)) ≤ 16 = few-values (firstAt b at - 1) (omega arith) in
-      ⊎-elim (λ p. omega (arith, cond-true (3 + 2 * size) 5 p, ap (numberedSize b) e))
-      (λ p. omega (arith, cond-false (3 + 2 * size) 5 p))
+      let small : numberedSize b (suc (firstAt b at - 1)) ≤ maxValues = few-values (firstAt b at - 1) (omega arith) in
+      ⊎-elim (λ p. omega (arith, cond-true (3 + rowBytes * size) 5 p, ap (numberedSize b) e))
+      (λ p. omega (arith, cond-false (3 + rowBytes * size) 5 p))
       (decided (eqb (kindAt b at) 0))
 
-  section-short : (k : ℕ) → k < sectionCount b → wordAt b (sectionStart b k) ≤ 66
+  section-short : (k : ℕ) → k < sectionCount b → wordAt b (sectionStart b k) ≤ maxSection
   unfolding headChecks variableChecks constraintChecks
   section-short k h =
       let at = sectionStart b k in
-      each-section (λ cs. firstFault cs ≡ none → wordAt b (sectionStart b k) ≤ 66) b k
+      each-section (λ cs. firstFault cs ≡ none → wordAt b (sectionStart b k) ≤ maxSection) b k
       (λ e. omega (arith, eqb-true (wordAt b at) 3 (each-holds (headChecks b at) e 1)))
       (λ e.
       omega (
         arith,
-        leb-true (sizeAt b at) 16 (each-holds (variableChecks b at) e 2),
+        leb-true (sizeAt b at) maxValues (each-holds (variableChecks b at) e 2),
         eqb-true (wordAt b at) (2 + 4 * sizeAt b at) (each-holds (variableChecks b at) e 3),
       ))
       (λ e.

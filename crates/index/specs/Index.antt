@@ -10,10 +10,12 @@ use lib.Dec.{eqb}
 use lib.ListN.{length}
 use Rattle.base.specs.Below.{anyBelow, loop}
 use Rattle.disac4.specs.System.{System, systemAt}
-use Rattle.cells.specs.Layout.{HEADS, PLACES, NEXT, FIRST, FOLLOW, WORKCELLS}
+use Rattle.disac4.specs.Need.{workNeed}
+use Rattle.cells.specs.Layout.{HEADS, PLACES, NEXT, FIRST, FOLLOW}
 use Rattle.cells.specs.Memory.{Mem, memOf, store}
 use Rattle.plan.specs.Decode.{planFault}
 use Rattle.format.specs.Format.{sectionStart, constraintStart, variableCount, constraintCount, sectionCount, firstAt, secondAt}
+use Rattle.format.specs.Limits.{maxWorkers, maxPairs}
 use Rattle.rows.specs.Permits.{over}
 
 -- one more than the last of `at 0`, `at 1`, .. before `at n` that passes the test, 0 for none
@@ -46,27 +48,27 @@ pub record Indexed (b : List ℕ) (m : Mem) : Type 0 where
   -- the one before it over the same two variables
   pub nexts : (c : ℕ) → c < constraintCount b → (x y : ℕ) → over b x y c ≡ true → m NEXT 0 c ≡ chainBelow b x y c
   -- the first variable of each row that is linked with another one
-  pub first : (i : ℕ) → i < 8 → (y : ℕ) → y < variableCount b → m FIRST i y ≡ nextOwn b i y (variableCount b)
+  pub first : (i : ℕ) → i < maxWorkers → (y : ℕ) → y < variableCount b → m FIRST i y ≡ nextOwn b i y (variableCount b)
   -- the next one behind it
-  pub follow : (i : ℕ) → i < 8 → (x y : ℕ) → x < variableCount b → y < variableCount b → ownLinked b i y x ≡ true
+  pub follow : (i : ℕ) → i < maxWorkers → (x y : ℕ) → x < variableCount b → y < variableCount b → ownLinked b i y x ≡ true
       → m FOLLOW x y ≡ nextOwn b i y (variableCount b - suc x)
 
 -- an accepted plan, with the places of its sections in the work cells
 pub record Located (b cells : List ℕ) : Type 0 where
   pub sound : planFault b ≡ none
   pub places : (k : ℕ) → k < sectionCount b → memOf cells PLACES 0 k ≡ sectionStart b k
-  pub long : WORKCELLS ≤ length cells
+  pub long : workNeed ≤ length cells
 
 -- an accepted plan, with its index in the work cells
 pub record Ready (b cells : List ℕ) : Type 0 where
   pub sound : planFault b ≡ none
   pub index : Indexed b (memOf cells)
-  pub long : WORKCELLS ≤ length cells
+  pub long : workNeed ≤ length cells
 
 -- the index gives each two linked variables a number of their own, from 1 to 128
 pub record Paired (sys : System) (m : Mem) : Type 0 where
   pub low : (x y : ℕ) → sys .net .linked x y ≡ true → 0 < m HEADS x y
-  pub high : (x y : ℕ) → sys .net .linked x y ≡ true → m HEADS x y ≤ 128
+  pub high : (x y : ℕ) → sys .net .linked x y ≡ true → m HEADS x y ≤ maxPairs
   pub own : (x y x′ y′ : ℕ) → sys .net .linked x y ≡ true → sys .net .linked x′ y′ ≡ true → m HEADS x y ≡ m HEADS x′ y′
       → ((x ≡ x′) × (y ≡ y′)) ⊎ ((x ≡ y′) × (y ≡ x′))
 

@@ -6,14 +6,16 @@ ghost use mathlib.Core.Path.{_≡_};
 ghost use Prim.Native.Nat.{ℕ, _<_, _≤_};
 ghost use lib.ListN.{length};
 ghost use Rattle.disac4.specs.System.{systemAt};
+ghost use Rattle.disac4.specs.Need.{workNeed};
 ghost use Rattle.plan.specs.Decode.{planOf};
 ghost use Rattle.format.specs.Format.{variableCount, sectionCount};
+ghost use Rattle.format.specs.Limits.{maxWorkers, maxVariables, maxValues};
 ghost use Rattle.plan.specs.Network.{shareConstraint};
 ghost use Rattle.plan.specs.Plan.{sizeOf};
 ghost use Rattle.index.specs.Index.{Indexed, Located, Ready};
 ghost use Rattle.rows.specs.Permits.{Placed};
-ghost use Rattle.cells.specs.Layout.{WORKCELLS};
 ghost use Rattle.cells.specs.Memory.{memOf};
+ghost use Rattle.cells.specs.Layout.{COUNTERMAX};
 ghost use Rattle.cells.specs.View.{Numbered, counterRow};
 
 // Where section k starts.
@@ -27,15 +29,15 @@ pub fn place(b: &[u8], cells: &[u16], k: usize) -> usize
 // The worker that owns variable x.
 pub fn owner(b: &[u8], cells: &[u16], x: usize) -> usize
     requires { ⌜ Located (now b) (now cells) × (x < variableCount (now b)) ⌝ }
-    ensures { λ r. ⌜ (r ≡ systemAt (now (b .entry)) .owner x) × (0 < r) × (r ≤ 8) ⌝ }
+    ensures { λ r. ⌜ (r ≡ systemAt (now (b .entry)) .owner x) × (0 < r) × (r ≤ maxWorkers) ⌝ }
 {
     read::owner(b, place(b, cells, x + 1))
 }
 
 // The row of the counters of x against y.
 pub fn counter_row(cells: &[u16], x: usize, y: usize) -> usize
-    requires { ⌜ (WORKCELLS ≤ length (now cells)) × (x < 32) × (y < 32) × Numbered (memOf (now cells)) x y ⌝ }
-    ensures { λ r. ⌜ (r ≡ counterRow (memOf (now (cells .entry))) x y) × (r ≤ 256) ⌝ }
+    requires { ⌜ (workNeed ≤ length (now cells)) × (x < maxVariables) × (y < maxVariables) × Numbered (memOf (now cells)) x y ⌝ }
+    ensures { λ r. ⌜ (r ≡ counterRow (memOf (now (cells .entry))) x y) × (r ≤ COUNTERMAX) ⌝ }
 {
     let head = layout::get(cells, layout::HEADS, x, y);
     if y < x { 2 * head } else { 2 * head - 1 }
@@ -43,7 +45,7 @@ pub fn counter_row(cells: &[u16], x: usize, y: usize) -> usize
 
 // Whether two variables share a constraint of the plan that the cells index.
 pub fn linked(cells: &[u16], x: usize, y: usize) -> bool
-    requires { ⌜ (x < 32) × (y < 32) × (WORKCELLS ≤ length (now cells)) ⌝ }
+    requires { ⌜ (x < maxVariables) × (y < maxVariables) × (workNeed ≤ length (now cells)) ⌝ }
     ensures { λ r. ⌜ ((b : List ℕ) → Indexed b (memOf (now (cells .entry))) → r ≡ shareConstraint (planOf b) x y) ⌝ }
 {
     layout::get(cells, layout::HEADS, x, y) != 0
@@ -52,7 +54,7 @@ pub fn linked(cells: &[u16], x: usize, y: usize) -> bool
 // How many values a variable has.
 pub fn size(b: &[u8], cells: &[u16], x: usize) -> usize
     requires { ⌜ Ready (now b) (now cells) × (x < variableCount (now b)) ⌝ }
-    ensures { λ r. ⌜ (r ≡ sizeOf (planOf (now (b .entry))) x) × (r ≤ 16) ⌝ }
+    ensures { λ r. ⌜ (r ≡ sizeOf (planOf (now (b .entry))) x) × (r ≤ maxValues) ⌝ }
 {
     read::size(b, place(b, cells, x + 1))
 }

@@ -8,15 +8,16 @@ ghost use mathlib.Core.Option.{none};
 ghost use mathlib.Core.Path.{_≡_};
 ghost use Prim.Native.Nat.{_<_, _≤_};
 ghost use lib.ListN.{length};
+ghost use Rattle.disac4.specs.Need.{workNeed};
+ghost use Rattle.format.specs.Limits.{maxWorkers, maxVariables, maxConstraints};
 ghost use Rattle.base.specs.Below.{loop};
 ghost use Rattle.index.specs.Index.{Located, placesM, linkM, chainsM, leadM, ownM, indexM};
-ghost use Rattle.cells.specs.Layout.{WORKCELLS};
 ghost use Rattle.cells.specs.Memory.{memOf};
 ghost use Rattle.plan.specs.Decode.{planFault};
 
 // Where each section starts.
 fn index_places(b: &[u8], cells: &mut [u16])
-    requires { ⌜ (planFault (now b) ≡ none) × (WORKCELLS ≤ length (now cells)) ⌝ }
+    requires { ⌜ (planFault (now b) ≡ none) × (workNeed ≤ length (now cells)) ⌝ }
     ensures { λ _. ⌜ memOf (now (cells .exit)) ≡ placesM (now (b .entry)) (memOf (now (cells .entry))) ⌝ }
 {
     let count = read::section_count(b);
@@ -31,7 +32,7 @@ fn index_places(b: &[u8], cells: &mut [u16])
 
 // Puts constraint c in front of the chain of x and y.
 fn link(cells: &mut [u16], x: usize, y: usize, c: usize)
-    requires { ⌜ (x < 32) × (y < 32) × (c < 128) × (WORKCELLS ≤ length (now cells)) ⌝ }
+    requires { ⌜ (x < maxVariables) × (y < maxVariables) × (c < maxConstraints) × (workNeed ≤ length (now cells)) ⌝ }
     ensures { λ _. ⌜ memOf (now (cells .exit)) ≡ linkM x y c (memOf (now (cells .entry))) ⌝ }
 {
     let head = layout::get(cells, layout::HEADS, x, y);
@@ -62,7 +63,7 @@ fn index_chains(b: &[u8], cells: &mut [u16])
 
 // Puts variable x in front of the chain of row i for y, if it is linked with y.
 fn lead(cells: &mut [u16], i: usize, x: usize, y: usize)
-    requires { ⌜ (i < 8) × (x < 32) × (y < 32) × (WORKCELLS ≤ length (now cells)) ⌝ }
+    requires { ⌜ (i < maxWorkers) × (x < maxVariables) × (y < maxVariables) × (workNeed ≤ length (now cells)) ⌝ }
     ensures { λ _. ⌜ memOf (now (cells .exit)) ≡ leadM i x y (memOf (now (cells .entry))) ⌝ }
 {
     if layout::get(cells, layout::HEADS, x, y) != 0 {
@@ -74,7 +75,7 @@ fn lead(cells: &mut [u16], i: usize, x: usize, y: usize)
 
 // The same for each of the first n variables.
 fn leads(cells: &mut [u16], i: usize, x: usize, n: usize)
-    requires { ⌜ (i < 8) × (x < 32) × (n ≤ 32) × (WORKCELLS ≤ length (now cells)) ⌝ }
+    requires { ⌜ (i < maxWorkers) × (x < maxVariables) × (n ≤ maxVariables) × (workNeed ≤ length (now cells)) ⌝ }
     ensures { λ _. ⌜ memOf (now (cells .exit)) ≡ loop n (leadM i x) (memOf (now (cells .entry))) ⌝ }
 {
     let mut y = 0;
@@ -99,7 +100,7 @@ fn index_own(b: &[u8], cells: &mut [u16])
 
 // Writes the index of an accepted plan. The chains grow from what the cells hold, so a run clears them first.
 pub fn index_plan(b: &[u8], cells: &mut [u16])
-    requires { ⌜ (planFault (now b) ≡ none) × (WORKCELLS ≤ length (now cells)) ⌝ }
+    requires { ⌜ (planFault (now b) ≡ none) × (workNeed ≤ length (now cells)) ⌝ }
     ensures { λ _. ⌜ memOf (now (cells .exit)) ≡ indexM (now (b .entry)) (memOf (now (cells .entry))) ⌝ }
 {
     index_places(b, cells);

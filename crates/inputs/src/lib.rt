@@ -3,10 +3,11 @@ use base::between;
 use base::byte_at;
 use base::one_if;
 use disac4::ANSWER_ACTION;
-use disac4::LIST_CELLS;
+use disac4::LIST_NEED;
+use disac4::MAX_TURN_BYTES;
 use disac4::POLL_ACTION;
 use disac4::TREAT_ACTION;
-use disac4::WORK_CELLS;
+use disac4::WORK_NEED;
 use faults::Fault;
 use faults::Verdict;
 use flags::ACTIONS;
@@ -27,10 +28,10 @@ ghost use Rattle.disac4.specs.Outcome.{bufferChecks};
 pub fn check_buffers(work: &[u16], lists: &[u16]) -> Verdict
     ensures { λ r. ⌜ r ≡ verdictOf (firstFault (bufferChecks (now (work .entry)) (now (lists .entry)))) ⌝ }
 {
-    if work.len() < WORK_CELLS {
+    if work.len() < WORK_NEED {
         return Verdict::Fails(Fault::ShortWork);
     }
-    if lists.len() < LIST_CELLS {
+    if lists.len() < LIST_NEED {
         return Verdict::Fails(Fault::ShortLists);
     }
     Verdict::Passes
@@ -41,7 +42,7 @@ pub fn list_fits(turns: &[u8]) -> bool
     ensures { λ r. ⌜ r ≡ turnListFits (now (turns .entry)) ⌝ }
 {
     let n = turns.len();
-    n % 2 == 0 && n <= 65536
+    n % 2 == 0 && n <= MAX_TURN_BYTES
 }
 
 // A worker reads from another actor, or treats, sends or answers. Here and below `&` and `|` make both tests, so that there is

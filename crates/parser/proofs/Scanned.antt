@@ -12,6 +12,7 @@ use lib.Seq.{getD-set-same, getD-set-other}
 use Rattle.base.proofs.Below.{below-cases, first-at, first-more}
 use Rattle.base.specs.Below.{firstBelow}
 use Rattle.format.specs.Format.{behind, sectionStart, variableCount, sectionCount, numberedSize}
+use Rattle.format.specs.Limits.{maxVariables, maxValues}
 use Rattle.faults.proofs.Checks.{each-holds}
 use Rattle.plan.proofs.Head.{head-fits}
 use Rattle.plan.proofs.Sections.{passed-before, start-within}
@@ -19,7 +20,7 @@ use Rattle.faults.specs.CheckList.{firstFault, faultAt, verdictOf}
 use Rattle.plan.specs.Check.{variableChecks, sectionChecks, sectionFault}
 use Rattle.plan.specs.Decode.{trailingFault, sectionsFault}
 use Rattle.faults.specs.Fault.{decline}
-use Rattle.sections.specs.Known.{VariablesKnown}
+use Rattle.sections.specs.Known.{VariablesKnown, startCount}
 use Rattle.parser.specs.Known.{PassedBefore}
 use Rattle.plan.specs.Answer.{checkOf}
 use Rattle.plan.specs.declared.Checked.the-variants.{Declined}
@@ -36,21 +37,21 @@ module _ (b starts : List ℕ) (k : ℕ) (known : PassedBefore b starts k) where
   passes : (i : ℕ) → i < k → firstFault (sectionChecks b i) ≡ none
   passes = passed-before b k (known .passed)
 
-  few-variables : 0 < k → variableCount b ≤ 32
+  few-variables : 0 < k → variableCount b ≤ maxVariables
   unfolding sectionChecks
   few-variables h = head-fits b (sectionStart b 0) (passes 0 h) .variables-high
 
-  few-values : (s : ℕ) → 1 ≤ s → s ≤ variableCount b → s < k → numberedSize b s ≤ 16
+  few-values : (s : ℕ) → 1 ≤ s → s ≤ variableCount b → s < k → numberedSize b s ≤ maxValues
   unfolding sectionChecks variableChecks
   few-values s l h p =
-      leb-true (numberedSize b s) 16
+      leb-true (numberedSize b s) maxValues
       (each-holds (variableChecks b (sectionStart b s))
       (rw (ne-eqb s 0 (omega arith), le-leb s (variableCount b) h) at (passes s p)) 2)
 
   -- behind the variables' sections, the variables are known
   pub variables-known : 0 < length b → variableCount b < k → VariablesKnown b starts
   variables-known h p =
-      let few : variableCount b ≤ 32 = few-variables (omega arith) in
+      let few : variableCount b ≤ maxVariables = few-variables (omega arith) in
       record {
         few = few;
         found = λ s l. known .found s (omega arith) (omega arith);
@@ -63,7 +64,7 @@ module _ (b starts : List ℕ) (k : ℕ) (known : PassedBefore b starts k) where
   next-within h = start-within b h k passes
 
   -- section k passes too
-  pub passed-more : (at : ℕ) → length starts ≡ 33 → at ≡ sectionStart b k → firstFault (sectionChecks b k) ≡ none
+  pub passed-more : (at : ℕ) → length starts ≡ startCount → at ≡ sectionStart b k → firstFault (sectionChecks b k) ≡ none
       → PassedBefore b (set starts k at) (k + 1)
   unfolding sectionFault
   passed-more at n e p = record {

@@ -4,11 +4,12 @@ use mathlib.Core.List.{List}
 use mathlib.Core.Option.{none}
 use mathlib.Core.Path.{_≡_}
 use lib.ListN.{getD}
+use Rattle.sections.specs.Known.{startCount}
 use Rattle.base.specs.Below.{firstBelow}
 use Rattle.format.specs.Format.{sectionStart}
 use Rattle.plan.specs.Check.{sectionFault}
 
--- the sections before section k have no fault; of the first 33, the head and the variables, `starts` has the places
+-- the sections before section k have no fault; `starts` has the places of the head and the variables
 pub record PassedBefore (b starts : List ℕ) (k : ℕ) : Type 0 where
   pub passed : firstBelow k (sectionFault b) ≡ none
-  pub found : (i : ℕ) → i < k → i < 33 → getD starts i 0 ≡ sectionStart b i
+  pub found : (i : ℕ) → i < k → i < startCount → getD starts i 0 ≡ sectionStart b i

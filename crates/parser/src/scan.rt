@@ -7,6 +7,8 @@ use plan::Counts;
 use plan::declined;
 use sections::constraint;
 use sections::section;
+use sections::section::STARTS;
+use sections::section::Starts;
 use sections::variable;
 ghost use mathlib.Core.Path.{_≡_};
 ghost use Prim.Native.Nat.{_≤_};
@@ -16,30 +18,30 @@ ghost use Rattle.network.specs.Network.{labelCount};
 ghost use Rattle.plan.specs.Check.{sectionChecks};
 ghost use Rattle.faults.specs.CheckList.{firstFault, verdictOf};
 ghost use Rattle.plan.specs.Decode.{planOf, planEnd, trailingFault, sectionsFault};
-ghost use Rattle.sections.specs.Known.{VariablesKnown};
+ghost use Rattle.sections.specs.Known.{VariablesKnown, startCount};
 ghost use Rattle.parser.specs.Known.{PassedBefore};
 ghost use Rattle.plan.specs.Network.{networkOf};
 ghost use Rattle.plan.specs.Answer.{checkOf};
 
 // Room for the places of the head and the variables.
-fn no_starts() -> [usize; 33]
-    ensures { λ r. ⌜ length r ≡ 33 ⌝ }
+fn no_starts() -> Starts
+    ensures { λ r. ⌜ length r ≡ startCount ⌝ }
 {
-    [0; 33]
+    [0; STARTS]
 }
 
 // The place of section k, kept for the head and the variables.
-fn keep_start(starts: &mut [usize; 33], k: usize, at: usize)
-    requires { ⌜ length (now starts) ≡ 33 ⌝ }
+fn keep_start(starts: &mut Starts, k: usize, at: usize)
+    requires { ⌜ length (now starts) ≡ startCount ⌝ }
     ensures { λ _. ⌜ now (starts .exit) ≡ set (now (starts .entry)) k at ⌝ }
 {
-    if k < 33 {
+    if k < STARTS {
         starts[k] = at;
     }
 }
 
 // The checks of section k: of the head, a variable or a constraint.
-fn check_section(b: &[u8], k: usize, at: usize, starts: &[usize; 33]) -> Verdict
+fn check_section(b: &[u8], k: usize, at: usize, starts: &Starts) -> Verdict
     requires { ⌜ PassedBefore (now b) (now starts) k × (at ≡ sectionStart (now b) k) × (at ≤ length (now b)) × (1 ≤ length (now b)) ⌝ }
     ensures { λ r. ⌜ r ≡ verdictOf (firstFault (sectionChecks (now (b .entry)) k)) ⌝ }
 {
@@ -53,7 +55,7 @@ fn check_section(b: &[u8], k: usize, at: usize, starts: &[usize; 33]) -> Verdict
 }
 
 // L: how many values the variables have together.
-fn count_labels(b: &[u8], starts: &[usize; 33]) -> usize
+fn count_labels(b: &[u8], starts: &Starts) -> usize
     requires { ⌜ VariablesKnown (now b) (now starts) ⌝ }
     ensures { λ r. ⌜ r ≡ labelCount (networkOf (planOf (now (b .entry)))) ⌝ }
 {
@@ -68,7 +70,7 @@ fn count_labels(b: &[u8], starts: &[usize; 33]) -> usize
 }
 
 // What is left to check behind the last section, which ends at `at`.
-fn check_end(b: &[u8], at: usize, starts: &[usize; 33]) -> Checked
+fn check_end(b: &[u8], at: usize, starts: &Starts) -> Checked
     requires { ⌜ VariablesKnown (now b) (now starts) × (at ≡ planEnd (now b)) ⌝ }
     ensures { λ r. ⌜ r ≡ checkOf (now (b .entry)) (trailingFault (now (b .entry))) ⌝ }
 {

@@ -6,18 +6,18 @@ use native.Mathlib.Nat.{add-comm}
 use borrow.Author.Tests.{ne-eqb}
 use lib.Dec.{leb}
 use Rattle.base.proofs.Bools.{and-false-left, and-false-right}
-use Rattle.plan.specs.Network.{unrecorded, withinLimit}
+use Rattle.plan.specs.Network.{unrecorded, withinLimit, UNRECORDED}
 
 -- under no limit is the figure 65,535 allowed with any figure
-pub unrecorded-forbids : (limit f : ℕ) → (withinLimit limit 65535 f ≡ false) × (withinLimit limit f 65535 ≡ false)
+pub unrecorded-forbids : (limit f : ℕ) → (withinLimit limit UNRECORDED f ≡ false) × (withinLimit limit f UNRECORDED ≡ false)
 unfolding withinLimit unrecorded
 unrecorded-forbids limit f =
-    (refl, and-false-left (leb (f + 65535) limit) (and-false-right (not (unrecorded f)) refl))
+    (refl, and-false-left (leb (f + UNRECORDED) limit) (and-false-right (not (unrecorded f)) refl))
 
 -- two other figures, zero among them, are allowed exactly if their sum is at most the limit
-pub recorded-judges : (limit f g : ℕ) → (f ≡ 65535 → ⊥) → (g ≡ 65535 → ⊥) → withinLimit limit f g ≡ leb (f + g) limit
+pub recorded-judges : (limit f g : ℕ) → (f ≡ UNRECORDED → ⊥) → (g ≡ UNRECORDED → ⊥) → withinLimit limit f g ≡ leb (f + g) limit
 unfolding withinLimit unrecorded
-recorded-judges limit f g p q = rw (ne-eqb f 65535 p, ne-eqb g 65535 q) refl
+recorded-judges limit f g p q = rw (ne-eqb f UNRECORDED p, ne-eqb g UNRECORDED q) refl
 
 -- a limit judges two figures in either order
 pub limit-turned : (limit f g : ℕ) → withinLimit limit f g ≡ withinLimit limit g f

@@ -13,6 +13,7 @@ use Rattle.base.proofs.Choice.{between-low, between-high}
 use Rattle.base.specs.Below.{anyBelow}
 use Rattle.base.specs.Choice.{between}
 use Rattle.format.specs.Format.{sectionStart, workerCount, variableCount, sizeAt, codeAt, numberedSize}
+use Rattle.format.specs.Limits.{maxValues}
 use Rattle.faults.proofs.Checks.{each-holds}
 use Rattle.plan.proofs.Parts.{variable-read, size-read, value-read}
 use Rattle.plan.proofs.Passed.{variable-passed}
@@ -35,9 +36,9 @@ module _ (b : List ℕ) (none-found : planFault b ≡ none) (x : ℕ) (h : x < v
   unfolding variableChecks variableAt
   owner-range = rw (variable-read b x h) (variable-holds 4)
 
-  size-range : sizeOf (planOf b) x ≤ 16
+  size-range : sizeOf (planOf b) x ≤ maxValues
   unfolding variableChecks
-  size-range = rw (size-read b x h) (leb-true (sizeAt b variable-start) 16 (variable-holds 2))
+  size-range = rw (size-read b x h) (leb-true (sizeAt b variable-start) maxValues (variable-holds 2))
 
   code-read : (v : ℕ) → v < numberedSize b (suc x) → valueOf (planOf b) x v .code ≡ codeAt b variable-start v
   code-read v k = ap (λ (a : Value). a .code) (value-read b x h v k)

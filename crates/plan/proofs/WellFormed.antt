@@ -7,6 +7,7 @@ use native.Mathlib.Omega.{arith}
 use lib.ListN.{length}
 use Rattle.base.proofs.Sums.{sum-le, sum-const}
 use Rattle.format.specs.Format.{sectionStart}
+use Rattle.format.specs.Limits.{maxValues, maxLabels}
 use Rattle.network.specs.Network.{labelCount}
 use Rattle.plan.proofs.Constraints.{constraint-fits}
 use Rattle.plan.proofs.Faults.{decode-plan}
@@ -39,12 +40,12 @@ pub well-formed : (b : List ℕ) (plan : Plan) → decode b ≡ accepted plan �
 well-formed b plan e = rw (decode-plan b plan e .1) (read-well-formed b (decode-plan b plan e .0))
 
 -- a well-formed plan has at most 512 labels
-pub few-labels : (plan : Plan) → WellFormed plan → labelCount (networkOf plan) ≤ 512
+pub few-labels : (plan : Plan) → WellFormed plan → labelCount (networkOf plan) ≤ maxLabels
 unfolding labelCount networkOf
 few-labels plan fits =
     omega (
       arith,
       fits .variables-high,
-      sum-const (length (plan .variables)) 16,
-      sum-le (length (plan .variables)) (networkOf plan .size) (λ x. 16) (λ x h. fits .each-variable x h .few-values),
+      sum-const (length (plan .variables)) maxValues,
+      sum-le (length (plan .variables)) (networkOf plan .size) (λ x. maxValues) (λ x h. fits .each-variable x h .few-values),
     )

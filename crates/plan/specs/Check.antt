@@ -9,6 +9,7 @@ use Rattle.base.specs.Below.{allBelow, anyBelow}
 use Rattle.base.specs.Bytes.{wordAt}
 use Rattle.base.specs.Choice.{between}
 use Rattle.format.specs.Format.{behind, sectionStart, workerCount, variableCount, constraintCount, ownerAt, sizeAt, codeAt, firstAt, secondAt, kindAt, tableRowAt, numberedSize}
+use Rattle.format.specs.Limits.{maxWorkers, maxVariables, maxValues, maxConstraints, rowBytes}
 use Rattle.faults.specs.CheckList.{Check, _orElse_, firstFault, faultAt}
 use Rattle.faults.specs.declared.Decline.{Decline}
 use Rattle.faults.specs.declared.Fault.the-variants.{Truncated, BadLength, BadCount, BadNumber, RepeatedCode, BadConstraint}
@@ -20,7 +21,7 @@ complete b at = leb (behind b at) (length b)
 -- p from 1 to 8, n from 1 to 32, at most 128 rules
 unfoldable pub headInRange : List ℕ → Bool
 headInRange b =
-    between 1 8 (workerCount b) && between 1 32 (variableCount b) && leb (constraintCount b) 128
+    between 1 maxWorkers (workerCount b) && between 1 maxVariables (variableCount b) && leb (constraintCount b) maxConstraints
 
 -- head: 1, 3, 4
 unfoldable pub headChecks : List ℕ → ℕ → List Check
@@ -36,7 +37,7 @@ unfoldable pub variableChecks : List ℕ → ℕ → List Check
 variableChecks b at =
     (complete b at orElse Truncated)
     ∷ (leb 2 (wordAt b at) orElse BadLength)
-    ∷ (leb (sizeAt b at) 16 orElse BadCount)
+    ∷ (leb (sizeAt b at) maxValues orElse BadCount)
     ∷ (eqb (wordAt b at) (2 + 4 * sizeAt b at) orElse BadLength)
     ∷ (between 1 (workerCount b) (ownerAt b at) orElse BadNumber)
     ∷ (not (repeatsCode b at) orElse RepeatedCode)
@@ -48,7 +49,7 @@ variablesInOrder b at = leb 1 (firstAt b at) && ltb (firstAt b at) (secondAt b a
 
 -- the length that a rule's content calls for
 unfoldable pub constraintLength : List ℕ → ℕ → ℕ
-constraintLength b at = cond (eqb (kindAt b at) 0) (3 + 2 * numberedSize b (firstAt b at)) 5
+constraintLength b at = cond (eqb (kindAt b at) 0) (3 + rowBytes * numberedSize b (firstAt b at)) 5
 
 -- no bit of a table stands at or past the second slot's count
 unfoldable pub tableFits : List ℕ → ℕ → Bool

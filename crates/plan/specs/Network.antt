@@ -8,9 +8,13 @@ use Rattle.base.specs.Row.{bit}
 use Rattle.network.specs.Network.{Network}
 use Rattle.plan.specs.Plan.{Plan, Relation, table, sumLimit, Constraint, valueOf, sizeOf}
 
--- the sodium figure that means "not recorded"; zero is a recorded figure
+-- the sodium figure that means "not recorded"
+abbrev pub UNRECORDED : ℕ
+UNRECORDED = 65535
+
+-- a figure is not recorded; zero is a recorded one
 unfoldable pub unrecorded : ℕ → Bool
-unrecorded figure = eqb figure 65535
+unrecorded figure = eqb figure UNRECORDED
 
 -- a sodium rule allows a pair exactly if both figures are recorded and their sum is within its limit
 unfoldable pub withinLimit : ℕ → ℕ → ℕ → Bool

@@ -3,13 +3,14 @@ use Prim.Native.Nat.{ℕ, suc, _^_, _<_, _≤_}
 use mathlib.Core.List.{List}
 use mathlib.Core.Path.{_≡_}
 use lib.ListN.{length, getD}
+use Rattle.format.specs.Limits.{maxWorkers, maxVariables, maxValues, maxConstraints}
 use Rattle.plan.specs.Plan.{Plan, Constraint, table, variableOf, valueOf, sizeOf, constraintOf}
 
 -- the variable at an index: its owner is a worker, its values are few and their codes differ
 pub record VariableFits (plan : Plan) (x : ℕ) : Type 0 where
   pub owner-low : 1 ≤ variableOf plan x .owner
   pub owner-high : variableOf plan x .owner ≤ plan .workers
-  pub few-values : sizeOf plan x ≤ 16
+  pub few-values : sizeOf plan x ≤ maxValues
   pub codes-differ : (u v : ℕ) → u < v → v < sizeOf plan x → valueOf plan x u .code ≡ valueOf plan x v .code → ⊥
 
 -- a constraint: its variables are two of the plan's, in order, and a table has a row for each value of the first, each
@@ -25,9 +26,9 @@ pub record ConstraintFits (plan : Plan) (c : Constraint) : Type 0 where
 -- p, n, the number of rules, and each slot and rule are as document 01 has them
 pub record WellFormed (plan : Plan) : Type 0 where
   pub workers-low : 1 ≤ plan .workers
-  pub workers-high : plan .workers ≤ 8
+  pub workers-high : plan .workers ≤ maxWorkers
   pub variables-low : 1 ≤ length (plan .variables)
-  pub variables-high : length (plan .variables) ≤ 32
-  pub constraints-high : length (plan .constraints) ≤ 128
+  pub variables-high : length (plan .variables) ≤ maxVariables
+  pub constraints-high : length (plan .constraints) ≤ maxConstraints
   pub each-variable : (x : ℕ) → x < length (plan .variables) → VariableFits plan x
   pub each-constraint : (c : ℕ) → c < length (plan .constraints) → ConstraintFits plan (constraintOf plan c)

@@ -11,10 +11,12 @@ ghost use mathlib.Core.Option.{none};
 ghost use mathlib.Core.Path.{_≡_};
 ghost use Prim.Native.Nat.{ℕ, _<_, _≤_};
 ghost use lib.ListN.{length};
+ghost use Rattle.format.specs.Limits.{maxWorkers};
 ghost use Rattle.answers.specs.Answers.{answerM};
-ghost use Rattle.cells.specs.Layout.{WORKCELLS};
 ghost use Rattle.cells.specs.Memory.{memOf};
 ghost use Rattle.disac4.specs.System.{System};
+ghost use Rattle.disac4.specs.Turn.{treatAction};
+ghost use Rattle.disac4.specs.Need.{workNeed};
 ghost use Rattle.flags.specs.Flags.{cellCount};
 ghost use Rattle.playing.specs.Known.{KnownIdle};
 ghost use Rattle.refinement.specs.Run.{readOn};
@@ -23,7 +25,7 @@ ghost use Rattle.treating.specs.Treat.{treatM};
 
 // Row i has nothing to treat.
 fn no_work(cells: &[u16], i: usize) -> bool
-    requires { ⌜ (WORKCELLS ≤ length (now cells)) × (i < 8) ⌝ }
+    requires { ⌜ (workNeed ≤ length (now cells)) × (i < maxWorkers) ⌝ }
     ensures { λ r. ⌜ ((sys : System) → r ≡ true → treatM sys i (memOf (now (cells .entry))) ≡ none) ⌝ }
 {
     let head = layout::get(cells, layout::WORKERS, i, layout::HEAD);
@@ -33,7 +35,7 @@ fn no_work(cells: &[u16], i: usize) -> bool
 
 // Row i has nothing to send.
 fn all_sent(cells: &[u16], i: usize) -> bool
-    requires { ⌜ (WORKCELLS ≤ length (now cells)) × (i < 8) ⌝ }
+    requires { ⌜ (workNeed ≤ length (now cells)) × (i < maxWorkers) ⌝ }
     ensures { λ r. ⌜ (r ≡ true → sendM i (memOf (now (cells .entry))) ≡ none) ⌝ }
 {
     let sends = layout::get(cells, layout::WORKERS, i, layout::SENDS);
@@ -47,7 +49,7 @@ fn all_sent(cells: &[u16], i: usize) -> bool
 
 // Row i has no poll to answer, or something to treat first.
 fn no_answer(cells: &[u16], i: usize) -> bool
-    requires { ⌜ (WORKCELLS ≤ length (now cells)) × (i < 8) ⌝ }
+    requires { ⌜ (workNeed ≤ length (now cells)) × (i < maxWorkers) ⌝ }
     ensures { λ r. ⌜ (r ≡ true → answerM i (memOf (now (cells .entry))) ≡ none) ⌝ }
 {
     let held = layout::get(cells, layout::WORKERS, i, layout::HELD);
@@ -58,7 +60,7 @@ fn no_answer(cells: &[u16], i: usize) -> bool
 
 // Row i has nothing to read from actor d.
 fn all_read(cells: &[u16], t: Tally, i: usize, d: usize) -> bool
-    requires { ⌜ (WORKCELLS ≤ length (now cells)) × (i < 8) × (d < 9) ⌝ }
+    requires { ⌜ (workNeed ≤ length (now cells)) × (i < maxWorkers) × (d < treatAction) ⌝ }
     ensures { λ r. ⌜ (r ≡ true → readOn t i d (memOf (now (cells .entry))) ≡ none) ⌝ }
 {
     if d == 0 {
@@ -73,7 +75,7 @@ fn all_read(cells: &[u16], t: Tally, i: usize, d: usize) -> bool
 
 // Notes which actions of worker k the cells show to be idle, after its action d.
 pub fn settle(cells: &[u16], t: Tally, table: &mut Table, k: usize, d: usize)
-    requires { ⌜ (WORKCELLS ≤ length (now cells)) × (length (now table) ≡ cellCount) × (0 < k) × (k ≤ 8) ⌝ }
+    requires { ⌜ (workNeed ≤ length (now cells)) × (length (now table) ≡ cellCount) × (0 < k) × (k ≤ maxWorkers) ⌝ }
     ensures { λ _. ⌜ ((b : List ℕ) → KnownIdle b (now (cells .entry)) t (now (table .entry)) → KnownIdle b (now (cells .entry)) t (now (table .exit))) ⌝ }
 {
     let i = k - 1;

@@ -16,15 +16,17 @@ use disac4::Timestamp;
 ghost use mathlib.Core.Path.{_≡_};
 ghost use Prim.Native.Nat.{_-_, _<_, _≤_};
 ghost use lib.ListN.{length};
+ghost use Rattle.disac4.specs.Need.{workNeed};
+ghost use Rattle.format.specs.Limits.{maxWorkers};
 ghost use Rattle.cells.specs.Acts.{Acts};
-ghost use Rattle.cells.specs.Layout.{WORKCELLS, LABELROOM, SENDROOM, LISTSMAX};
+ghost use Rattle.cells.specs.Layout.{LABELROOM, SENDROOM, LISTSMAX};
 ghost use Rattle.cells.specs.Queues.{copyM};
 ghost use Rattle.cells.specs.Memory.{memOf};
 ghost use Rattle.reads.specs.Reads.{readListM, takenWith, heldM, readPollM};
 
 // The labels between two places of row `j`'s log join the end of row `i`'s work list.
 fn copy_between(cells: &mut [u16], j: usize, i: usize, from: usize, to: usize)
-    requires { ⌜ (WORKCELLS ≤ length (now cells)) × (j < 8) × (i < 8) × (to ≤ LABELROOM) ⌝ }
+    requires { ⌜ (workNeed ≤ length (now cells)) × (j < maxWorkers) × (i < maxWorkers) × (to ≤ LABELROOM) ⌝ }
     ensures { λ r. ⌜ memOf (now (cells .exit)) ≡ copyM j i from (to - from) (memOf (now (cells .entry))) ⌝ }
 {
     if from <= to {
@@ -42,7 +44,7 @@ fn take_list(
     to: usize,
     lists: usize,
 )
-    requires { ⌜ (WORKCELLS ≤ length (now cells)) × (j < 8) × (i < 8) × (read < SENDROOM) × (to ≤ LABELROOM) × (lists < LISTSMAX) ⌝ }
+    requires { ⌜ (workNeed ≤ length (now cells)) × (j < maxWorkers) × (i < maxWorkers) × (read < SENDROOM) × (to ≤ LABELROOM) × (lists < LISTSMAX) ⌝ }
     ensures { λ r. ⌜ memOf (now (cells .exit)) ≡ takenWith j i read from to lists (memOf (now (cells .entry))) ⌝ }
 {
     copy_between(cells, j, i, from, to);
@@ -52,7 +54,7 @@ fn take_list(
 
 // Read: row `i` takes the next list message of row `j`.
 pub fn read_list(cells: &mut [u16], j: usize, i: usize) -> usize
-    requires { ⌜ (WORKCELLS ≤ length (now cells)) × (j < 8) × (i < 8) ⌝ }
+    requires { ⌜ (workNeed ≤ length (now cells)) × (j < maxWorkers) × (i < maxWorkers) ⌝ }
     ensures { λ r. ⌜ Acts (readListM j i) (memOf (now (cells .entry))) (memOf (now (cells .exit))) r ⌝ }
 {
     let read = get(cells, CURSORS, j, i);
@@ -78,7 +80,7 @@ pub fn read_list(cells: &mut [u16], j: usize, i: usize) -> usize
 
 // The poll of this number is the last that row `i` has read, and the one that it holds.
 fn hold(cells: &mut [u16], i: usize, number: Timestamp)
-    requires { ⌜ (WORKCELLS ≤ length (now cells)) × (i < 8) ⌝ }
+    requires { ⌜ (workNeed ≤ length (now cells)) × (i < maxWorkers) ⌝ }
     ensures { λ r. ⌜ memOf (now (cells .exit)) ≡ heldM i (number .0) (memOf (now (cells .entry))) ⌝ }
 {
     let n = number.0 as usize;
@@ -88,7 +90,7 @@ fn hold(cells: &mut [u16], i: usize, number: Timestamp)
 
 // Read: row `i` takes the next poll, up to the last that was sent, and holds it.
 pub fn read_poll(cells: &mut [u16], i: usize, last: Timestamp) -> usize
-    requires { ⌜ (WORKCELLS ≤ length (now cells)) × (i < 8) ⌝ }
+    requires { ⌜ (workNeed ≤ length (now cells)) × (i < maxWorkers) ⌝ }
     ensures { λ r. ⌜ Acts (readPollM i (last .0)) (memOf (now (cells .entry))) (memOf (now (cells .exit))) r ⌝ }
 {
     let n = last.0 as usize;

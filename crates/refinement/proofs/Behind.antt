@@ -11,20 +11,16 @@ use lib.Seq.{ext-getD, getD-drop}
 use Rattle.base.proofs.Bools.{and-left, and-right}
 use Rattle.base.proofs.Choice.{cond-true}
 use Rattle.disac4.proofs.Outcome.{overwrite-front, overwrite-back}
-use Rattle.disac4.specs.Outcome.{overwrite, workNeed}
+use Rattle.disac4.specs.Need.{workNeed}
+use Rattle.disac4.specs.Outcome.{overwrite}
 use Rattle.cells.proofs.Regions.{past-table, place-low}
-use Rattle.cells.specs.Layout.{BEHIND, WORKCELLS, regionAt, address}
+use Rattle.cells.specs.Layout.{BEHIND, regionAt, address}
 use Rattle.cells.specs.Memory.{clearedM, memOf}
 
--- the needed cells are as many as the layout has
-need : workNeed ≡ WORKCELLS
-unfolding workNeed
-need = refl
-
 -- a cell behind the needed ones
-mem-behind : (c : List ℕ) (j : ℕ) → j < 2 ^ 64 → memOf c BEHIND 0 j ≡ getD c (WORKCELLS + j) 0
-unfolding memOf
-mem-behind c j h = cond-true (getD c (WORKCELLS + j) 0) 0 (lt-ltb j (2 ^ 64) h)
+mem-behind : (c : List ℕ) (j : ℕ) → j < 2 ^ 64 → memOf c BEHIND 0 j ≡ getD c (workNeed + j) 0
+unfolding memOf workNeed
+mem-behind c j h = cond-true (getD c (workNeed + j) 0) 0 (lt-ltb j (2 ^ 64) h)
 
 -- two buffers of one length that agree behind the needed cells are equal once the needed cells are cleared
 pub behind-same : (c d : List ℕ) → length c ≡ length d → length c < 2 ^ 64
@@ -40,11 +36,9 @@ behind-same c d n few h =
     same j l =
         let b : j < 2 ^ 64 = omega (arith, length-drop workNeed c) in
         getD-drop workNeed c j 0
-        ∙ ap (λ (k : ℕ). getD c (k + j) 0) need
         ∙ sym (mem-behind c j b)
         ∙ h j
         ∙ mem-behind d j b
-        ∙ ap (λ (k : ℕ). getD d (k + j) 0) (sym need)
         ∙ sym (getD-drop workNeed d j 0)
 
 -- the memory of cells whose needed part was cleared
@@ -61,16 +55,15 @@ cleared-memory c = fun-ext λ r. fun-ext λ i. fun-ext λ j. at-place r i j
     low : (r i j : ℕ) → r < BEHIND → inside r i j ≡ true → getD new (address (regionAt r) i j) 0 ≡ 0
     low r i j h e =
         let b : address (regionAt r) i j < workNeed =
-        rw need
-        (place-low r i j h (ltb-true i (regionAt r .rows) (and-left (ltb i (regionAt r .rows)) (ltb j (regionAt r .cols)) e))
-        (ltb-true j (regionAt r .cols) (and-right (ltb i (regionAt r .rows)) (ltb j (regionAt r .cols)) e))) in
+        place-low r i j h (ltb-true i (regionAt r .rows) (and-left (ltb i (regionAt r .rows)) (ltb j (regionAt r .cols)) e))
+        (ltb-true j (regionAt r .cols) (and-right (ltb i (regionAt r .rows)) (ltb j (regionAt r .cols)) e)) in
         overwrite-front (replicate workNeed 0) c (address (regionAt r) i j) (omega (arith, length-replicate {A = ℕ} workNeed 0))
         ∙ getD-replicate workNeed (address (regionAt r) i j) 0 0 b
 
     high : (r i j : ℕ) → BEHIND ≤ r → getD new (address (regionAt r) i j) 0 ≡ getD c (address (regionAt r) i j) 0
     high r i j h =
         overwrite-back (replicate workNeed 0) c (address (regionAt r) i j)
-        (rw (past-table r h) (omega (arith, length-replicate {A = ℕ} workNeed 0, need)))
+        (rw (past-table r h) (omega (arith, length-replicate {A = ℕ} workNeed 0)))
 
     at-place : (r i j : ℕ) → memOf new r i j ≡ clearedM (memOf c) r i j
     at-place r i j = go (ltb r BEHIND) refl (inside r i j) refl

@@ -11,7 +11,7 @@ use Rattle.disac4.specs.System.{System}
 use Rattle.network.specs.Network.{Label, label}
 use Rattle.cells.proofs.Queue.{labels-same, labels-none, labels-last, labels-length, label-of-number}
 use Rattle.cells.proofs.Stores.{store-same, store-other, OffList, push-stores, push-other, copy-other}
-use Rattle.cells.specs.Layout.{WORKERS, LOG, WORK, DOMAIN, TAIL, LOGEND, LABELROOM}
+use Rattle.cells.specs.Layout.{WORKERS, LOG, WORK, DOMAIN, TAIL, LOGEND, LABELROOM, VALUEROOM}
 use Rattle.cells.specs.Queues.{pushM, deleteM, copyLabelM, copyM}
 use Rattle.cells.specs.Memory.{Mem, store}
 use Rattle.cells.specs.View.{labelNumber, labelOf, labelsBetween}
@@ -19,11 +19,11 @@ use Rattle.refinement.specs.Inv.{LoadedNumber}
 use Rattle.refinement.proofs.DeleteApart.{deleteIf}
 
 -- the number of a loaded label stands for it
-loaded-number : (sys : System) (x v : ℕ) → v < 16 → x < sys .net .variables → v < sys .net .size x
+loaded-number : (sys : System) (x v : ℕ) → v < VALUEROOM → x < sys .net .variables → v < sys .net .size x
     → LoadedNumber sys (labelNumber x v)
 loaded-number sys x v h k l =
-    let p : labelNumber x v / 16 ≡ x = omega arith in
-    let q : labelNumber x v % 16 ≡ v = omega arith in
+    let p : labelNumber x v / VALUEROOM ≡ x = omega arith in
+    let q : labelNumber x v % VALUEROOM ≡ v = omega arith in
     record { variable = omega arith; value = omega (arith, ap (sys .net .size) p) }
 
 -- ---- a row that has grown by the labels `l`; its end is kept in a column of the worker's row
@@ -158,7 +158,7 @@ module _ (sys : System) (i : ℕ) where
   }
 
   -- with room, a deleted label joins both
-  both-delete : (m : Mem) (x v : ℕ) → x < sys .net .variables → v < sys .net .size x → v < 16
+  both-delete : (m : Mem) (x v : ℕ) → x < sys .net .variables → v < sys .net .size x → v < VALUEROOM
       → m WORKERS i LOGEND < LABELROOM → m WORKERS i TAIL < LABELROOM → Both sys i m (deleteM i x v m) (label x v ∷ [])
   unfolding deleteM
   both-delete m x v h k l room room′ =
@@ -196,7 +196,7 @@ module _ (sys : System) (i : ℕ) where
       worked-other r b e = push-other WORK TAIL i c logged r i b e
 
   -- a label joins both if it is deleted
-  pub appends-if : (z : Bool) (m low : Mem) (x v : ℕ) → x < sys .net .variables → v < sys .net .size x → v < 16
+  pub appends-if : (z : Bool) (m low : Mem) (x v : ℕ) → x < sys .net .variables → v < sys .net .size x → v < VALUEROOM
       → Both sys i m low [] → Appends sys i m (deleteIf z i x v low) (cond z (label x v ∷ []) [])
   appends-if true m low x v h k l same room room′ =
       both-more m low (deleteM i x v low) [] (label x v ∷ []) same

@@ -1,5 +1,5 @@
 -- What holds of the memory in every run: the queues are in order, nothing overflows, and the counters lie apart.
-use Prim.Native.Nat.{ℕ, _+_, _-_, _/_, _%_, _^_, _<_, _≤_}
+use Prim.Native.Nat.{ℕ, _+_, _-_, _^_, _<_, _≤_}
 use mathlib.Core.Bool.{true, false}
 use mathlib.Core.Logic.{_⊎_}
 use mathlib.Core.Path.{_≡_}
@@ -8,16 +8,16 @@ use Rattle.base.specs.Below.{sumBelow, countBelow}
 use Rattle.disac4.specs.System.{System, Sound}
 use Rattle.disac4.specs.declared.Tally.{Tally}
 use Rattle.network.specs.Network.{loaded, labelCount, domainSize}
-use Rattle.cells.specs.Layout.{WORKERS, CURSORS, BOUNDS, LOG, WORK, OUT, WANTED, HEAD, TAIL, LOGEND, SENDS, LISTS, HELD, POLLS, OUTEND, OUTREAD, LABELROOM}
+use Rattle.cells.specs.Layout.{WORKERS, CURSORS, BOUNDS, LOG, WORK, OUT, WANTED, HEAD, TAIL, LOGEND, SENDS, LISTS, HELD, POLLS, OUTEND, OUTREAD, LABELROOM, VALUEROOM}
 use Rattle.cells.specs.Memory.{Mem}
 use Rattle.index.specs.Index.{Paired}
 use Rattle.controller.specs.Controller.{Machine}
-use Rattle.cells.specs.View.{LISTMARK, inDomain}
+use Rattle.cells.specs.View.{LISTMARK, inDomain, labelOf}
 
 -- the system fits the regions: so does each accepted plan's
 pub record Small (sys : System) : Type 0 where
   pub sound : Sound sys
-  pub few-values : (x : ℕ) → x < sys .net .variables → sys .net .size x ≤ 16
+  pub few-values : (x : ℕ) → x < sys .net .variables → sys .net .size x ≤ VALUEROOM
   pub few-labels : labelCount (sys .net) ≤ LABELROOM
   -- constraints join two different variables of the network
   pub links-inside : (x y : ℕ) → sys .net .linked x y ≡ true
@@ -27,8 +27,8 @@ pub record Small (sys : System) : Type 0 where
 
 -- the number stands for a loaded label
 pub record LoadedNumber (sys : System) (c : ℕ) : Type 0 where
-  pub variable : c / 16 < sys .net .variables
-  pub value : c % 16 < sys .net .size (c / 16)
+  pub variable : labelOf c .variable < sys .net .variables
+  pub value : labelOf c .value < sys .net .size (labelOf c .variable)
 
 -- its queues are in order, and hold what they stand for
 pub record Row (sys : System) (m : Mem) (t : Tally) (i : ℕ) : Type 0 where

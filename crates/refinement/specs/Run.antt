@@ -6,7 +6,8 @@ use mathlib.Core.Option.{Option, none}
 use mathlib.Core.Path.{_≡_}
 use lib.ListN.{length, replicate}
 use Rattle.disac4.specs.Fold.{playBy, countBy}
-use Rattle.disac4.specs.Outcome.{overwrite, workNeed}
+use Rattle.disac4.specs.Need.{workNeed}
+use Rattle.disac4.specs.Outcome.{overwrite}
 use Rattle.disac4.specs.Report.{final, isPoll, isSend, listCells, lowestEmpty, reportOf, statusOf}
 use Rattle.disac4.specs.State.{State}
 use Rattle.disac4.specs.System.{System, systemAt}
@@ -14,7 +15,6 @@ use Rattle.disac4.specs.Turn.{Turn, turn}
 use Rattle.disac4.specs.declared.Report.{Report}
 use Rattle.disac4.specs.declared.Tally.{Tally}
 use Rattle.index.specs.Index.{Ready, indexM}
-use Rattle.cells.specs.Layout.{WORKCELLS}
 use Rattle.cells.specs.Memory.{clearedM, Mem, memOf}
 use Rattle.loading.specs.Load.{loadM}
 use Rattle.controller.specs.Controller.{Machine, machine}
@@ -24,6 +24,7 @@ use Rattle.treating.specs.Treat.{HeadLoaded}
 use Rattle.disac4.specs.declared.Progress.{Progress}
 use Rattle.plan.specs.Decode.{planFault}
 use Rattle.format.specs.Format.{workerCount}
+use Rattle.format.specs.Limits.{maxWorkers}
 
 -- the state that a machine stands for
 abbrev pub viewOf : System → Machine → State
@@ -63,7 +64,7 @@ pub record At (b : List ℕ) (m : Mem) (ts : List Turn) (cells : List ℕ) (g : 
 pub record Playable (b cells : List ℕ) (t : Tally) : Type 0 where
   pub ready : Ready b cells
   pub marks : t .marks < 256
-  pub workers : workerCount b ≤ 8
+  pub workers : workerCount b ≤ maxWorkers
   pub labels : (i : ℕ) → i < workerCount b → HeadLoaded b (memOf cells) i
 
 -- the action `d` of row `i`, on a memory
@@ -81,7 +82,7 @@ turnOn sys actor action s = stepM sys s (turn actor action)
 -- some turns of an accepted plan have been played
 pub record Going (b cells : List ℕ) (g : Progress) : Type 0 where
   pub sound : planFault b ≡ none
-  pub long : WORKCELLS ≤ length cells
+  pub long : workNeed ≤ length cells
   pub before : Mem
   pub turns : List Turn
   pub at : At b before turns cells g

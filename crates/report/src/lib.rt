@@ -12,16 +12,17 @@ ghost use lib.Dec.{eqb};
 ghost use lib.ListN.{length};
 ghost use Rattle.base.specs.Row.{rowOf};
 ghost use Rattle.disac4.specs.Outcome.{overwrite};
+ghost use Rattle.disac4.specs.Need.{listNeed};
 ghost use Rattle.disac4.specs.Report.{lowestEmpty, listCells};
 ghost use Rattle.disac4.specs.System.{systemAt};
 ghost use Rattle.disac4.specs.declared.Tally.{Tally};
 ghost use Rattle.index.specs.Index.{Ready};
-ghost use Rattle.cells.specs.Layout.{LISTCELLS};
 ghost use Rattle.cells.specs.Memory.{memOf};
 ghost use Rattle.refinement.specs.Run.{reportM};
 ghost use Rattle.cells.specs.View.{inDomain, view};
 ghost use Rattle.plan.specs.Decode.{planOf};
 ghost use Rattle.format.specs.Format.{variableCount};
+ghost use Rattle.format.specs.Limits.{maxVariables};
 ghost use Rattle.plan.specs.Plan.{sizeOf};
 
 // The row of the values in a variable's domain.
@@ -35,7 +36,7 @@ fn domain_row(b: &[u8], cells: &[u16], x: usize) -> usize
 
 // Puts each variable's row into its list cell; the cells behind keep what they had.
 pub fn write_lists(b: &[u8], cells: &[u16], lists: &mut [u16])
-    requires { ⌜ Ready (now b) (now cells) × (LISTCELLS ≤ length (now lists)) ⌝ }
+    requires { ⌜ Ready (now b) (now cells) × (listNeed ≤ length (now lists)) ⌝ }
     ensures { λ _. ⌜ ((t : Tally) → now (lists .exit) ≡ overwrite (listCells (systemAt (now (b .entry))) (view (systemAt (now (b .entry))) (memOf (now (cells .entry))) t)) (now (lists .entry))) ⌝ }
 {
     let variables = read::variable_count(b);
@@ -49,7 +50,7 @@ pub fn write_lists(b: &[u8], cells: &[u16], lists: &mut [u16])
 // One more than the lowest variable whose domain is empty, 0 for none.
 fn lowest_empty(b: &[u8], cells: &[u16]) -> usize
     requires { ⌜ Ready (now b) (now cells) ⌝ }
-    ensures { λ r. ⌜ ((t : Tally) → r ≡ lowestEmpty (systemAt (now (b .entry))) (view (systemAt (now (b .entry))) (memOf (now (cells .entry))) t)) × (r ≤ 32) ⌝ }
+    ensures { λ r. ⌜ ((t : Tally) → r ≡ lowestEmpty (systemAt (now (b .entry))) (view (systemAt (now (b .entry))) (memOf (now (cells .entry))) t)) × (r ≤ maxVariables) ⌝ }
 {
     let variables = read::variable_count(b);
     let mut x = 0;

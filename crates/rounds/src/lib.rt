@@ -19,6 +19,7 @@ ghost use Rattle.rounds.specs.Rounds.{Begun};
 ghost use Rattle.engine.specs.Play.{Running, Works};
 ghost use Rattle.refinement.specs.Run.{Going, Plays};
 ghost use Rattle.format.specs.Format.{workerCount};
+ghost use Rattle.format.specs.Limits.{maxWorkers};
 
 // Worker k reads from actor j, unless that is itself: 1 where that changed something.
 fn read_other(b: &[u8], cells: &mut [u16], t: Tally, p: usize, k: usize, j: usize) -> usize
@@ -34,7 +35,7 @@ fn read_other(b: &[u8], cells: &mut [u16], t: Tally, p: usize, k: usize, j: usiz
 // Worker k reads from the controller, and then from every other worker: how many of these turns changed something.
 fn reads(b: &[u8], cells: &mut [u16], t: Tally, p: usize, k: usize) -> usize
     requires { ⌜ Running (now b) (now cells) t × (p ≡ workerCount (now b)) × (0 < k) × (k ≤ p) ⌝ }
-    ensures { λ r. ⌜ Works (now (b .entry)) (map (turn k) (others p k)) (now (cells .entry)) t (now (cells .exit)) r 0 × (r ≤ 9) ⌝ }
+    ensures { λ r. ⌜ Works (now (b .entry)) (map (turn k) (others p k)) (now (cells .entry)) t (now (cells .exit)) r 0 × (r ≤ suc maxWorkers) ⌝ }
 {
     let mut changes = 0;
     let mut j = 0;

@@ -15,28 +15,29 @@ use Rattle.base.proofs.Row.{bit-low, bit-high, row-bit}
 use Rattle.base.specs.Bytes.{byteAt, wordAt}
 use Rattle.base.specs.Row.{bit, rowOf}
 use Rattle.format.specs.Format.{variableCount, constraintCount, kindAt, tableRowAt, tableByteAt, limitAt, figureAt}
+use Rattle.format.specs.Limits.{maxValues, rowBytes}
 use Rattle.rows.proofs.Accepted.{acceptsAt, permits-table, permits-limit, permitted}
 use Rattle.rows.proofs.Ends.{over-turned}
 use Rattle.rows.specs.Permits.{permitsAt, permitsFrom, limited, inColumn, Loaded, over, Placed}
 use Rattle.plan.proofs.Limits.{unrecorded-forbids, recorded-judges, limit-turned}
 use Rattle.plan.specs.Decode.{planFault, planOf}
-use Rattle.plan.specs.Network.{withinLimit, spares, accepts}
+use Rattle.plan.specs.Network.{withinLimit, spares, accepts, UNRECORDED}
 use Rattle.plan.specs.Plan.{constraintOf}
 
 -- ---- the row of one constraint
 
 -- beside an unrecorded figure there is no room
-pub no-room : (limit f : ℕ) → f ≡ 65535 → (g : ℕ) → ltb g 0 ≡ withinLimit limit f g
+pub no-room : (limit f : ℕ) → f ≡ UNRECORDED → (g : ℕ) → ltb g 0 ≡ withinLimit limit f g
 no-room limit f e g = rw e (le-ltb g 0 (omega arith) ∙ sym (unrecorded-forbids limit g .0))
 
 -- beside a recorded figure, a room judges as the limit does if it is at most 65,535 and the other figures below it are
 -- those whose sum with that figure is within the limit
-pub room-judges : (limit f room : ℕ) → (f ≡ 65535 → ⊥) → room ≤ 65535
-    → ((g : ℕ) → (g ≡ 65535 → ⊥) → (g < room → f + g ≤ limit) × (f + g ≤ limit → g < room))
+pub room-judges : (limit f room : ℕ) → (f ≡ UNRECORDED → ⊥) → room ≤ UNRECORDED
+    → ((g : ℕ) → (g ≡ UNRECORDED → ⊥) → (g < room → f + g ≤ limit) × (f + g ≤ limit → g < room))
     → (g : ℕ) → ltb g room ≡ withinLimit limit f g
 room-judges limit f room recorded capped fits g =
-    elim (ℕ-discrete g 65535) [
-      | yes q ↦ rw q (le-ltb 65535 room capped ∙ sym (unrecorded-forbids limit f .1))
+    elim (ℕ-discrete g UNRECORDED) [
+      | yes q ↦ rw q (le-ltb UNRECORDED room capped ∙ sym (unrecorded-forbids limit f .1))
       | no d ↦
           bool-ext (ltb g room) (leb (f + g) limit)
           (λ t. le-leb (f + g) limit (fits g d .0 (ltb-true g room t)))
@@ -77,25 +78,25 @@ module _ (b : List ℕ) (at here v there : ℕ) where
 -- ---- a table's column, by one byte of each row
 
 -- values below 8 stand in the low byte, the others in the high one
-pub column-byte : (b : List ℕ) → ((i : ℕ) → byteAt b i < 256) → (at v : ℕ) → v < 16 → (w : ℕ)
-    → bit (tableByteAt b at w (1 - v / 8)) (v % 8) ≡ inColumn b at v w
+pub column-byte : (b : List ℕ) → ((i : ℕ) → byteAt b i < 256) → (at v : ℕ) → v < maxValues → (w : ℕ)
+    → bit (tableByteAt b at w (rowBytes - 1 - v / 8)) (v % 8) ≡ inColumn b at v w
 unfolding inColumn wordAt
 column-byte b bytes at v h w =
     ⊎-elim
     (λ l.
     let below : v < 8 = ltb-true v 8 l in
-    let e : 1 - v / 8 ≡ 1 = omega arith in
+    let e : rowBytes - 1 - v / 8 ≡ 1 = omega arith in
     let f : v % 8 ≡ v = omega arith in
     ap₂ (λ (half k : ℕ). bit (tableByteAt b at w half) k) e f
-    ∙ sym (bit-low 8 (byteAt b (at + 5 + 2 * w)) (byteAt b (at + 5 + 2 * w + 1)) v below))
+    ∙ sym (bit-low 8 (byteAt b (at + 5 + rowBytes * w)) (byteAt b (at + 5 + rowBytes * w + 1)) v below))
     (λ l.
     let past : 8 ≤ v = ltb-false v 8 l in
-    let e : at + 5 + 2 * w + (1 - v / 8) ≡ at + 5 + 2 * w = omega arith in
+    let e : at + 5 + rowBytes * w + (rowBytes - 1 - v / 8) ≡ at + 5 + rowBytes * w = omega arith in
     let f : v ≡ 8 + v % 8 = omega arith in
     ap (λ (i : ℕ). bit (byteAt b i) (v % 8)) e
     ∙ sym
     (ap (bit (tableRowAt b at w)) f
-    ∙ bit-high 8 (byteAt b (at + 5 + 2 * w)) (byteAt b (at + 5 + 2 * w + 1)) (v % 8) (bytes (at + 5 + 2 * w + 1))))
+    ∙ bit-high 8 (byteAt b (at + 5 + rowBytes * w)) (byteAt b (at + 5 + rowBytes * w + 1)) (v % 8) (bytes (at + 5 + rowBytes * w + 1))))
     (decided (ltb v 8))
 
 -- ---- a constraint of the chain, from either of its variables

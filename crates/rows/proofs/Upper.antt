@@ -5,6 +5,7 @@ use mathlib.Core.Path.{_≡_, _∙_}
 use native.Mathlib.Nat.{mul-le-mul-right}
 use native.Mathlib.Omega.{arith}
 use lib.Pow.{pow-pos}
+use Rattle.format.specs.Limits.{maxValues}
 use Rattle.base.proofs.Row.{row-doubled, row-low}
 use Rattle.base.specs.Below.{one}
 use Rattle.base.specs.Row.{rowOf}
@@ -22,7 +23,7 @@ module _ (t : ℕ → Bool) (values : ℕ) where
   upper-next row n u p e =
       rw e (record { low = omega (arith, u .low); whole = row-doubled n row t ∙ u .whole })
 
-  pub upper-small : (row n : ℕ) → values ≤ 16 → Upper t values row n → row < 65536
+  pub upper-small : (row n : ℕ) → values ≤ maxValues → Upper t values row n → row < 65536
   upper-small row n h u = omega (arith, u .whole, row-low values t h, mul-le-mul-right row (pow-pos n))
 
   pub upper-all : (row n : ℕ) → n ≡ 0 → Upper t values row n → row ≡ rowOf values t

@@ -2,11 +2,13 @@
 use base::row_holds;
 use base::row_if;
 use format::constraint;
+use format::limits::ROW_BYTES;
 use format::read;
 ghost use mathlib.Core.Path.{_≡_};
 ghost use Prim.Native.Nat.{ℕ, _<_, _≤_};
 ghost use lib.Dec.{ltb};
 ghost use lib.ListN.{length};
+ghost use Rattle.format.specs.Limits.{maxValues};
 ghost use Rattle.base.specs.Row.{bit, rowOf};
 ghost use Rattle.plan.specs.Network.{withinLimit};
 ghost use Rattle.rows.specs.Permits.{permitsFrom, limited, inColumn};
@@ -36,7 +38,7 @@ fn room_beside(limit: usize, f: usize) -> usize
 // The row of the values of the variable at `place` whose figures a limit permits with figure f; it has `values` of them.
 // From the last one down the row is doubled: that is quicker than to shift each bit to its place.
 fn limit_row(b: &[u8], limit: usize, f: usize, place: usize, values: usize) -> usize
-    requires { ⌜ (place ≤ length (now b)) × (values ≤ 16) × (limit < 65536) ⌝ }
+    requires { ⌜ (place ≤ length (now b)) × (values ≤ maxValues) × (limit < 65536) ⌝ }
     ensures { λ r. ⌜ r ≡ rowOf values (limited (now (b .entry)) limit f place) ⌝ }
 {
     let room = room_beside(limit, f);
@@ -52,16 +54,16 @@ fn limit_row(b: &[u8], limit: usize, f: usize, place: usize, values: usize) -> u
 // The row of the values of a table's first variable whose rows hold value v of the second; it has `values` of them.
 // It is doubled in the same way. Value v stands in one byte of each row, so the other is not read.
 fn table_column(b: &[u8], at: usize, v: usize, values: usize) -> usize
-    requires { ⌜ (at ≤ length (now b)) × (v < 16) × (values ≤ 16) ⌝ }
+    requires { ⌜ (at ≤ length (now b)) × (v < maxValues) × (values ≤ maxValues) ⌝ }
     ensures { λ r. ⌜ r ≡ rowOf values (inColumn (now (b .entry)) at v) ⌝ }
 {
-    let half = 1 - v / 8;
+    let part = ROW_BYTES - 1 - v / 8;
     let k = v % 8;
     let mut row = 0;
     let mut w = values;
     while w != 0 {
         w -= 1;
-        row = 2 * row + row_if(row_holds(constraint::table_byte(b, at, w, half), k), 0);
+        row = 2 * row + row_if(row_holds(constraint::table_byte(b, at, w, part), k), 0);
     }
     row
 }
@@ -77,7 +79,7 @@ pub fn constraint_row(
     there: usize,
     values: usize,
 ) -> usize
-    requires { ⌜ (at ≤ length (now b)) × (here ≤ length (now b)) × (there ≤ length (now b)) × (v < 16) × (values ≤ 16) ⌝ }
+    requires { ⌜ (at ≤ length (now b)) × (here ≤ length (now b)) × (there ≤ length (now b)) × (v < maxValues) × (values ≤ maxValues) ⌝ }
     ensures { λ r. ⌜ ((w : ℕ) → w < values → bit r w ≡ permitsFrom (now (b .entry)) at leads here v there w) ⌝ }
 {
     if constraint::kind(b, at) != 0 {

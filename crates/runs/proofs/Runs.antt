@@ -5,12 +5,12 @@ use mathlib.Core.Option.{none}
 use mathlib.Core.Path.{_≡_, refl, _∙_, ap}
 use lib.ListN.{length}
 use Rattle.disac4.specs.Outcome.{Gives, played}
+use Rattle.disac4.specs.Need.{workNeed}
 use Rattle.disac4.specs.System.{systemAt}
 use Rattle.disac4.specs.Turn.{Turn}
 use Rattle.disac4.specs.declared.Answer.the-variants.{Reported}
 use Rattle.disac4.specs.declared.Report.{Report}
 use Rattle.runs.proofs.Finishing.{work-of-turns}
-use Rattle.cells.specs.Layout.{WORKCELLS}
 use Rattle.cells.specs.Memory.{Mem, memOf}
 use Rattle.rounds.specs.Rounds.{Begun}
 use Rattle.refinement.specs.Run.{At, Plays, Finishes}
@@ -18,7 +18,7 @@ use Rattle.disac4.specs.declared.Progress.{Progress}
 use Rattle.plan.specs.Decode.{planFault}
 
 -- a plan is loaded: what the engine asks
-pub begun : (b : List ℕ) (m : Mem) (cells : List ℕ) (g : Progress) → planFault b ≡ none → WORKCELLS ≤ length cells → At b m [] cells g
+pub begun : (b : List ℕ) (m : Mem) (cells : List ℕ) (g : Progress) → planFault b ≡ none → workNeed ≤ length cells → At b m [] cells g
     → Begun b cells g
 begun b m cells g sound long at = record {
   going = record { sound = sound; long = long; before = m; turns = []; at = at };

@@ -4,12 +4,12 @@ use mathlib.Core.List.{List, []}
 use mathlib.Core.Option.{none}
 use mathlib.Core.Path.{_≡_, refl, sym, _∙_, ap, subst}
 use lib.ListN.{length, replicate}
-use Rattle.cells.specs.Layout.{WORKCELLS}
 use Rattle.cells.specs.Memory.{Mem, memOf, clearedM}
 use Rattle.controller.proofs.ControllerLaws.{stands}
 use Rattle.controller.specs.Controller.{machine}
 use Rattle.disac4.specs.Fold.{playBy, gatherBy, countBy}
-use Rattle.disac4.specs.Outcome.{overwrite, workNeed}
+use Rattle.disac4.specs.Need.{workNeed}
+use Rattle.disac4.specs.Outcome.{overwrite}
 use Rattle.disac4.specs.System.{systemAt}
 use Rattle.disac4.specs.declared.Tally.{Tally}
 use Rattle.index.proofs.Chains.{indexed}
@@ -25,7 +25,7 @@ module _ (b c₀ c₁ c₂ : List ℕ) (sound : planFault b ≡ none) (cleared :
   ground = made ∙ ap (indexM b) (ap memOf cleared ∙ cleared-memory c₀)
 
   -- cleared and indexed cells are ready to load the plan
-  pub start-ready : WORKCELLS ≤ length c₂ → Ready b c₂
+  pub start-ready : workNeed ≤ length c₂ → Ready b c₂
   unfolding clearedM
   start-ready long = record {
     sound = sound;

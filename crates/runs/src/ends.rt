@@ -11,7 +11,7 @@ ghost use mathlib.Core.Option.{none};
 ghost use mathlib.Core.Path.{_≡_};
 ghost use Prim.Native.Nat.{_≤_};
 ghost use lib.ListN.{length};
-ghost use Rattle.cells.specs.Layout.{WORKCELLS, LISTCELLS};
+ghost use Rattle.disac4.specs.Need.{workNeed, listNeed};
 ghost use Rattle.cells.specs.Memory.{memOf};
 ghost use Rattle.controller.specs.Controller.{machine};
 ghost use Rattle.plan.specs.Decode.{planFault};
@@ -32,7 +32,7 @@ fn fresh() -> Tally
 
 // Loads an accepted plan, whatever the cells held.
 fn start(b: &[u8], cells: &mut [u16]) -> Tally
-    requires { ⌜ (planFault (now b) ≡ none) × (WORKCELLS ≤ length (now cells)) ⌝ }
+    requires { ⌜ (planFault (now b) ≡ none) × (workNeed ≤ length (now cells)) ⌝ }
     ensures { λ r. ⌜ machine (now (cells .exit)) r ≡ startM (now (b .entry)) (memOf (now (cells .entry))) ⌝ }
 {
     clear::clear(cells);
@@ -43,7 +43,7 @@ fn start(b: &[u8], cells: &mut [u16]) -> Tally
 
 // Loads an accepted plan: a run that has played no turns.
 pub fn load(plan: &[u8], work: &mut [u16]) -> Progress
-    requires { ⌜ (planFault (now plan) ≡ none) × (WORKCELLS ≤ length (now work)) ⌝ }
+    requires { ⌜ (planFault (now plan) ≡ none) × (workNeed ≤ length (now work)) ⌝ }
     ensures { λ r. ⌜ At (now (plan .entry)) (memOf (now (work .entry))) [] (now (work .exit)) r ⌝ }
 {
     let t = start(plan, work);
@@ -57,7 +57,7 @@ pub fn load(plan: &[u8], work: &mut [u16]) -> Progress
 
 // Ends a run that has played its turns.
 pub fn finish(b: &[u8], cells: &mut [u16], lists: &mut [u16], g: Progress) -> Report
-    requires { ⌜ Going (now b) (now cells) g × (LISTCELLS ≤ length (now lists)) ⌝ }
+    requires { ⌜ Going (now b) (now cells) g × (listNeed ≤ length (now lists)) ⌝ }
     ensures { λ r. ⌜ Finishes (now (b .entry)) (now (cells .entry)) (now (lists .entry)) g (now (cells .exit)) (now (lists .exit)) r ⌝ }
 {
     report::write_lists(b, cells, lists);

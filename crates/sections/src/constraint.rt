@@ -1,10 +1,12 @@
 // The checks of a constraint's section (document 01: a rule).
 use crate::section;
+use crate::section::Starts;
 use crate::variable::numbered_size;
 use base::power;
 use faults::Fault;
 use faults::Verdict;
 use format::constraint;
+use format::limits::ROW_BYTES;
 use format::read;
 use reader::word_at;
 ghost use mathlib.Core.Path.{_≡_};
@@ -14,6 +16,7 @@ ghost use lib.Dec.{ltb};
 ghost use lib.ListN.{length};
 ghost use Rattle.base.specs.Below.{allBelow};
 ghost use Rattle.format.specs.Format.{tableRowAt};
+ghost use Rattle.format.specs.Limits.{maxValues};
 ghost use Rattle.plan.specs.Check.{variablesInOrder, constraintLength, tableFits, constraintChecks};
 ghost use Rattle.faults.specs.CheckList.{firstFault, verdictOf};
 ghost use Rattle.sections.specs.Known.{VariablesKnown};
@@ -35,12 +38,12 @@ fn variables_in_order(b: &[u8], at: usize) -> bool
 }
 
 // The length that the constraint's content calls for.
-fn constraint_length(b: &[u8], at: usize, starts: &[usize; 33]) -> usize
+fn constraint_length(b: &[u8], at: usize, starts: &Starts) -> usize
     requires { ⌜ VariablesKnown (now b) (now starts) × (at ≤ length (now b)) × (variablesInOrder (now b) at ≡ true) ⌝ }
     ensures { λ r. ⌜ r ≡ constraintLength (now (b .entry)) at ⌝ }
 {
     if constraint::kind(b, at) == 0 {
-        3 + 2 * numbered_size(b, starts, constraint::first(b, at))
+        3 + ROW_BYTES * numbered_size(b, starts, constraint::first(b, at))
     } else {
         5
     }
@@ -48,7 +51,7 @@ fn constraint_length(b: &[u8], at: usize, starts: &[usize; 33]) -> usize
 
 // No row of a table holds a value from `width` on.
 fn rows_fit(b: &[u8], at: usize, rows: usize, width: usize) -> bool
-    requires { ⌜ (at ≤ length (now b)) × (rows ≤ 16) × (width ≤ 16) ⌝ }
+    requires { ⌜ (at ≤ length (now b)) × (rows ≤ maxValues) × (width ≤ maxValues) ⌝ }
     ensures { λ r. ⌜ r ≡ allBelow rows (λ v. ltb (tableRowAt (now (b .entry)) at v) (2 ^ width)) ⌝ }
 {
     let limit = power(width);
@@ -63,7 +66,7 @@ fn rows_fit(b: &[u8], at: usize, rows: usize, width: usize) -> bool
 }
 
 // No bit of a table stands at or past the second variable's count.
-fn table_fits(b: &[u8], at: usize, starts: &[usize; 33]) -> bool
+fn table_fits(b: &[u8], at: usize, starts: &Starts) -> bool
     requires { ⌜ VariablesKnown (now b) (now starts) × (at ≤ length (now b)) × (variablesInOrder (now b) at ≡ true) ⌝ }
     ensures { λ r. ⌜ r ≡ tableFits (now (b .entry)) at ⌝ }
 {
@@ -76,7 +79,7 @@ fn table_fits(b: &[u8], at: usize, starts: &[usize; 33]) -> bool
 }
 
 // A constraint's section: 1, 3 (length under 3), 7 (kind), 5, 3, 7 (bits).
-pub fn check_constraint(b: &[u8], at: usize, starts: &[usize; 33]) -> Verdict
+pub fn check_constraint(b: &[u8], at: usize, starts: &Starts) -> Verdict
     requires { ⌜ VariablesKnown (now b) (now starts) × (at ≤ length (now b)) ⌝ }
     ensures { λ r. ⌜ r ≡ verdictOf (firstFault (constraintChecks (now (b .entry)) at)) ⌝ }
 {

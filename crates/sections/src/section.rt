@@ -2,6 +2,9 @@
 use base::between;
 use faults::Fault;
 use faults::Verdict;
+use format::limits::MAX_CONSTRAINTS;
+use format::limits::MAX_VARIABLES;
+use format::limits::MAX_WORKERS;
 use format::read;
 use reader::word_at;
 ghost use mathlib.Core.Path.{_≡_};
@@ -9,6 +12,12 @@ ghost use Prim.Native.Nat.{_≤_};
 ghost use lib.ListN.{length};
 ghost use Rattle.plan.specs.Check.{complete as completeOf, headInRange, headChecks};
 ghost use Rattle.faults.specs.CheckList.{firstFault, verdictOf};
+
+// As many places as there are of the head and of the variables.
+pub const STARTS: usize = 1 + MAX_VARIABLES;
+
+// Where the sections of the head and of the variables start.
+pub type Starts = [usize; STARTS];
 
 // Neither the section nor its length is cut off.
 pub fn complete(b: &[u8], at: usize) -> bool
@@ -22,13 +31,13 @@ pub fn complete(b: &[u8], at: usize) -> bool
 fn head_in_range(b: &[u8]) -> bool
     ensures { λ r. ⌜ r ≡ headInRange (now (b .entry)) ⌝ }
 {
-    if !between(1, 8, read::worker_count(b)) {
+    if !between(1, MAX_WORKERS, read::worker_count(b)) {
         return false;
     }
-    if !between(1, 32, read::variable_count(b)) {
+    if !between(1, MAX_VARIABLES, read::variable_count(b)) {
         return false;
     }
-    read::constraint_count(b) <= 128
+    read::constraint_count(b) <= MAX_CONSTRAINTS
 }
 
 // The head: 1, 3, 4.

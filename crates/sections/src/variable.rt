@@ -1,8 +1,10 @@
 // The checks of a variable's section (document 01: a slot).
 use crate::section;
+use crate::section::Starts;
 use base::between;
 use faults::Fault;
 use faults::Verdict;
+use format::limits::MAX_VALUES;
 use format::read;
 use reader::word_at;
 ghost use mathlib.Core.Path.{_≡_};
@@ -11,6 +13,7 @@ ghost use lib.ListN.{length};
 ghost use Rattle.plan.specs.Check.{repeatsCode, variableChecks};
 ghost use Rattle.faults.specs.CheckList.{firstFault, verdictOf};
 ghost use Rattle.format.specs.Format.{variableCount, numberedSize};
+ghost use Rattle.format.specs.Limits.{maxValues};
 ghost use Rattle.sections.specs.Known.{VariablesKnown};
 
 // Some value's code stands earlier in the section: the scan ends at the first such value.
@@ -49,7 +52,7 @@ pub fn check_variable(b: &[u8], at: usize) -> Verdict
     if length < 2 {
         return Verdict::Fails(Fault::BadLength); // no room for the count
     }
-    if 16 < size {
+    if MAX_VALUES < size {
         return Verdict::Fails(Fault::BadCount);
     }
     if length != 2 + 4 * size {
@@ -65,9 +68,9 @@ pub fn check_variable(b: &[u8], at: usize) -> Verdict
 }
 
 // How many values the variable with number s has, from 1; `starts` has the places of the sections.
-pub fn numbered_size(b: &[u8], starts: &[usize; 33], s: usize) -> usize
+pub fn numbered_size(b: &[u8], starts: &Starts, s: usize) -> usize
     requires { ⌜ VariablesKnown (now b) (now starts) × (1 ≤ s) × (s ≤ variableCount (now b)) ⌝ }
-    ensures { λ r. ⌜ (r ≡ numberedSize (now (b .entry)) s) × (r ≤ 16) ⌝ }
+    ensures { λ r. ⌜ (r ≡ numberedSize (now (b .entry)) s) × (r ≤ maxValues) ⌝ }
 {
     read::size(b, starts[s])
 }

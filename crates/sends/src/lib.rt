@@ -15,14 +15,16 @@ use cells::layout::put;
 ghost use mathlib.Core.Path.{_≡_};
 ghost use Prim.Native.Nat.{_<_, _≤_};
 ghost use lib.ListN.{length};
+ghost use Rattle.disac4.specs.Need.{workNeed};
+ghost use Rattle.format.specs.Limits.{maxWorkers};
 ghost use Rattle.cells.specs.Acts.{Acts};
-ghost use Rattle.cells.specs.Layout.{WORKCELLS, SENDROOM, OUTROOM, LISTSMAX};
+ghost use Rattle.cells.specs.Layout.{SENDROOM, OUTROOM, LISTSMAX};
 ghost use Rattle.cells.specs.Memory.{memOf};
 ghost use Rattle.sends.specs.Sends.{sendM, sentWith};
 
 // Sends row `i`'s next list message: up to `end` in the log, behind `sends` list messages and `outs` messages to the controller.
 fn put_list(cells: &mut [u16], i: usize, sends: usize, end: usize, outs: usize, lists: usize)
-    requires { ⌜ (WORKCELLS ≤ length (now cells)) × (i < 8) × (sends < SENDROOM) × (end < 65536) × (outs < OUTROOM) × (lists < LISTSMAX) ⌝ }
+    requires { ⌜ (workNeed ≤ length (now cells)) × (i < maxWorkers) × (sends < SENDROOM) × (end < 65536) × (outs < OUTROOM) × (lists < LISTSMAX) ⌝ }
     ensures { λ r. ⌜ memOf (now (cells .exit)) ≡ sentWith i sends end outs lists (memOf (now (cells .entry))) ⌝ }
 {
     put(cells, BOUNDS, i, sends + 1, end);
@@ -34,7 +36,7 @@ fn put_list(cells: &mut [u16], i: usize, sends: usize, end: usize, outs: usize, 
 
 // Send: the labels behind row `i`'s last list message go to all, as one list message.
 pub fn send(cells: &mut [u16], i: usize) -> usize
-    requires { ⌜ (WORKCELLS ≤ length (now cells)) × (i < 8) ⌝ }
+    requires { ⌜ (workNeed ≤ length (now cells)) × (i < maxWorkers) ⌝ }
     ensures { λ r. ⌜ Acts (sendM i) (memOf (now (cells .entry))) (memOf (now (cells .exit))) r ⌝ }
 {
     let sends = get(cells, WORKERS, i, SENDS);

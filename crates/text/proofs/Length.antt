@@ -16,6 +16,7 @@ use Rattle.plan.proofs.WellFormed.{read-well-formed}
 use Rattle.plan.specs.Decode.{planFault, planOf, accepted, decode}
 use Rattle.faults.specs.Fault.{numberOf}
 use Rattle.format.specs.Format.{sectionStart}
+use Rattle.format.specs.Limits.{maxWorkers, maxVariables, maxValues}
 use Rattle.plan.specs.Plan.{Plan, Value, variableOf, valueOf, sizeOf}
 use Rattle.plan.specs.WellFormed.{WellFormed}
 use Rattle.faults.specs.declared.Decline.{Decline}
@@ -76,7 +77,7 @@ codes-length size code row h = gather-length size 6 _ (λ v k. one (bit row v) (
     one true c k = spaced-length 4 c (omega arith)
     one false c k = omega arith
 
-domain-length : (number owner size row : ℕ) (code : ℕ → ℕ) → number ≤ 32 → owner ≤ 8 → size ≤ 16 → ((v : ℕ) → v < size → code v < 65536)
+domain-length : (number owner size row : ℕ) (code : ℕ → ℕ) → number ≤ maxVariables → owner ≤ maxWorkers → size ≤ maxValues → ((v : ℕ) → v < size → code v < 65536)
     → length (domainLine number owner size code row) ≤ 102
 unfolding domainLine
 domain-length number owner size row code a b d h =

@@ -5,10 +5,12 @@ use mathlib.Core.List.{List}
 use mathlib.Core.Logic.{_↔_}
 use mathlib.Core.Path.{_≡_}
 use lib.ListN.{length, getD}
+use Rattle.format.specs.Limits.{maxWorkers, maxVariables, maxLabels, maxConstraints}
 use Rattle.base.specs.Choice.{allOf}
 use Rattle.base.specs.Row.{bit}
 use Rattle.disac4.specs.Demands.{Demand2, Demand3}
-use Rattle.disac4.specs.Outcome.{workNeed, listNeed, LongEnough, Written}
+use Rattle.disac4.specs.Need.{workNeed, listNeed}
+use Rattle.disac4.specs.Outcome.{LongEnough, Written}
 use Rattle.disac4.specs.Report.{final, reportOf}
 use Rattle.disac4.specs.System.{boundOf, systemAt}
 use Rattle.disac4.specs.Turn.{Turn, allowed, turnAt, turnListFits}
@@ -34,13 +36,13 @@ pub record AcceptedPlan (b : List ℕ) (f : Counts) : Type 0 where
   -- p, n, the number of rules and L are the plan's
   pub counts : f ≡ countsOf (planOf b)
   -- p is from 1 to 8
-  pub workers : (1 ≤ f .workers) × (f .workers ≤ 8)
+  pub workers : (1 ≤ f .workers) × (f .workers ≤ maxWorkers)
   -- n is from 1 to 32
-  pub variables : (1 ≤ f .variables) × (f .variables ≤ 32)
+  pub variables : (1 ≤ f .variables) × (f .variables ≤ maxVariables)
   -- there are at most 128 rules
-  pub constraints : f .constraints ≤ 128
+  pub constraints : f .constraints ≤ maxConstraints
   -- L is at most 512
-  pub labels : f .labels ≤ 512
+  pub labels : f .labels ≤ maxLabels
 
 -- it declined the plan ("never gives 9 to 12")
 pub record DeclinedPlan (b : List ℕ) (d : Decline) : Type 0 where

@@ -1,5 +1,5 @@
 -- Laws that the code of a treatment meets its definitions in memory by.
-use Prim.Native.Nat.{ℕ, suc, _+_, _-_, _/_, _%_, _<_, _≤_}
+use Prim.Native.Nat.{ℕ, suc, _+_, _-_, _%_, _<_, _≤_}
 use mathlib.Core.Bool.{Bool, true, false, cond}
 use mathlib.Core.List.{List}
 use mathlib.Core.Logic.{⊎-elim}
@@ -25,7 +25,7 @@ use Rattle.cells.specs.Layout.{WORKERS, WORK, DOMAIN, COUNTERS, HEAD, TAIL, LAB
 use Rattle.cells.specs.Queues.{deleteM}
 use Rattle.cells.specs.Memory.{Mem, store}
 use Rattle.treating.specs.Treat.{SupportRow, loseM, touchM, touchVariableM, touchVariablesM, hasWork, HeadLoaded, treatM}
-use Rattle.cells.specs.View.{LISTED, inDomain, counterRow}
+use Rattle.cells.specs.View.{LISTED, inDomain, counterRow, labelOf}
 
 -- ---- a count goes down
 
@@ -126,7 +126,7 @@ module _ (sys : System) (i : ℕ) (m : Mem) where
   -- and put together: the label is treated
   pub treat-goes : {head c : ℕ} → head ≡ m WORKERS i HEAD → c ≡ m WORK i head → HasWork i m
       → treatM sys i m
-      ≡ some (touchVariablesM sys i (c / 16) (c % 16) (store m WORKERS i HEAD (head + 1)))
+      ≡ some (touchVariablesM sys i (labelOf c .variable) (labelOf c .value) (store m WORKERS i HEAD (head + 1)))
   unfolding treatM hasWork
   treat-goes p q h = cond-true {b = hasWork i m} _ none (search (and-intro, lt-ltb)) ∙ rw (q, p)
 
@@ -138,5 +138,5 @@ module _ (sys : System) (i : ℕ) (m : Mem) where
 -- it was loaded
 pub head-loaded : (b : List ℕ) (i : ℕ) (m : Mem) {head tail c : ℕ} → head ≡ m WORKERS i HEAD → tail ≡ m WORKERS i TAIL
     → head < tail → c ≡ m WORK i head
-    → HeadLoaded b m i → Loaded b (c / 16) (c % 16)
+    → HeadLoaded b m i → Loaded b (labelOf c .variable) (labelOf c .value)
 head-loaded b i m p q l e f = rw (e, p) (f (omega arith))

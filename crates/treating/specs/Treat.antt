@@ -1,5 +1,5 @@
 -- Treating a label in memory: the treating worker's variables that share a constraint with it, ascending, and their values.
-use Prim.Native.Nat.{ℕ, suc, _+_, _-_, _/_, _%_, _<_}
+use Prim.Native.Nat.{ℕ, suc, _+_, _-_, _<_}
 use mathlib.Core.Bool.{Bool, cond, _&&_}
 use mathlib.Core.List.{List}
 use mathlib.Core.Option.{Option, none, some}
@@ -12,7 +12,7 @@ use Rattle.rows.specs.Permits.{Loaded}
 use Rattle.cells.specs.Layout.{WORKERS, WORK, COUNTERS, HEAD, TAIL, LABELROOM}
 use Rattle.cells.specs.Queues.{deleteM}
 use Rattle.cells.specs.Memory.{Mem, store}
-use Rattle.cells.specs.View.{inDomain, counterRow}
+use Rattle.cells.specs.View.{inDomain, counterRow, labelOf}
 
 -- what is asked for once in a variable: `row` holds those of the first `n` values of `x` that had label `w` of `y` as a
 -- support, and their counters against `y` stand in row `at`
@@ -47,13 +47,13 @@ hasWork i m = ltb (m WORKERS i HEAD) (m WORKERS i TAIL) && ltb (m WORKERS i HEAD
 
 -- where row `i` has work, its oldest label is one of the plan's
 abbrev pub HeadLoaded : List ℕ → Mem → ℕ → Type 0
-HeadLoaded b m i = m WORKERS i HEAD < m WORKERS i TAIL → Loaded b (m WORK i (m WORKERS i HEAD) / 16) (m WORK i (m WORKERS i HEAD) % 16)
+HeadLoaded b m i = m WORKERS i HEAD < m WORKERS i TAIL → Loaded b (labelOf (m WORK i (m WORKERS i HEAD)) .variable) (labelOf (m WORK i (m WORKERS i HEAD)) .value)
 
 -- row `i` takes the oldest label from its work list
 unfoldable pub treatM : System → ℕ → Mem → Option Mem
 treatM sys i m =
     cond (hasWork i m)
     (some
-    (touchVariablesM sys i (m WORK i (m WORKERS i HEAD) / 16) (m WORK i (m WORKERS i HEAD) % 16)
+    (touchVariablesM sys i (labelOf (m WORK i (m WORKERS i HEAD)) .variable) (labelOf (m WORK i (m WORKERS i HEAD)) .value)
     (store m WORKERS i HEAD (m WORKERS i HEAD + 1))))
     none

@@ -1,25 +1,28 @@
 // Treating a label: which labels lose it as a support, and which of them are deleted.
 use cells::layout;
+use cells::layout::VALUEROOM;
 use cells::queues;
 use index::parts;
 ghost use mathlib.Core.Bool.{true};
 ghost use mathlib.Core.Path.{_≡_};
 ghost use Prim.Native.Nat.{ℕ, _<_, _≤_};
 ghost use lib.ListN.{length};
+ghost use Rattle.format.specs.Limits.{maxWorkers, maxVariables};
 ghost use Rattle.base.specs.Below.{loop};
 ghost use Rattle.base.specs.Row.{bit};
 ghost use Rattle.disac4.specs.System.{System, systemAt};
+ghost use Rattle.disac4.specs.Need.{workNeed};
 ghost use Rattle.rows.specs.Permits.{Loaded};
 ghost use Rattle.index.specs.Index.{ownLinked, Ready};
 ghost use Rattle.cells.specs.Acts.{Acts};
-ghost use Rattle.cells.specs.Layout.{WORKCELLS};
+ghost use Rattle.cells.specs.Layout.{VALUEROOM, COUNTERMAX};
 ghost use Rattle.cells.specs.Memory.{memOf};
 ghost use Rattle.treating.specs.Treat.{SupportRow, loseM, touchM, touchVariableM, touchVariablesM, HeadLoaded, treatM};
 ghost use Rattle.cells.specs.View.{counterRow};
 
 // Label v of x loses one from its count, in a row of counters; at 0 row i deletes it.
 fn lose(cells: &mut [u16], i: usize, x: usize, v: usize, row: usize)
-    requires { ⌜ (WORKCELLS ≤ length (now cells)) × (i < 8) × (x < 32) × (v < 16) × (row ≤ 256) ⌝ }
+    requires { ⌜ (workNeed ≤ length (now cells)) × (i < maxWorkers) × (x < maxVariables) × (v < VALUEROOM) × (row ≤ COUNTERMAX) ⌝ }
     ensures { λ _. ⌜ ((y : ℕ) → row ≡ counterRow (memOf (now (cells .entry))) x y → memOf (now (cells .exit)) ≡ loseM i x v y (memOf (now (cells .entry)))) ⌝ }
 {
     let count = layout::get(cells, layout::COUNTERS, row, v);
@@ -34,7 +37,7 @@ fn lose(cells: &mut [u16], i: usize, x: usize, v: usize, row: usize)
 // Label v of x, if it had the treated one as a support and is in its domain. Its bit and its domain cell sum to 65,536
 // only then: one test, since two that go either way would cost more.
 fn touch(cells: &mut [u16], i: usize, x: usize, v: usize, supported: usize, row: usize)
-    requires { ⌜ (WORKCELLS ≤ length (now cells)) × (i < 8) × (x < 32) × (v < 16) × (row ≤ 256) ⌝ }
+    requires { ⌜ (workNeed ≤ length (now cells)) × (i < maxWorkers) × (x < maxVariables) × (v < VALUEROOM) × (row ≤ COUNTERMAX) ⌝ }
     ensures { λ _. ⌜ ((sys : System) (y w : ℕ) → bit supported v ≡ sys .net .allows x v y w → row ≡ counterRow (memOf (now (cells .entry))) x y → memOf (now (cells .exit)) ≡ touchM sys i y w x v (memOf (now (cells .entry)))) ⌝ }
 {
     let listed = layout::get(cells, layout::DOMAIN, x, v);
@@ -45,7 +48,7 @@ fn touch(cells: &mut [u16], i: usize, x: usize, v: usize, supported: usize, row:
 
 // The first n values of x: those that had the treated label as a support are in one row, their counters in another.
 fn touch_values(cells: &mut [u16], i: usize, x: usize, n: usize, supported: usize, row: usize)
-    requires { ⌜ (WORKCELLS ≤ length (now cells)) × (i < 8) × (x < 32) × (n ≤ 16) × (row ≤ 256) ⌝ }
+    requires { ⌜ (workNeed ≤ length (now cells)) × (i < maxWorkers) × (x < maxVariables) × (n ≤ VALUEROOM) × (row ≤ COUNTERMAX) ⌝ }
     ensures { λ _. ⌜ ((sys : System) (y w : ℕ) → SupportRow sys (memOf (now (cells .entry))) y w x n supported row → memOf (now (cells .exit)) ≡ loop n (touchM sys i y w x) (memOf (now (cells .entry)))) ⌝ }
 {
     let mut v = 0;
@@ -57,7 +60,7 @@ fn touch_values(cells: &mut [u16], i: usize, x: usize, n: usize, supported: usiz
 
 // Variable x of row i, which shares a constraint with y.
 fn touch_variable(b: &[u8], cells: &mut [u16], i: usize, y: usize, w: usize, x: usize)
-    requires { ⌜ Ready (now b) (now cells) × (i < 8) × Loaded (now b) y w × (ownLinked (now b) i y x ≡ true) ⌝ }
+    requires { ⌜ Ready (now b) (now cells) × (i < maxWorkers) × Loaded (now b) y w × (ownLinked (now b) i y x ≡ true) ⌝ }
     ensures { λ _. ⌜ memOf (now (cells .exit)) ≡ touchVariableM (systemAt (now (b .entry))) i y w x (memOf (now (cells .entry))) ⌝ }
 {
     let n = parts::size(b, cells, x);
@@ -68,7 +71,7 @@ fn touch_variable(b: &[u8], cells: &mut [u16], i: usize, y: usize, w: usize, x: 
 
 // Every variable: only those of the row that share a constraint with y are touched, so following their chain is enough.
 fn touch_variables(b: &[u8], cells: &mut [u16], i: usize, y: usize, w: usize)
-    requires { ⌜ Ready (now b) (now cells) × (i < 8) × Loaded (now b) y w ⌝ }
+    requires { ⌜ Ready (now b) (now cells) × (i < maxWorkers) × Loaded (now b) y w ⌝ }
     ensures { λ _. ⌜ memOf (now (cells .exit)) ≡ touchVariablesM (systemAt (now (b .entry))) i y w (memOf (now (cells .entry))) ⌝ }
 {
     let mut next = layout::get(cells, layout::FIRST, i, y);
@@ -80,7 +83,7 @@ fn touch_variables(b: &[u8], cells: &mut [u16], i: usize, y: usize, w: usize)
 
 // Row i takes the oldest label from its work list: 1 if there is one, and 0 if not.
 pub fn treat(b: &[u8], cells: &mut [u16], i: usize) -> usize
-    requires { ⌜ Ready (now b) (now cells) × (i < 8) × HeadLoaded (now b) (memOf (now cells)) i ⌝ }
+    requires { ⌜ Ready (now b) (now cells) × (i < maxWorkers) × HeadLoaded (now b) (memOf (now cells)) i ⌝ }
     ensures { λ r. ⌜ Acts (treatM (systemAt (now (b .entry))) i) (memOf (now (cells .entry))) (memOf (now (cells .exit))) r ⌝ }
 {
     let head = layout::get(cells, layout::WORKERS, i, layout::HEAD);
@@ -92,6 +95,6 @@ pub fn treat(b: &[u8], cells: &mut [u16], i: usize) -> usize
     }
     let c = layout::get(cells, layout::WORK, i, head);
     layout::put(cells, layout::WORKERS, i, layout::HEAD, head + 1);
-    touch_variables(b, cells, i, c / 16, c % 16);
+    touch_variables(b, cells, i, c / VALUEROOM, c % VALUEROOM);
     1
 }

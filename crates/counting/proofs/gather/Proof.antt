@@ -9,6 +9,7 @@ use native.Mathlib.Omega.{arith}
 use lib.ListN.{getD}
 use lib.Pow.{pow-mono}
 use lib.Seq.{getD-set-other}
+use Rattle.cells.specs.Layout.{VALUEROOM}
 use Rattle.base.proofs.Row.{put-small}
 use Rattle.base.specs.Row.{bit}
 use Rattle.counting.proofs.CountLaws.{rows-more}
@@ -18,10 +19,10 @@ use Rattle.counting.specs.Count.{FirstRows}
 
 abbrev Inv-loop : tie.InvT-loop
 Inv-loop rows₀ row v w₀ rows w =
-    (w ≤ 16) × FirstRows (λ k. getD rows₀ k 0 + cond (bit row k) (2 ^ v) 0) w rows × ((k : ℕ) → w ≤ k → getD rows k 0 ≡ getD rows₀ k 0)
+    (w ≤ VALUEROOM) × FirstRows (λ k. getD rows₀ k 0 + cond (bit row k) (2 ^ v) 0) w rows × ((k : ℕ) → w ≤ k → getD rows k 0 ≡ getD rows₀ k 0)
 
 abbrev μ-loop : tie.MeasureT-loop
-μ-loop rows₀ row v w₀ rows w = 16 - w
+μ-loop rows₀ row v w₀ rows w = VALUEROOM - w
 
 loop-holds : tie.Need-loop-holds Inv-loop μ-loop
 loop-holds c = (omega arith, record { long = c .pre .0; each = λ k h. absurd (omega arith) }, λ k h. refl)
@@ -90,7 +91,7 @@ loop-again c =
 
 returns : tie.Need-returns Inv-loop μ-loop
 returns c =
-    let e : c .before .loop .w ≡ 16 = omega (arith, c .loop-test .left, c .before .loop .inv .0) in
+    let e : c .before .loop .w ≡ VALUEROOM = omega (arith, c .loop-test .left, c .before .loop .inv .0) in
     rw e at (c .before .loop .inv .1)
 
 pub gather-spec : {M : Type 1} → statement M

@@ -8,7 +8,7 @@ use mathlib.Core.Path.{_≡_, refl, _∙_, ap₂}
 use native.Mathlib.Omega.{arith}
 use Rattle.cells.proofs.Done.{Done, done-none, done-more, done-all}
 use Rattle.cells.proofs.Ranges.{may-put}
-use Rattle.cells.specs.Layout.{COUNTERS}
+use Rattle.cells.specs.Layout.{COUNTERS, VALUEROOM}
 use Rattle.cells.specs.Memory.{memOf, store}
 use Rattle.cells.specs.View.{counterRow}
 use Rattle.counting.proofs.CountLaws.{supports-fit}
@@ -80,7 +80,7 @@ module _ (c : tie.After-row-count Inv-loop μ-loop) where
   t = c .before .before .before
 
   counted : (c .row-count .result ≡ supportCount (networkOf (planOf (now (s t .args .b)))) (s t .args .x) (l t .loop .v) (s t .args .y))
-      × (c .row-count .result ≤ 16)
+      × (c .row-count .result ≤ VALUEROOM)
   unfolding networkOf
   counted =
       let a = s t .args in

@@ -6,6 +6,7 @@ use denote.Ref.{now}
 use mathlib.Core.List.{List}
 use mathlib.Core.Path.{_≡_, _∙_}
 use native.Mathlib.Omega.{arith}
+use Rattle.cells.specs.Layout.{VALUEROOM}
 use Rattle.base.specs.Row.{rowOf}
 use Rattle.counting.proofs.CountLaws.{size-low, supports-fit, rows-more, gathered, gathered-small, gathered-more, gathered-all}
 use Rattle.counting.proofs.support_rows.Statement.{statement}
@@ -17,7 +18,7 @@ use Rattle.plan.specs.Network.{networkOf}
 
 abbrev Inv-loop : tie.InvT-loop
 Inv-loop b cells x y others₀ n rows₀ v₀ others rows v =
-    (v ≤ n) × FirstRows (supportRow (networkOf (planOf b)) x y) v rows × FirstRows (gathered (planOf b) x y v) 16 others
+    (v ≤ n) × FirstRows (supportRow (networkOf (planOf b)) x y) v rows × FirstRows (gathered (planOf b) x y v) VALUEROOM others
 
 abbrev μ-loop : tie.MeasureT-loop
 μ-loop b cells x y others₀ n rows₀ v₀ others rows v = n - v
@@ -55,7 +56,7 @@ module _ (t : tie.In-loop Inv-loop μ-loop) where
   abbrev row : ℕ
   row = supportRow (networkOf (planOf b)) (s .args .x) (s .args .y) (l .loop .v)
 
-  small : l .loop .v < 16
+  small : l .loop .v < VALUEROOM
   small = omega (arith, t .loop-test .taken, sized .size .ensures)
 
 support-row-requires : tie.Need-support-row-requires Inv-loop μ-loop

@@ -3,8 +3,8 @@ use Prim.Native.Nat.{_≤_}
 use native.Mathlib.Omega.{arith}
 use denote.Ref.{now}
 use lib.ListN.{length}
+use Rattle.disac4.specs.Need.{workNeed, listNeed}
 use Rattle.base.specs.Bytes.{byteAt}
-use Rattle.disac4.specs.Outcome.{workNeed, listNeed}
 use Rattle.display.proofs.Fits.{shown-fits}
 use Rattle.display.proofs.Texts.{outcome-held, shows-whole}
 use Rattle.display.specs.Shown.{shown, freshWork, freshLists}

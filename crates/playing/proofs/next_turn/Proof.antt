@@ -6,6 +6,7 @@ use native.Mathlib.Omega.{arith}
 use borrow.Author.Needs.{needs}
 use borrow.Author.Tests.{eqb-true}
 use denote.Ref.{now}
+use Rattle.format.specs.Limits.{maxWorkers}
 use Rattle.disac4.proofs.Allowed.{allowed-bounds}
 use Rattle.disac4.specs.Turn.{turn}
 use Rattle.engine.proofs.Advancing.{playable}
@@ -26,7 +27,7 @@ played c = c .before .before .before .before
 -- the turn has a cell in the table
 inside : (s : tie.Start) → (s .args .actor < actors) × (s .args .action < actions)
 inside s =
-    let few : s .args .p ≤ 8 =
+    let few : s .args .p ≤ maxWorkers =
     omega (arith, s .pre .1, playable (now (s .args .b)) (now (s .args .cells)) (s .args .g) (s .pre .0) .workers) in
     let h = allowed-bounds (s .args .p) (turn (s .args .actor) (s .args .action)) few (s .pre .2) in
     (omega (arith, h .0), h .1)

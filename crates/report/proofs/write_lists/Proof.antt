@@ -7,6 +7,7 @@ use mathlib.Core.List.{List}
 use mathlib.Core.Path.{_≡_, refl, _∙_, ap, ap₂}
 use native.Mathlib.Omega.{arith}
 use lib.ListN.{length, set}
+use Rattle.disac4.specs.Need.{listNeed}
 use Rattle.index.proofs.Places.{few-sections}
 use Rattle.report.proofs.Reported.{rowsBefore, rows-length, rows-next, rows-all}
 use Rattle.report.proofs.write_lists.Statement.{statement}
@@ -29,6 +30,7 @@ loop-holds c = (omega arith, refl)
 long : (c : tie.At-loop Inv-loop μ-loop)
     → (length (c .loop .lists) ≡ length (now (c .before .before .before .before .before .args .lists)))
     × (c .before .variable-count .result ≤ length (now (c .before .before .before .before .before .args .lists)))
+unfolding listNeed
 long c =
     let s = c .before .before .before .before .before in
     let room : c .before .variable-count .result ≤ length (now (s .args .lists)) =

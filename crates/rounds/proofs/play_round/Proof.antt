@@ -6,7 +6,7 @@ use denote.Ref.{now}
 use Rattle.base.specs.Below.{gatherBelow, listBelow}
 use Rattle.disac4.proofs.Allowed.{may-poll}
 use Rattle.disac4.specs.Round.{workerRound, round}
-use Rattle.disac4.specs.Turn.{turn}
+use Rattle.disac4.specs.Turn.{turn, pollAction}
 use Rattle.refinement.proofs.Underway.{plays-then, goes-after}
 use Rattle.refinement.specs.Run.{Going}
 use Rattle.rounds.proofs.play_round.Statement.{statement}
@@ -49,7 +49,7 @@ returns c =
     let b = now (a .b) in
     let workers = gatherBelow (a .p) (λ i. workerRound (a .p) (suc i)) in
     let controller = listBelow (a .p) (λ i. turn 0 (suc i)) in
-    plays-then b (workers ++ controller) (turn 0 12 ∷ []) _ _ _ _ _ _
+    plays-then b (workers ++ controller) (turn 0 pollAction ∷ []) _ _ _ _ _ _
     (plays-then b workers controller _ _ _ _ _ _ (w .workers-round .ensures) (h .hear-all .ensures)) (e .control .ensures)
 
 pub play-round-spec : {M : Type 1} → statement M

@@ -6,6 +6,7 @@ use mathlib.Core.List.{[], _∷_, map}
 use native.Mathlib.Omega.{arith}
 use lib.Dec.{eqb}
 use denote.Ref.{now}
+use Rattle.format.specs.Limits.{maxWorkers}
 use Rattle.disac4.specs.Round.{others}
 use Rattle.disac4.specs.Turn.{turn}
 use Rattle.base.proofs.Below.{map-gather}
@@ -20,7 +21,7 @@ Inv-loop b cells₀ t p k changes₀ j₀ cells changes j =
 abbrev μ-loop : tie.MeasureT-loop
 μ-loop b cells₀ t p k changes₀ j₀ cells changes j = suc p - j
 
-few-at : (s : tie.Start Inv-loop μ-loop) → s .args .p ≤ 8
+few-at : (s : tie.Start Inv-loop μ-loop) → s .args .p ≤ maxWorkers
 few-at s =
     omega (arith, s .pre .1, running-playable (now (s .args .b)) (now (s .args .cells)) (s .args .t) (s .pre .0) .workers)
 

@@ -7,7 +7,7 @@ use native.Mathlib.Omega.{arith}
 use denote.Ref.{now}
 use Rattle.disac4.proofs.Allowed.{may-work}
 use Rattle.disac4.specs.Round.{others, workerRound}
-use Rattle.disac4.specs.Turn.{turn}
+use Rattle.disac4.specs.Turn.{turn, treatAction, sendAction, answerAction}
 use Rattle.refinement.proofs.Underway.{going-small}
 use Rattle.engine.proofs.Working.{works-then, worked-plays, running-by, running-after}
 use Rattle.engine.specs.Play.{Running}
@@ -104,9 +104,9 @@ returns c =
     let b = now (a .b) in
     let k = a .k in
     worked-plays b (workerRound (a .p) k) _ _ _ _ (a .g) _
-    (works-then b (map (turn k) (others (a .p) k)) (turn k 9 ∷ turn k 10 ∷ turn k 11 ∷ []) _ _ _ _ _ _ _ _ (r .reads .ensures .0)
-    (works-then b (turn k 9 ∷ []) (turn k 10 ∷ turn k 11 ∷ []) _ _ _ _ _ _ _ _ (t .work-turn .ensures .0)
-    (works-then b (turn k 10 ∷ []) (turn k 11 ∷ []) _ _ _ _ _ _ _ _ (d .work-turn2 .ensures .0) (e .work-turn3 .ensures .0))))
+    (works-then b (map (turn k) (others (a .p) k)) (turn k treatAction ∷ turn k sendAction ∷ turn k answerAction ∷ []) _ _ _ _ _ _ _ _ (r .reads .ensures .0)
+    (works-then b (turn k treatAction ∷ []) (turn k sendAction ∷ turn k answerAction ∷ []) _ _ _ _ _ _ _ _ (t .work-turn .ensures .0)
+    (works-then b (turn k sendAction ∷ []) (turn k answerAction ∷ []) _ _ _ _ _ _ _ _ (d .work-turn2 .ensures .0) (e .work-turn3 .ensures .0))))
     (record { before = refl; after = refl; changes = omega arith; sends = omega arith; polls = refl })
 
 pub worker-round-spec : {M : Type 1} → statement M

@@ -2,6 +2,7 @@
 use Prim.Native.Nat.{_+_, _-_}
 use borrow.Author.Needs.{needs}
 use native.Mathlib.Omega.{arith}
+use Rattle.plan.specs.Network.{UNRECORDED}
 use Rattle.rows.proofs.Rows.{no-room, room-judges}
 use Rattle.rows.proofs.room_beside.Statement.{statement}
 use Rattle.rows.proofs.room_beside.Tie as tie
@@ -28,7 +29,7 @@ returns-4 : tie.Need-returns-4
 returns-4 c =
     let s = c .before .before .before in
     let a = s .args in
-    room-judges (a .limit) (a .f) 65535 (c .before .before .if1 .left) (omega arith)
+    room-judges (a .limit) (a .f) UNRECORDED (c .before .before .if1 .left) (omega arith)
     (λ g d. (λ h. omega (arith, c .if3 .left), λ h. omega (arith, s .pre)))
 
 pub room-beside-spec : {M : Type 1} → statement M

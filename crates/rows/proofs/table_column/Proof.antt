@@ -15,13 +15,16 @@ use Rattle.rows.proofs.table_column.Tie as tie
 use Rattle.rows.specs.Permits.{inColumn}
 
 abbrev Inv-loop : tie.InvT-loop
-Inv-loop b at v values half k row₀ w₀ row w = Upper (inColumn b at v) values row w
+Inv-loop b at v values part k row₀ w₀ row w = Upper (inColumn b at v) values row w
 
 abbrev μ-loop : tie.MeasureT-loop
-μ-loop b at v values half k row₀ w₀ row w = w
+μ-loop b at v values part k row₀ w₀ row w = w
 
-sub-half : tie.Need-sub-half Inv-loop μ-loop
-sub-half c = omega (arith, c .before .pre .1)
+sub-part : tie.Need-sub-part Inv-loop μ-loop
+sub-part c = omega (arith, c .before .pre .1)
+
+sub-part-2 : tie.Need-sub-part-2 Inv-loop μ-loop
+sub-part-2 c = omega (arith, c .before .pre .1)
 
 loop-holds : tie.Need-loop-holds Inv-loop μ-loop
 loop-holds c =
@@ -102,7 +105,8 @@ table-column-spec =
     (tie.spec
     Inv-loop
     μ-loop
-    sub-half
+    sub-part
+    sub-part-2
     loop-holds
     sub-w
     mul-row

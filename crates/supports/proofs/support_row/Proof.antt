@@ -13,6 +13,7 @@ use native.Mathlib.Omega.{arith}
 use Rattle.base.proofs.Below.{at-suc}
 use Rattle.base.specs.Row.{bit, rowOf}
 use Rattle.format.specs.Format.{variableCount, constraintCount}
+use Rattle.format.specs.Limits.{maxVariables, maxConstraints}
 use Rattle.cells.proofs.Ranges.{may-get}
 use Rattle.rows.proofs.Accepted.{acceptsAt}
 use Rattle.index.proofs.Along.{along-over}
@@ -37,7 +38,7 @@ abbrev μ-loop : tie.MeasureT-loop
 μ-loop b cells x v y variables here there values row₀ next₀ row next = next
 
 module _ (s : tie.Start Inv-loop μ-loop) where
-  few : (variableCount (now (s .args .b)) ≤ 32) × (constraintCount (now (s .args .b)) ≤ 128)
+  few : (variableCount (now (s .args .b)) ≤ maxVariables) × (constraintCount (now (s .args .b)) ≤ maxConstraints)
   few = few-sections (now (s .args .b)) (s .pre .0 .sound)
 
   inside : s .args .y < variableCount (now (s .args .b))

@@ -4,17 +4,16 @@ use mathlib.Core.Path.{_≡_, refl, _∙_, ap}
 use native.Mathlib.Omega.{arith}
 use denote.Ref.{now}
 use lib.ListN.{length, set}
-use Rattle.disac4.specs.Outcome.{workNeed}
+use Rattle.disac4.specs.Need.{workNeed}
 use Rattle.cells.proofs.Cleared.{front, front-all, front-length, front-next}
-use Rattle.cells.specs.Layout.{WORKCELLS}
 use Rattle.cells.proofs.clear.clear.Statement.{statement}
 use Rattle.cells.proofs.clear.clear.Tie as tie
 
 abbrev Inv-loop : tie.InvT-loop
-Inv-loop cells₀ k₀ cells k = (k ≤ WORKCELLS) × (cells ≡ front k cells₀) × (WORKCELLS ≤ length cells₀)
+Inv-loop cells₀ k₀ cells k = (k ≤ workNeed) × (cells ≡ front k cells₀) × (workNeed ≤ length cells₀)
 
 abbrev μ-loop : tie.MeasureT-loop
-μ-loop cells₀ k₀ cells k = WORKCELLS - k
+μ-loop cells₀ k₀ cells k = workNeed - k
 
 loop-holds : tie.Need-loop-holds Inv-loop μ-loop
 loop-holds c = (omega arith, refl, c .pre)
@@ -23,6 +22,7 @@ mul-cells : tie.Need-mul-cells Inv-loop μ-loop
 mul-cells c = omega arith
 
 slice-write-cells : tie.Need-slice-write-cells Inv-loop μ-loop
+unfolding workNeed
 slice-write-cells c =
     omega (
       arith,
@@ -34,9 +34,11 @@ add-k : tie.Need-add-k Inv-loop μ-loop
 add-k c = omega arith
 
 loop-less : tie.Need-loop-less Inv-loop μ-loop
+unfolding workNeed
 loop-less c = omega arith
 
 loop-again : tie.Need-loop-again Inv-loop μ-loop
+unfolding workNeed
 loop-again c = (
   omega arith,
   ap (λ l. set l (c .before .loop .k) 0) (c .before .loop .inv .1)
@@ -55,7 +57,7 @@ same-length c =
 returns : tie.Need-returns Inv-loop μ-loop
 unfolding workNeed
 returns c =
-    let e : c .before .loop .k ≡ WORKCELLS = omega arith in
+    let e : c .before .loop .k ≡ workNeed = omega arith in
     c .before .loop .inv .1
     ∙ ap (λ (n : ℕ). front n (now (c .before .before .args .cells))) e
     ∙ front-all (now (c .before .before .args .cells))

@@ -2,14 +2,15 @@
 use mathlib.Core.Path.{sym}
 use native.Mathlib.Omega.{arith}
 use denote.Ref.{now}
+use Rattle.disac4.specs.Need.{workNeed}
 use Rattle.cells.proofs.Regions.{place-needed, get-law}
 use Rattle.cells.proofs.layout.get.Statement.{statement}
 use Rattle.cells.proofs.layout.get.Tie as tie
 use Prim.Native.Nat.{_<_}
-use Rattle.cells.specs.Layout.{WORKCELLS, address}
+use Rattle.cells.specs.Layout.{address}
 
 -- the place, which every need speaks of
-near : (c : tie.Start) → address (c .args .g) (c .args .i) (c .args .j) < WORKCELLS
+near : (c : tie.Start) → address (c .args .g) (c .args .i) (c .args .j) < workNeed
 near c = place-needed (now (c .args .cells)) (c .args .g) (c .args .i) (c .args .j) (c .pre)
 
 mul-result : tie.Need-mul-result

@@ -3,12 +3,13 @@ use Prim.Native.Nat.{_<_}
 use borrow.Author.Needs.{needs}
 use native.Mathlib.Omega.{arith}
 use denote.Ref.{now}
+use Rattle.disac4.specs.Need.{workNeed}
 use Rattle.cells.proofs.Regions.{place-needed, put-law}
 use Rattle.cells.proofs.layout.put.Statement.{statement}
 use Rattle.cells.proofs.layout.put.Tie as tie
-use Rattle.cells.specs.Layout.{WORKCELLS, address}
+use Rattle.cells.specs.Layout.{address}
 
-near : (c : tie.Start) → address (c .args .g) (c .args .i) (c .args .j) < WORKCELLS
+near : (c : tie.Start) → address (c .args .g) (c .args .i) (c .args .j) < workNeed
 near c = place-needed (now (c .args .cells)) (c .args .g) (c .args .i) (c .args .j) (c .pre .0)
 
 cast-cells : tie.Need-cast-cells

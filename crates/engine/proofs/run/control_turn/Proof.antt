@@ -4,6 +4,7 @@ use mathlib.Core.Bool.{true}
 use mathlib.Core.Path.{_≡_, refl, sym, _∙_, subst}
 use native.Mathlib.Omega.{arith}
 use denote.Ref.{now}
+use Rattle.format.specs.Limits.{maxWorkers}
 use Rattle.cells.proofs.Acting.{idle, acts-as}
 use Rattle.disac4.specs.Turn.{allowed, turn}
 use Rattle.engine.proofs.RunLaws.{turn-closed, turn-polls, turn-hears, read-numbers, workers-are}
@@ -12,7 +13,7 @@ use Rattle.engine.proofs.run.control_turn.Statement.{statement}
 use Rattle.engine.proofs.run.control_turn.Tie as tie
 use Rattle.disac4.specs.System.{systemAt}
 
-few-at : (s : tie.Start) → s .args .p ≤ 8
+few-at : (s : tie.Start) → s .args .p ≤ maxWorkers
 few-at s = omega (arith, s .pre .0 .workers, s .pre .1)
 
 allowed-at : (s : tie.Start) → allowed (systemAt (now (s .args .b)) .workers) (turn 0 (s .args .d)) ≡ true

@@ -6,6 +6,7 @@ use mathlib.Core.Path.{_≡_, refl, _∙_, ap}
 use native.Mathlib.Nat.{not-suc-le-zero}
 use native.Mathlib.Omega.{arith}
 use lib.ListN.{length, length-set}
+use Rattle.sections.specs.Known.{startCount}
 use Rattle.format.specs.Format.{sectionStart, sectionCount}
 use Rattle.parser.proofs.Scanned.{variables-known, next-within, next-start, passed-more, fault-answer, end-answer, verdict-passes, verdict-fails}
 use Rattle.faults.specs.CheckList.{firstFault}
@@ -17,7 +18,7 @@ use Rattle.parser.proofs.scan.check_sections.Tie as tie
 
 abbrev Inv-loop : tie.InvT-loop
 Inv-loop b count starts₀ at₀ k₀ starts at k =
-    PassedBefore b starts k × (length starts ≡ 33) × (at ≡ sectionStart b k) × (at ≤ length b) × (k ≤ count)
+    PassedBefore b starts k × (length starts ≡ startCount) × (at ≡ sectionStart b k) × (at ≤ length b) × (k ≤ count)
 
 abbrev μ-loop : tie.MeasureT-loop
 μ-loop b count starts₀ at₀ k₀ starts at k = count - k

@@ -7,13 +7,14 @@ use native.Mathlib.Omega.{arith}
 use Rattle.base.proofs.Sums.{sum-more}
 use Rattle.base.specs.Below.{sumBelow}
 use Rattle.format.specs.Format.{variableCount, numberedSize}
+use Rattle.format.specs.Limits.{maxValues}
 use Rattle.plan.proofs.PlanCounts.{labels-read}
 use Rattle.parser.proofs.scan.count_labels.Statement.{statement}
 use Rattle.parser.proofs.scan.count_labels.Tie as tie
 
 abbrev Inv-loop : tie.InvT-loop
 Inv-loop b starts count labels₀ x₀ labels x =
-    (x ≤ count) × (labels ≡ sumBelow x (λ y. numberedSize b (suc y))) × (labels ≤ 16 * x)
+    (x ≤ count) × (labels ≡ sumBelow x (λ y. numberedSize b (suc y))) × (labels ≤ maxValues * x)
 
 abbrev μ-loop : tie.MeasureT-loop
 μ-loop b starts count labels₀ x₀ labels x = count - x

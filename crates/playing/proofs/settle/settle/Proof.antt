@@ -11,6 +11,7 @@ use Rattle.playing.specs.Known.{KnownIdle}
 use Rattle.playing.proofs.settle.settle.Statement.{statement}
 use Rattle.playing.proofs.settle.settle.Tie as tie
 use Rattle.disac4.specs.System.{systemAt}
+use Rattle.disac4.specs.Turn.{treatAction, sendAction, answerAction}
 
 -- the arguments, from the third note on
 abbrev start : tie.After-note3 → tie.Start
@@ -55,12 +56,12 @@ own-noted c b known =
     let first = second .before .before .before in
     let a = start c .args in
     let rests = work-idle b (now (a .cells)) (a .t) (a .k) in
-    noted _ (a .k) 11
-    (λ e. rests 11 (works c) (worker-answers _ _ _ _ _ (λ p. omega arith) (λ p. omega arith) refl ∙ c .before .no-answer .ensures e))
+    noted _ (a .k) answerAction
+    (λ e. rests answerAction (works c) (worker-answers _ _ _ _ _ (λ p. omega arith) (λ p. omega arith) refl ∙ c .before .no-answer .ensures e))
     (c .note3 .ensures)
-    (noted _ (a .k) 10 (λ e. rests 10 (works c) (worker-sends _ _ _ _ _ (λ p. omega arith) refl ∙ second .before .all-sent .ensures e))
+    (noted _ (a .k) sendAction (λ e. rests sendAction (works c) (worker-sends _ _ _ _ _ (λ p. omega arith) refl ∙ second .before .all-sent .ensures e))
     (second .note2 .ensures)
-    (noted _ (a .k) 9 (λ e. rests 9 (works c) (worker-treats _ _ _ _ _ refl ∙ first .before .no-work .ensures (systemAt b) e))
+    (noted _ (a .k) treatAction (λ e. rests treatAction (works c) (worker-treats _ _ _ _ _ refl ∙ first .before .no-work .ensures (systemAt b) e))
     (first .note .ensures) known))
 
 returns : tie.Need-returns

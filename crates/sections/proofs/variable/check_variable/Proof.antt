@@ -3,6 +3,7 @@ use borrow.Author.Needs.{needs}
 use borrow.Author.Tests.{le-leb, lt-leb, eq-eqb, ne-eqb}
 use mathlib.Core.List.{List}
 use mathlib.Core.Path.{_∙_}
+use Rattle.format.specs.Limits.{maxValues}
 use Rattle.faults.proofs.Branches.{holds, fails, Past}
 use Rattle.faults.specs.CheckList.{Check}
 use Rattle.plan.specs.Check.{variableChecks}
@@ -22,7 +23,7 @@ past-2 c = past-1 (c .before) ∙ rw (← c .before .before .before .before .wor
 
 past-3 : (c : tie.Else3) → Past 3 (checks (c .before .before .before .before .before .before .before))
 unfolding variableChecks
-past-3 c = past-2 (c .before) ∙ rw (← c .before .before .before .before .size .ensures .0, le-leb _ 16 (c .if3 .left))
+past-3 c = past-2 (c .before) ∙ rw (← c .before .before .before .before .size .ensures .0, le-leb _ maxValues (c .if3 .left))
 
 past-4 : (c : tie.Else4) → Past 4 (checks (c .before .before .before .before .before .before .before .before))
 unfolding variableChecks
@@ -55,7 +56,7 @@ returns-2 c = rw (past-1 (c .before), ← c .before .before .before .before .wor
 
 returns-3 : tie.Need-returns-3
 unfolding variableChecks
-returns-3 c = rw (past-2 (c .before), ← c .before .before .before .before .size .ensures .0, lt-leb _ 16 (c .if3 .taken))
+returns-3 c = rw (past-2 (c .before), ← c .before .before .before .before .size .ensures .0, lt-leb _ maxValues (c .if3 .taken))
 
 mul-if4 : tie.Need-mul-if4
 mul-if4 c = search needs

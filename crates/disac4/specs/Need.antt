@@ -1,0 +1,10 @@
+-- The cells that a run needs ("The lent buffers"). The constants of the code, WORK_NEED and LIST_NEED, are the same numbers.
+use Prim.Native.Nat.{ℕ}
+
+-- work cells
+unfoldable pub workNeed : ℕ
+workNeed = 24576
+
+-- list cells
+unfoldable pub listNeed : ℕ
+listNeed = 32
