@@ -17,6 +17,7 @@ pub mod Expected
 pub mod Final
 pub mod Flow
 pub mod Fold
+pub mod Found
 pub mod Idle
 pub mod IdleAction
 pub mod Largest
@@ -24,6 +25,7 @@ pub mod Moves
 pub mod Occurrences
 pub mod Order
 pub mod Outcome
+pub mod Pending
 pub mod PollBound
 pub mod Potential
 pub mod Progress

@@ -5,6 +5,7 @@ pub mod Event
 pub mod Fold
 pub mod Loading
 pub mod Outcome
+pub mod Pending
 pub mod Report
 pub mod Round
 pub mod State
