@@ -1,14 +1,10 @@
 -- The definitions' tests find a label exactly where it occurs: in a list, in a channel, in the events of a run.
-use Prim.Native.Nat.{ℕ, zero, suc, _+_}
-use mathlib.Core.Bool.{Bool, true, false, cond, _&&_, _||_}
-use mathlib.Core.List.{List, [], _∷_}
-use mathlib.Core.Path.{_≡_, refl, sym, _∙_, ap, ap₂}
-use native.Mathlib.Nat.{zero-add}
-use native.Mathlib.Omega.{arith}
-use borrow.Author.Tests.{lt-ltb}
+use Prim.Native.Nat.{ℕ}
+use mathlib.Core.Bool.{Bool, true, false, cond, _&&_}
+use mathlib.Core.List.{List}
+use mathlib.Core.Path.{_≡_, refl}
 use lib.Dec.{ltb, eqb}
-use Rattle.base.proofs.Bools.{or-left}
-use Rattle.base.proofs.Weight.{weigh}
+use Rattle.base.proofs.Weight.{weigh, any-above}
 use Rattle.base.specs.Below.{one}
 use Rattle.base.specs.Choice.{anyOf}
 use Rattle.network.specs.Network.{Label, isLabel}
@@ -18,17 +14,6 @@ use Rattle.disac4.specs.Pending.{carries}
 use Rattle.disac4.specs.State.{Message, list, poll, reply}
 
 -- ---- a number above 0
-
--- a sum is above 0 exactly if one of its summands is
-pub above-add : (m n : ℕ) → ltb 0 (m + n) ≡ ltb 0 m || ltb 0 n
-above-add zero n = ap (ltb 0) (zero-add n)
-above-add (suc m) n = lt-ltb 0 (suc m + n) (omega arith) ∙ sym (or-left (ltb 0 n) (lt-ltb 0 (suc m) (omega arith)))
-
--- where a weight is above 0 exactly at what passes a test, a list's is exactly if it has such a member
-any-above : {A : Type 0} (w : A → ℕ) (t : A → Bool) → ((a : A) → t a ≡ ltb 0 (w a)) → (l : List A)
-    → anyOf t l ≡ ltb 0 (weigh w l)
-any-above w t e [] = refl
-any-above w t e (a ∷ l) = ap₂ _||_ (e a) (any-above w t e l) ∙ sym (above-add (w a) (weigh w l))
 
 -- a test counts above 0 exactly if it holds
 above-one : (b : Bool) → b ≡ ltb 0 (one b)

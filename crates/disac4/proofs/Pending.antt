@@ -7,11 +7,11 @@ use native.Mathlib.Omega.{arith}
 use borrow.Author.Tests.{ltb-true, ltb-false, lt-ltb, le-ltb, eqb-false}
 use lib.Dec.{ltb, eqb}
 use Rattle.base.proofs.Below.{all-ext, all-not}
-use Rattle.base.proofs.Weight.{weigh}
+use Rattle.base.proofs.Weight.{weigh, above-add}
 use Rattle.base.specs.Below.{one, anyBelow, allBelow}
 use Rattle.base.specs.Choice.{anyOf}
 use Rattle.disac4.proofs.Flow.{Flow, flows}
-use Rattle.disac4.proofs.Found.{above-add, found-listed, found-on-way, found-sent, found-read, found-treated}
+use Rattle.disac4.proofs.Found.{found-listed, found-on-way, found-sent, found-read, found-treated}
 use Rattle.disac4.proofs.Occurrences.{occurs, carried, sentBy, readBy, treatedBy}
 use Rattle.disac4.proofs.Treated.{sentLater, onItsWay, sent-or-waits, read-or-waits, treated-or-waits}
 use Rattle.disac4.specs.Event.{Event, events, isReadWith, isTreatOf, unsent, unread, untreated, deleted}
