@@ -1,16 +1,22 @@
 -- The weight of a list: the sum of a number for each of its members. Lengths, occurrences and message counts are weights.
-use Prim.Native.Nat.{ℕ, zero, suc, _+_, _<_}
-use mathlib.Core.Bool.{Bool, true}
+use Prim.Native.Nat.{ℕ, zero, suc, _+_}
+use mathlib.Core.Bool.{Bool, _||_}
 use mathlib.Core.List.{List, [], _∷_, _++_}
-use mathlib.Core.Path.{_≡_, refl}
-use native.Mathlib.Nat.{not-suc-le-zero}
+use mathlib.Core.Path.{_≡_, refl, sym, _∙_, ap, ap₂}
+use native.Mathlib.Nat.{zero-add}
 use native.Mathlib.Omega.{arith}
+use borrow.Author.Tests.{lt-ltb}
+use lib.Dec.{ltb}
 use lib.ListN.{length}
-use Rattle.base.proofs.Bools.{or-left, or-right}
+use Rattle.base.proofs.Bools.{or-left}
 use Rattle.base.proofs.Each.{Each}
-use Rattle.base.proofs.Sums.{one-passes}
-use Rattle.base.specs.Below.{sumBelow, one, gatherBelow}
+use Rattle.base.specs.Below.{sumBelow, gatherBelow}
 use Rattle.base.specs.Choice.{anyOf}
+
+-- a sum is above 0 exactly if one of its summands is
+pub above-add : (m n : ℕ) → ltb 0 (m + n) ≡ ltb 0 m || ltb 0 n
+above-add zero n = ap (ltb 0) (zero-add n)
+above-add (suc m) n = lt-ltb 0 (suc m + n) (omega arith) ∙ sym (or-left (ltb 0 n) (lt-ltb 0 (suc m) (omega arith)))
 
 module _ {ℓ} {A : Type ℓ} where
   -- the weight of a list
@@ -33,19 +39,10 @@ module _ {ℓ} {A : Type ℓ} where
   weigh-one [] = refl
   weigh-one (a ∷ l) = omega (arith, weigh-one l)
 
-  -- where weight above 0 implies the test, a list that weighs more than 0 has a member that passes it
-  pub weighs-any : (w : A → ℕ) (t : A → Bool) → ((a : A) → 0 < w a → t a ≡ true) → (l : List A) → 0 < weigh w l
-      → anyOf t l ≡ true
-  weighs-any w t f [] h = absurd (not-suc-le-zero h)
-  weighs-any w t f (a ∷ l) h = go (w a) refl (weighs-any w t f l)
-    where
-      go : (n : ℕ) → w a ≡ n → (0 < weigh w l → anyOf t l ≡ true) → anyOf t (a ∷ l) ≡ true
-      go zero p ih = or-right (t a) (ih (omega arith))
-      go (suc n) p ih = or-left (anyOf t l) (f a (omega arith))
-
-  -- a list that counts a member that passes a test has one
-  pub counts-any : (t : A → Bool) (l : List A) → 0 < weigh (λ a. one (t a)) l → anyOf t l ≡ true
-  counts-any t = weighs-any (λ a. one (t a)) t (λ a. one-passes (t a))
+  -- where a weight is above 0 exactly at what passes a test, a list's is exactly if it has such a member
+  pub any-above : (w : A → ℕ) (t : A → Bool) → ((a : A) → t a ≡ ltb 0 (w a)) → (l : List A) → anyOf t l ≡ ltb 0 (weigh w l)
+  any-above w t e [] = refl
+  any-above w t e (a ∷ l) = ap₂ _||_ (e a) (any-above w t e l) ∙ sym (above-add (w a) (weigh w l))
 
   -- a list whose members weigh nothing weighs nothing
   pub weigh-zero : (w : A → ℕ) (l : List A) → Each (λ a. w a ≡ 0) l → weigh w l ≡ 0

@@ -1,95 +1,77 @@
--- In a quiet state every deletion was sent, read and treated.
-use Prim.Native.Nat.{ℕ, suc, _<_}
-use mathlib.Core.Bool.{Bool, true, false, cond, _&&_, _||_, not}
+-- In a quiet state every deletion was sent, read and treated: none waits.
+use Prim.Native.Nat.{ℕ, suc, _+_, _<_, _≤_}
+use mathlib.Core.Bool.{Bool, true, false, not}
 use mathlib.Core.List.{List}
-use mathlib.Core.Path.{_≡_, ap}
-use native.Mathlib.Decide.{ℕ-discrete}
-use native.Mathlib.Nat.{not-suc-le-zero}
+use mathlib.Core.Path.{_≡_, _∙_, ap}
 use native.Mathlib.Omega.{arith}
-use borrow.Author.Tests.{eq-eqb}
-use lib.Dec.{eqb}
-use Rattle.base.proofs.Below.{every-below}
-use Rattle.base.proofs.Bools.{and-left, or-left, or-right, not-of-true}
-use Rattle.base.proofs.Weight.{weighs-any, counts-any}
-use Rattle.base.specs.Below.{one}
-use Rattle.base.specs.Choice.{anyOf}
+use borrow.Author.Tests.{le-ltb}
+use Rattle.base.proofs.Below.{some-below}
+use Rattle.base.proofs.Bools.{clash, and-left, refuted}
+use Rattle.base.specs.Below.{anyBelow}
 use Rattle.network.proofs.Loaded.{loaded-variable}
-use Rattle.network.specs.Network.{Label, isLabel, loaded}
-use Rattle.disac4.proofs.Flow.{Flow, flows}
-use Rattle.disac4.proofs.Occurrences.{occurs, sentBy, readBy}
+use Rattle.network.specs.Network.{Label, loaded}
+use Rattle.disac4.proofs.Occurrences.{occurs}
+use Rattle.disac4.proofs.Pending.{waits-read, waits-treated, pinned}
 use Rattle.disac4.proofs.Quiet.{Quiet}
-use Rattle.disac4.proofs.Treated.{sent-exactly, read-exactly, treated-exactly}
-use Rattle.disac4.specs.Event.{Event, sent, taken, treated, events, holds, isSentWith, isReadWith, isTreatOf, unsent, unread, untreated, deleted}
+use Rattle.disac4.proofs.Treated.{onItsWay, on-its-way, none-later}
+use Rattle.disac4.specs.Demands.{Done}
+use Rattle.disac4.specs.Event.{holds, deleted}
 use Rattle.disac4.specs.Loading.{load}
+use Rattle.disac4.specs.Pending.{toBeSent, toBeRead, toBeTreated, Pinned}
+use Rattle.disac4.specs.Report.{final}
 use Rattle.disac4.specs.State.{State}
 use Rattle.disac4.specs.System.{System, Worker, Sound}
 use Rattle.disac4.specs.Turn.{Turn, play}
 
-module _ (sys : System) (sound : Sound sys) (ts : List Turn) (quiet : Quiet sys (play sys (load sys) ts)) (x v : ℕ)
-    (gone : deleted sys (play sys (load sys) ts) x v ≡ true) where
-  abbrev run : List Event
-  run = events sys (load sys) ts
+module _ (sys : System) (x v : ℕ) (st : State) (o : Worker sys (sys .owner x)) (q : Quiet sys st) where
+  -- no label is to be sent
+  none-to-send : toBeSent sys st x v ≡ false
+  unfolding toBeSent holds
+  none-to-send = ap (λ (l : List Label). holds l x v) (q .no-send (sys .owner x) o)
 
-  abbrev end : State
-  end = play sys (load sys) ts
+  -- or read
+  none-to-read : (i : ℕ) → i ≤ sys .workers → toBeRead sys st i x v ≡ false
+  none-to-read i h =
+      waits-read sys x v st i
+      ∙ le-ltb 0 (onItsWay sys x v st i) (omega (arith, on-its-way sys x v st i, none-later sys x v st o q i h))
 
-  flow : Flow sys x v end run
-  flow = flows sys x v sound ts
-
-  own : Worker sys (sys .owner x)
-  unfolding deleted
-  own = sound .owned x (loaded-variable (sys .net) x v (and-left (loaded (sys .net) x v) (not (end .domain x v)) gone))
-
-  -- ---- an occurrence in an event is one in the event's labels
-
-  carries : (b : Bool) (labels : List Label) → 0 < cond b (occurs x v labels) 0 → (b && holds labels x v) ≡ true
-  unfolding holds
-  carries true labels h = counts-any (isLabel x v) labels h
-  carries false labels h = absurd (not-suc-le-zero h)
-
-  sent-with : (k : ℕ) (e : Event) → 0 < sentBy x v k e → isSentWith k x v e ≡ true
-  sent-with k (sent j labels) h = carries (eqb j k) labels h
-  sent-with k (taken i j labels) h = absurd (not-suc-le-zero h)
-  sent-with k (treated j a) h = absurd (not-suc-le-zero h)
-
-  read-with : (k i : ℕ) (e : Event) → 0 < readBy x v i k e → isReadWith k i x v e ≡ true
-  read-with k i (taken l j labels) h = carries (eqb l i && eqb j k) labels h
-  read-with k i (sent j labels) h = absurd (not-suc-le-zero h)
-  read-with k i (treated j a) h = absurd (not-suc-le-zero h)
-
-  -- a deleted label was sent by its owner
-  pub quiet-sent : unsent sys run x v ≡ false
-  unfolding unsent
-  quiet-sent =
-      not-of-true
-      (weighs-any (sentBy x v (sys .owner x)) (isSentWith (sys .owner x) x v) (sent-with (sys .owner x)) run
-      (omega (arith, sent-exactly sys x v end run flow own quiet, ap one gone)))
-
-  -- and read by every other actor
-  pub quiet-read : unread sys run x v ≡ false
-  unfolding unread
-  quiet-read =
-      not-of-true
-      (every-below (suc (sys .workers)) (λ i. eqb i (sys .owner x) || anyOf (isReadWith (sys .owner x) i x v) run)
-      (λ i h.
-      elim (ℕ-discrete i (sys .owner x)) [
-        | yes e ↦ or-left (anyOf (isReadWith (sys .owner x) i x v) run) (eq-eqb i (sys .owner x) e)
-        | no n ↦
-            or-right (eqb i (sys .owner x))
-            (weighs-any (readBy x v i (sys .owner x)) (isReadWith (sys .owner x) i x v) (read-with (sys .owner x) i) run
-            (omega (arith, read-exactly sys x v end run flow own quiet i (omega arith) n, ap one gone)))
-      ]))
-
-  -- and treated by every worker
-  pub quiet-treated : untreated sys run x v ≡ false
-  unfolding untreated
-  quiet-treated =
-      not-of-true
-      (every-below (sys .workers) (λ i. anyOf (isTreatOf (suc i) x v) run)
-      (λ i h.
-      counts-any (isTreatOf (suc i) x v) run
+  -- or treated
+  none-to-treat : (k : ℕ) → Worker sys k → toBeTreated sys st k x v ≡ false
+  none-to-treat k w =
+      waits-treated sys x v st k
+      ∙ le-ltb 0 (occurs x v (st .workList k) + onItsWay sys x v st k)
       (omega (
         arith,
-        treated-exactly sys x v end run flow own quiet (suc i) (record { above = omega arith; within = h }),
-        ap one gone,
-      ))))
+        ap (occurs x v) (q .no-work k w),
+        on-its-way sys x v st k,
+        none-later sys x v st o q k (w .within),
+      ))
+
+-- where each fails, none passes
+none-passes : (n : ℕ) (t : ℕ → Bool) → ((i : ℕ) → i < n → t i ≡ false) → anyBelow n t ≡ false
+none-passes n t f = refuted (anyBelow n t) (λ e. let (i, h, p) = some-below n t e in clash p (f i h))
+
+-- in a quiet state a deletion is neither unsent nor unread nor untreated
+pub quiet-done : (sys : System) → Sound sys → (ts : List Turn) → Quiet sys (play sys (load sys) ts) → (x v : ℕ)
+    → deleted sys (play sys (load sys) ts) x v ≡ true → Done sys ts x v
+unfolding final deleted
+quiet-done sys sound ts q x v gone = record {
+  is-sent = pin .unsent-exactly ∙ none-to-send sys x v end own q;
+  is-read =
+      pin .unread-exactly
+      ∙ none-passes (suc (sys .workers)) (λ i. toBeRead sys end i x v)
+      (λ i h. none-to-read sys x v end own q i (omega arith));
+  is-treated =
+      pin .untreated-exactly
+      ∙ none-passes (sys .workers) (λ i. toBeTreated sys end (suc i) x v)
+      (λ i h. none-to-treat sys x v end own q (suc i) (record { above = omega arith; within = h }));
+}
+  where
+    end : State
+    end = play sys (load sys) ts
+
+    pin : Pinned sys ts x v
+    pin = pinned sys sound ts x v gone
+
+    own : Worker sys (sys .owner x)
+    own = sound .owned x (loaded-variable (sys .net) x v (and-left (loaded (sys .net) x v) (not (end .domain x v)) gone))

@@ -17,11 +17,12 @@ use Rattle.plan.specs.Network.{networkOf}
 use Rattle.plan.specs.Plan.{Plan}
 use Rattle.plan.specs.WellFormed.{WellFormed}
 use Rattle.disac4.proofs.Bound.{changes-exactly, changes-bounded}
-use Rattle.disac4.proofs.Delivered.{quiet-sent, quiet-read, quiet-treated}
+use Rattle.disac4.proofs.Delivered.{quiet-done}
 use Rattle.disac4.proofs.Final.{closed-stays, domain-shrinks}
 use Rattle.disac4.proofs.Fold.{play-append}
 use Rattle.disac4.proofs.Largest.{never-lost, quiet-largest}
 use Rattle.disac4.proofs.GoesOn.{progress}
+use Rattle.disac4.proofs.Pending.{pinned}
 use Rattle.disac4.proofs.RoundRun.{turns-closed, turns-open, round-run-closes, round-run-complete}
 use Rattle.disac4.proofs.Rounds.{round-allowed}
 use Rattle.disac4.proofs.Safety.{closed-quiet}
@@ -39,13 +40,8 @@ module _ (sys : System) (sound : Sound sys) (ts : List Turn) where
   unfolding final closedAfter
   demand3-of = record {
     keeps-largest = λ d largest. never-lost sys sound ts d (largest-consistent (sys .net) d largest);
-    all-done = λ closed x v gone.
-        let quiet = closed-quiet sound ts closed in
-        record {
-          is-sent = quiet-sent sys sound ts quiet x v gone;
-          is-read = quiet-read sys sound ts quiet x v gone;
-          is-treated = quiet-treated sys sound ts quiet x v gone;
-        };
+    all-done = λ closed. quiet-done sys sound ts (closed-quiet sound ts closed);
+    pinned = pinned sys sound ts;
     counted = changes-exactly sys (sound .few);
     bounded = changes-bounded sys sound ts;
     goes-on = λ running.

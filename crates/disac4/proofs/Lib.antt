@@ -17,6 +17,7 @@ pub mod Expected
 pub mod Final
 pub mod Flow
 pub mod Fold
+pub mod Found
 pub mod GoesOn
 pub mod Idle
 pub mod IdleAction
@@ -25,6 +26,7 @@ pub mod Moves
 pub mod Occurrences
 pub mod Order
 pub mod Outcome
+pub mod Pending
 pub mod PollBound
 pub mod Potential
 pub mod QueueLengths

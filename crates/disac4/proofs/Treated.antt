@@ -46,15 +46,34 @@ module _ (sys : System) (x v : ℕ) (st : State) where
   abbrev pub onItsWay : ℕ → ℕ
   onItsWay k = cond (eqb k (sys .owner x)) 0 (sentLater k)
 
-  on-its-way : (k : ℕ) → onItsWay k ≤ sentLater k
+  pub on-its-way : (k : ℕ) → onItsWay k ≤ sentLater k
   on-its-way k = at-most (eqb k (sys .owner x)) (sentLater k)
     where
       at-most : (b : Bool) (n : ℕ) → cond b 0 n ≤ n
       at-most true n = omega arith
       at-most false n = omega arith
 
+  module _ (o : Worker sys (sys .owner x)) (q : Quiet sys st) where
+    -- in a quiet state there is neither
+    pub none-later : (k : ℕ) → k ≤ sys .workers → sentLater k ≡ 0
+    none-later k h =
+        omega (
+          arith,
+          ap (occurs x v) (q .no-send (sys .owner x) o),
+          no-list-carries x v (st .channel (sys .owner x) k) (q .no-list (sys .owner x) k (o .within) h),
+        )
+
 module _ (sys : System) (x v : ℕ) (st : State) (es : List Event) (f : Flow sys x v st es) where
-  -- a deleted label was treated by each worker, is on its work list or on its way to it: one of them, and once
+  -- a deleted label was sent by its owner or is on its to-send list: one of them, and once
+  pub sent-or-waits : weigh (sentBy x v (sys .owner x)) es + occurs x v (st .toSend (sys .owner x)) ≡ one (deleted sys st x v)
+  sent-or-waits = omega (arith, own sys x v st, f .sending (sys .owner x))
+
+  -- it was read by each other actor, or is still to be sent or on its way to it
+  pub read-or-waits : (i : ℕ) → i ≤ sys .workers → (i ≡ sys .owner x → ⊥)
+      → weigh (readBy x v i (sys .owner x)) es + sentLater sys x v st i ≡ one (deleted sys st x v)
+  read-or-waits i h n = omega (arith, sent-or-waits, f .reading (sys .owner x) i h n)
+
+  -- it was treated by each worker, is on its work list or on its way to it
   pub treated-or-waits : (k : ℕ) → Worker sys k
       → weigh (treatedBy x v k) es + occurs x v (st .workList k) + onItsWay sys x v st k ≡ one (deleted sys st x v)
   treated-or-waits k w =
@@ -72,41 +91,23 @@ module _ (sys : System) (x v : ℕ) (st : State) (es : List Event) (f : Flow sys
         | no n ↦
             omega (
               arith,
-              own sys x v st,
               other sys x v st k n,
               f .treating k (w .above),
-              f .reading (sys .owner x) k (w .within) n,
-              f .sending (sys .owner x),
+              read-or-waits k (w .within) n,
               cond-false 0 (sentLater sys x v st k) (ne-eqb k (sys .owner x) n),
             )
       ]
 
   module _ (o : Worker sys (sys .owner x)) (q : Quiet sys st) where
-    -- in a quiet state a deleted label was sent once by its owner
-    pub sent-exactly : weigh (sentBy x v (sys .owner x)) es ≡ one (deleted sys st x v)
-    sent-exactly = omega (arith, own sys x v st, f .sending (sys .owner x), ap (occurs x v) (q .no-send (sys .owner x) o))
-
-    -- and read once by every other actor
-    pub read-exactly : (i : ℕ) → i ≤ sys .workers → (i ≡ sys .owner x → ⊥)
-        → weigh (readBy x v i (sys .owner x)) es ≡ one (deleted sys st x v)
-    read-exactly i h n =
-        omega (
-          arith,
-          sent-exactly,
-          f .reading (sys .owner x) i h n,
-          no-list-carries x v (st .channel (sys .owner x) i) (q .no-list (sys .owner x) i (o .within) h),
-        )
-
-    -- and treated once by every worker
+    -- in a quiet state a deleted label was treated once by every worker
     pub treated-exactly : (k : ℕ) → Worker sys k → weigh (treatedBy x v k) es ≡ one (deleted sys st x v)
     treated-exactly k w =
         omega (
           arith,
           treated-or-waits k w,
           ap (occurs x v) (q .no-work k w),
-          ap (occurs x v) (q .no-send (sys .owner x) o),
-          no-list-carries x v (st .channel (sys .owner x) k) (q .no-list (sys .owner x) k (o .within) (w .within)),
           on-its-way sys x v st k,
+          none-later sys x v st o q k (w .within),
         )
 
 -- ---- the whole run

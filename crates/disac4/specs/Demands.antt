@@ -12,6 +12,7 @@ use Rattle.network.specs.Network.{Domains}
 use Rattle.network.specs.Solution.{Solution}
 use Rattle.disac4.specs.Event.{events, unsent, unread, untreated, deleted}
 use Rattle.disac4.specs.Loading.{load}
+use Rattle.disac4.specs.Pending.{Pinned}
 use Rattle.disac4.specs.Report.{final}
 use Rattle.disac4.specs.Round.{round, roundTurns, roundRunTurns}
 use Rattle.disac4.specs.State.{State}
@@ -34,6 +35,8 @@ pub record Demand3 (sys : System) (ts : List Turn) : Type 0 where
   pub keeps-largest : (d : Domains) → Largest (sys .net) d → Within d (final sys ts .domain)
   -- a closed plan has no deletion unsent, unread or untreated
   pub all-done : closedAfter sys ts ≡ true → (x v : ℕ) → deleted sys (final sys ts) x v ≡ true → Done sys ts x v
+  -- open or closed, a deletion is unsent, unread or untreated exactly while the state has it still to be sent, read or treated
+  pub pinned : (x v : ℕ) → deleted sys (final sys ts) x v ≡ true → Pinned sys ts x v
   -- a turn is counted exactly if the state after it differs from the state before
   pub counted : (st : State) (t : Turn) → (changes sys st t ≡ true) ↔ (after sys st t ≡ st → ⊥)
   -- at most 5pL + 2L + 3p + 1 turns changed something

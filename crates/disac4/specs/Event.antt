@@ -77,7 +77,7 @@ isTreatOf k x v (treated j a) = eqb j k && isLabel x v a
 isTreatOf k x v (sent j labels) = false
 isTreatOf k x v (taken i j labels) = false
 
--- Of a deleted label:
+-- Of a deleted label; what the state shows of it then is in `specs/Pending.antt`:
 
 -- unsent until a send of its owner carries it
 unfoldable pub unsent : System → List Event → ℕ → ℕ → Bool

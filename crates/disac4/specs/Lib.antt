@@ -6,6 +6,7 @@ pub mod Fold
 pub mod Loading
 pub mod Need
 pub mod Outcome
+pub mod Pending
 pub mod Report
 pub mod Round
 pub mod State
