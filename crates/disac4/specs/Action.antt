@@ -1,13 +1,14 @@
 -- The actions (deeds) of workers and controller, each as document 01 words it: the next state, or nothing where it is idle.
+-- A state after an action names only what changes; `st` is the state before it throughout.
 use Prim.Native.Nat.{ℕ, suc, _-_}
 use mathlib.Core.Bool.{Bool, true, false, cond, _&&_, not}
 use mathlib.Core.List.{List, [], _∷_, _++_}
 use mathlib.Core.Option.{Option, none, some}
 use lib.Dec.{leb, eqb}
 use Rattle.base.specs.Below.{allBelow}
-use Rattle.base.specs.Choice.{update, update₂}
+use Rattle.base.specs.Choice.{update}
 use Rattle.network.specs.Network.{Label, labelsWhere, supports}
-use Rattle.disac4.specs.State.{State, Message, list, poll, reply}
+use Rattle.disac4.specs.State.{State, Message, list, poll, reply, _|>_, setDomain, setCounter, setWorkList, setToSend, setHeld, setListCounter, setChannels, setChannel, setTimestamp, setPollOpen, setMarked, setClosed}
 use Rattle.disac4.specs.System.{System}
 use Rattle.disac4.specs.declared.ListCounter.{ListCounter}
 use Rattle.disac4.specs.declared.Poll.{Poll}
@@ -45,16 +46,12 @@ deletions sys k a st = labelsWhere (sys .net) (deletes sys k a st)
 
 -- worker `k` has treated `a`, and `rest` was behind it on the work list
 unfoldable pub afterTreat : System → ℕ → Label → List Label → State → State
-afterTreat sys k a rest st = record {
-  domain = λ x v. st .domain x v && not (deletes sys k a st x v);
-  counter = lowered sys k a st;
-  workList = update (st .workList) k (rest ++ deletions sys k a st);
-  toSend = update (st .toSend) k (st .toSend k ++ deletions sys k a st);
-  held = st .held;
-  listCounter = st .listCounter;
-  channel = st .channel;
-  controller = st .controller;
-}
+afterTreat sys k a rest st =
+    st
+    |> setCounter (lowered sys k a st)
+    |> setDomain (λ x v. st .domain x v && not (deletes sys k a st x v))
+    |> setWorkList k (rest ++ deletions sys k a st)
+    |> setToSend k (st .toSend k ++ deletions sys k a st)
 
 -- treat, with this work list: idle where it is empty
 abbrev pub treatFrom : System → ℕ → State → List Label → Option State
@@ -69,16 +66,11 @@ treat sys k st = treatFrom sys k st (st .workList k)
 
 -- worker `k` has sent
 unfoldable pub afterSend : System → ℕ → State → State
-afterSend sys k st = record {
-  domain = st .domain;
-  counter = st .counter;
-  workList = st .workList;
-  toSend = update (st .toSend) k [];
-  held = st .held;
-  listCounter = update (st .listCounter) k (suc (st .listCounter k));  -- one more list sent
-  channel = broadcast (sys .workers) k (list (st .toSend k)) (st .channel);
-  controller = st .controller;
-}
+afterSend sys k st =
+    st
+    |> setChannels (broadcast (sys .workers) k (list (st .toSend k)) (st .channel))
+    |> setToSend k []
+    |> setListCounter k (suc (st .listCounter k))  -- one more list sent
 
 -- worker `k` sends
 unfoldable pub send : System → ℕ → State → Option State
@@ -88,42 +80,19 @@ send sys k st = cond (isEmpty (st .toSend k)) none (some (afterSend sys k st))
 
 -- worker `k` has read a list message from `j`; `rest` was behind it in the channel
 unfoldable pub afterList : ℕ → ℕ → List Label → List Message → State → State
-afterList j k labels rest st = record {
-  domain = st .domain;
-  counter = st .counter;
-  workList = update (st .workList) k (st .workList k ++ labels);
-  toSend = st .toSend;
-  held = st .held;
-  listCounter = update (st .listCounter) k (suc (st .listCounter k));  -- one more list read
-  channel = update₂ (st .channel) j k rest;
-  controller = st .controller;
-}
+afterList j k labels rest st =
+    st
+    |> setChannel j k rest
+    |> setWorkList k (st .workList k ++ labels)
+    |> setListCounter k (suc (st .listCounter k))  -- one more list read
 
 -- a poll replaces the poll that is held
 unfoldable pub afterPoll : ℕ → ℕ → Poll → List Message → State → State
-afterPoll j k q rest st = record {
-  domain = st .domain;
-  counter = st .counter;
-  workList = st .workList;
-  toSend = st .toSend;
-  held = update (st .held) k (some q);
-  listCounter = st .listCounter;
-  channel = update₂ (st .channel) j k rest;
-  controller = st .controller;
-}
+afterPoll j k q rest st = st |> setChannel j k rest |> setHeld k (some q)
 
 -- a message that its reader has no use for is dropped
 unfoldable pub afterDrop : ℕ → ℕ → List Message → State → State
-afterDrop j k rest st = record {
-  domain = st .domain;
-  counter = st .counter;
-  workList = st .workList;
-  toSend = st .toSend;
-  held = st .held;
-  listCounter = st .listCounter;
-  channel = update₂ (st .channel) j k rest;
-  controller = st .controller;
-}
+afterDrop j k rest st = setChannel j k rest st
 
 -- read, with these messages in the channel from `j`: idle where there is none. No worker is ever sent a reply
 abbrev pub readFrom : ℕ → ℕ → State → List Message → Option State
@@ -140,16 +109,7 @@ readWorker j k st = readFrom j k st (st .channel j k)
 
 -- worker `k` has answered poll `q`, which is no longer held
 unfoldable pub afterAnswer : ℕ → Poll → State → State
-afterAnswer k q st = record {
-  domain = st .domain;
-  counter = st .counter;
-  workList = st .workList;
-  toSend = st .toSend;
-  held = update (st .held) k none;
-  listCounter = st .listCounter;
-  channel = update₂ (st .channel) k 0 (st .channel k 0 ++ (reply (q .number) ∷ []));
-  controller = st .controller;
-}
+afterAnswer k q st = st |> setChannel k 0 (st .channel k 0 ++ (reply (q .number) ∷ [])) |> setHeld k none
 
 -- both lists are empty, and the count of lists equals the wanted count
 unfoldable pub ready : ℕ → Poll → State → Bool
@@ -180,21 +140,12 @@ nextPoll st = record { number = nextNumber st; wanted = listsRead st }
 
 -- the poll number goes up by one, and all marks are cleared
 unfoldable pub afterAsk : System → State → State
-afterAsk sys st = record {
-  domain = st .domain;
-  counter = st .counter;
-  workList = st .workList;
-  toSend = st .toSend;
-  held = st .held;
-  listCounter = st .listCounter;
-  channel = broadcast (sys .workers) 0 (poll (nextPoll st)) (st .channel);
-  controller = record {
-    timestamp = suc (st .controller .timestamp);
-    pollOpen = true;
-    marked = λ k. false;
-    closed = st .controller .closed;
-  };
-}
+afterAsk sys st =
+    st
+    |> setTimestamp (suc (st .controller .timestamp))
+    |> setPollOpen true
+    |> setMarked (λ k. false)
+    |> setChannels (broadcast (sys .workers) 0 (poll (nextPoll st)) (st .channel))
 
 -- the controller polls
 unfoldable pub ask : System → State → Option State
@@ -204,21 +155,11 @@ ask sys st = cond (st .controller .pollOpen) none (some (afterAsk sys st))
 
 -- a list message adds one to the count and ends an open poll
 unfoldable pub afterCount : ℕ → List Message → State → State
-afterCount k rest st = record {
-  domain = st .domain;
-  counter = st .counter;
-  workList = st .workList;
-  toSend = st .toSend;
-  held = st .held;
-  listCounter = update (st .listCounter) 0 (suc (st .listCounter 0));
-  channel = update₂ (st .channel) k 0 rest;
-  controller = record {
-    timestamp = st .controller .timestamp;
-    pollOpen = false;
-    marked = st .controller .marked;
-    closed = st .controller .closed;
-  };
-}
+afterCount k rest st =
+    st
+    |> setChannel k 0 rest
+    |> setListCounter 0 (suc (st .listCounter 0))
+    |> setPollOpen false
 
 -- every worker is marked
 unfoldable pub allMarked : System → (ℕ → Bool) → Bool
@@ -226,21 +167,11 @@ allMarked sys marked = allBelow (sys .workers) (λ i. marked (suc i))
 
 -- a reply to the open poll marks its worker; with all marked, the plan is closed
 unfoldable pub afterMark : System → ℕ → List Message → State → State
-afterMark sys k rest st = record {
-  domain = st .domain;
-  counter = st .counter;
-  workList = st .workList;
-  toSend = st .toSend;
-  held = st .held;
-  listCounter = st .listCounter;
-  channel = update₂ (st .channel) k 0 rest;
-  controller = record {
-    timestamp = st .controller .timestamp;
-    pollOpen = st .controller .pollOpen;
-    marked = update (st .controller .marked) k true;
-    closed = allMarked sys (update (st .controller .marked) k true);
-  };
-}
+afterMark sys k rest st =
+    st
+    |> setChannel k 0 rest
+    |> setMarked (update (st .controller .marked) k true)
+    |> setClosed (allMarked sys (update (st .controller .marked) k true))
 
 -- a reply to the open poll, and no other
 unfoldable pub current : Timestamp → State → Bool

@@ -11,10 +11,10 @@ use lib.Dec.{leb, ltb, eqb}
 use Rattle.base.proofs.Below.{all-ext}
 use Rattle.base.proofs.Bools.{and-true}
 use Rattle.base.proofs.Choice.{cond-true, cond-false, update-same, update-other}
-use Rattle.base.specs.Choice.{update, update₂}
+use Rattle.base.specs.Choice.{update}
 use Rattle.base.specs.Row.{bit}
 use Rattle.disac4.specs.Action.{afterCount, afterMark, afterDrop, allMarked, current, controllerFrom, readController}
-use Rattle.disac4.specs.State.{State, Controller, list, reply}
+use Rattle.disac4.specs.State.{State, Controller, list, reply, stateOf, setChannel}
 use Rattle.disac4.specs.System.{System}
 use Rattle.disac4.specs.declared.Tally.{Tally}
 use Rattle.cells.proofs.Queue.{read-queue}
@@ -60,16 +60,9 @@ module _ (sys : System) (small : Small sys) (s : Machine) (inv : Inv sys s) (i :
     pub controller : view sys m t′ .controller ≡ c
 
   abbrev after : (ℕ → ℕ) → Controller → State
-  after lists c = record {
-    domain = viewOf sys s .domain;
-    counter = viewOf sys s .counter;
-    workList = viewOf sys s .workList;
-    toSend = viewOf sys s .toSend;
-    held = viewOf sys s .held;
-    listCounter = lists;
-    channel = update₂ (viewOf sys s .channel) (suc i) 0 (contents (outQueue m′ i));
-    controller = c;
-  }
+  after lists c =
+      let st = setChannel (suc i) 0 (contents (outQueue m′ i)) (viewOf sys s) in
+      stateOf (st .domain) (st .counter) (st .workList) (st .toSend) (st .held) lists (st .channel) c
 
   heard-view : (t′ : Tally) (lists : ℕ → ℕ) (c : Controller) → Told t′ lists c → view sys m′ t′ ≡ after lists c
   unfolding view-parts outReadM
