@@ -227,15 +227,20 @@ round-run-tells b work lists work′ lists′ a g =
     (λ h. absurd (false≢true (sym h ∙ empty-fits b .list-fits)))
     (λ h. absurd (omega arith)))
 
--- where it reports, the plan is closed after its turns, and the status is never open
-pub round-run-ends : (b work lists work′ lists′ : List ℕ) (r : Report) → Gives (roundRun b work lists) (Reported r) work′ lists′
-    → RoundCloses (systemAt b) × (r .status ≡ Open → ⊥)
+-- a report of its turns: the plan is closed after them, and the status is never open
+pub round-ends : (b work lists work′ lists′ : List ℕ) (r : Report)
+    → ReportedRun b (roundRunTurns (systemAt b)) work lists work′ lists′ r → RoundCloses (systemAt b) × (r .status ≡ Open → ⊥)
 unfolding reportOf statusOf closedAfter
-round-run-ends b work lists work′ lists′ r g =
-    let ran = round-run-tells b work lists work′ lists′ _ g .reported r refl in
+round-ends b work lists work′ lists′ r ran =
     let closes = round-closes-plan b (planOf b) (ran .accepts) in (
       closes,
       λ o.
           never-open _ (eqb (lowestEmpty (systemAt b) (final (systemAt b) (roundRunTurns (systemAt b)))) 0) (closes .closes)
           (sym (ap (λ (r : Report). r .status) (ran .report)) ∙ o),
     )
+
+-- so wherever it reports
+pub round-run-ends : (b work lists work′ lists′ : List ℕ) (r : Report) → Gives (roundRun b work lists) (Reported r) work′ lists′
+    → RoundCloses (systemAt b) × (r .status ≡ Open → ⊥)
+round-run-ends b work lists work′ lists′ r g =
+    round-ends b work lists work′ lists′ r (round-run-tells b work lists work′ lists′ _ g .reported r refl)

@@ -1,6 +1,7 @@
 -- From an answer to its numbers, and back.
 use Prim.Native.Nat.{ℕ}
 use mathlib.Core.List.{List, []}
+use mathlib.Core.Logic.{_⊎_, inl, inr}
 use mathlib.Core.Path.{_≡_, refl, _∙_, ap, subst}
 use native.Mathlib.Omega.{arith}
 use lib.ListN.{getD}
@@ -10,16 +11,18 @@ use Rattle.disac4.specs.System.{systemAt}
 use Rattle.disac4.specs.Turn.{Turn, turnsOf}
 use Rattle.disac4.specs.declared.Answer.{Answer}
 use Rattle.disac4.specs.declared.Answer.the-variants.{Reported, Declined}
+use Rattle.disac4.specs.declared.Status.{Status}
+use Rattle.disac4.specs.declared.Status.the-variants.{Open, Closed, Bare}
 use Rattle.plan.specs.Answer.{planCheck}
 use Rattle.faults.specs.Fault.{numberOf}
 use Rattle.plan.specs.declared.Checked as checked
 use Rattle.plan.specs.declared.Checked.{Checked}
 use Rattle.faults.specs.declared.Decline.{Decline}
 use Rattle.faults.proofs.FaultNumbers.{number-range}
-use Rattle.numbers.specs.Numbers.{answerNumbers, checkedNumbers}
-use Rattle.tinshrew.proofs.Conclusions.{check-accepts, check-accepted, check-declined, turn-run-tells, round-run-tells}
+use Rattle.numbers.specs.Numbers.{answerNumbers, checkedNumbers, statusNumber}
+use Rattle.tinshrew.proofs.Conclusions.{check-accepts, check-accepted, check-declined, turn-run-tells, round-run-tells, round-ends}
 use Rattle.tinshrew.specs.Conclusions.{PlanAndBuffersFit, TurnsFit, DeclinedRun, ReportedRun, RunTells}
-use Rattle.tinshrew.specs.Numbers.{GivesNumbers, NumbersTell, CheckNumbers, RunNumbers}
+use Rattle.tinshrew.specs.Numbers.{GivesNumbers, NumbersTell, CheckNumbers, RunNumbers, RoundNumbers}
 
 -- what a call gives, with its answer written as numbers
 pub as-numbers : (o : Outcome) (r : Answer) (out work lists : List ℕ) → out ≡ answerNumbers r → Gives o r work lists
@@ -73,12 +76,26 @@ pub turn-numbers : (b ts work lists out work′ lists′ : List ℕ) → GivesNu
 turn-numbers b ts work lists out work′ lists′ g =
     rw (g .numbers) (run-numbers _ (turn-run-tells b ts work lists work′ lists′ _ (g .gives)))
 
--- of the round run
+-- a status other than open has the number of closed or of bare, not that of open
+ended-number : (s : Status) → (s ≡ Open → ⊥)
+    → ((statusNumber s ≡ statusNumber Closed) ⊎ (statusNumber s ≡ statusNumber Bare)) × (statusNumber s ≡ statusNumber Open → ⊥)
+ended-number Open not-open = absurd (not-open refl)
+ended-number Closed not-open = (inl refl, λ e. omega arith)
+ended-number Bare not-open = (inr refl, λ e. omega arith)
+
+-- of the round run, which leaves no plan open
 pub round-numbers : (b work lists out work′ lists′ : List ℕ) → GivesNumbers (roundRun b work lists) out work′ lists′
-    → RunNumbers out (PlanAndBuffersFit b work lists) (ReportedRun b (roundRunTurns (systemAt b)) work lists work′ lists′)
-    (DeclinedRun 10 b [] work lists work′ lists′)
+    → RoundNumbers b work lists out work′ lists′
+unfolding answerNumbers
 round-numbers b work lists out work′ lists′ g =
-    rw (g .numbers) (run-numbers _ (round-run-tells b work lists work′ lists′ _ (g .gives)))
+    rw (g .numbers)
+    (let run = run-numbers _ (round-run-tells b work lists work′ lists′ _ (g .gives)) in record {
+      run = run;
+      closes = λ z. let told = run .zero-told z in round-ends b work lists work′ lists′ (told .0) (told .1) .0;
+      ended = λ z.
+          let told = run .zero-told z in
+          rw (told .2) (ended-number (told .0 .status) (round-ends b work lists work′ lists′ (told .0) (told .1) .1));
+    })
 
 -- and of the plan check
 pub check-numbers : (b out : List ℕ) → out ≡ checkedNumbers (planCheck b) → CheckNumbers b out
