@@ -6,13 +6,12 @@ use faults::Verdict;
 use plan::Checked;
 use plan::declined;
 ghost use mathlib.Core.Path.{_≡_};
-ghost use Rattle.base.specs.Choice.{firstOf};
-ghost use Rattle.disac4.specs.Outcome.{Gives, bufferFault, inputFault, turnRun, roundRun};
+ghost use Rattle.disac4.specs.Outcome.{Gives, lent, runFault, runOf, turnRun, roundRun};
 ghost use Rattle.plan.specs.Answer.{checkOf};
 
 // The tests of a run in their order: 9, 10, 11, the plan's own, 12. Gives the first fault, or the plan's counts.
 fn check_run(plan: &[u8], turns: &[u8], work: &[u16], lists: &[u16]) -> Checked
-    ensures { λ r. ⌜ r ≡ checkOf (now (plan .entry)) (firstOf (bufferFault (now (work .entry)) (now (lists .entry))) (inputFault (now (plan .entry)) (now (turns .entry)))) ⌝ }
+    ensures { λ r. ⌜ r ≡ checkOf (now (plan .entry)) (runFault (turnRun (now (plan .entry)) (now (turns .entry))) (lent (now (work .entry)) (now (lists .entry)))) ⌝ }
 {
     let verdict = inputs::check_buffers(work, lists);
     if let Verdict::Fails(fault) = verdict {
@@ -35,7 +34,7 @@ fn check_run(plan: &[u8], turns: &[u8], work: &[u16], lists: &[u16]) -> Checked
 
 // Plays the turns of the list on a plan, and gives the report; declines as document 01 lists.
 pub fn run_turns(plan: &[u8], turns: &[u8], work: &mut [u16], lists: &mut [u16]) -> Answer
-    ensures { λ r. ⌜ Gives (turnRun (now (plan .entry)) (now (turns .entry)) (now (work .entry)) (now (lists .entry))) r (now (work .exit)) (now (lists .exit)) ⌝ }
+    ensures { λ r. ⌜ Gives (runOf (turnRun (now (plan .entry)) (now (turns .entry))) (lent (now (work .entry)) (now (lists .entry)))) r (lent (now (work .exit)) (now (lists .exit))) ⌝ }
 {
     match check_run(plan, turns, work, lists) {
         Checked::Declined(d) => Answer::Declined(d),
@@ -48,7 +47,7 @@ pub fn run_turns(plan: &[u8], turns: &[u8], work: &mut [u16], lists: &mut [u16])
 
 // Plays rounds on a plan until it is closed, and gives the report; declines as with an empty turn list.
 pub fn run_round(plan: &[u8], work: &mut [u16], lists: &mut [u16]) -> Answer
-    ensures { λ r. ⌜ Gives (roundRun (now (plan .entry)) (now (work .entry)) (now (lists .entry))) r (now (work .exit)) (now (lists .exit)) ⌝ }
+    ensures { λ r. ⌜ Gives (runOf (roundRun (now (plan .entry))) (lent (now (work .entry)) (now (lists .entry)))) r (lent (now (work .exit)) (now (lists .exit))) ⌝ }
 {
     match check_run(plan, b"", work, lists) {
         Checked::Declined(d) => Answer::Declined(d),

@@ -1,44 +1,44 @@
--- The order of a run's declines: 9, 10, 11; the plan's own; 12. Each law says what is found once all before it pass;
--- `by-fault` takes apart what is found. A round run declines as a run with an empty turn list does.
+-- The order of a run's declines: the buffers', 11, the plan's own, 12. `by-fault` takes apart what is found. A round run declines
+-- as a run with an empty turn list does.
 use Prim.Native.Nat.{ℕ, _/_, _<_, _≤_}
 use mathlib.Core.Bool.{Bool, true, false}
 use mathlib.Core.List.{List, [], _∷_}
 use mathlib.Core.Option.{Option, none, some}
 use mathlib.Core.Path.{_≡_, refl, sym, _∙_, ap}
-use borrow.Author.Tests.{le-leb, lt-leb, leb-true, leb-false}
-use lib.Dec.{leb}
+use borrow.Author.Tests.{le-leb, leb-true}
 use lib.ListN.{length}
 use Rattle.base.proofs.Below.{first-below, first-at, none-first}
 use Rattle.base.proofs.Choice.{by-test, cond-true, cond-false, none≢some, some-same, unless-some}
 use Rattle.base.specs.Below.{firstBelow}
 use Rattle.base.specs.Choice.{firstOf}
-use Rattle.faults.specs.CheckList.{_orElse_, firstFault, faultAt}
+use Rattle.faults.proofs.Checks.{each-holds}
+use Rattle.faults.specs.CheckList.{Check, _orElse_, firstFault, faultAt}
 use Rattle.plan.specs.Decode.{planFault}
 use Rattle.faults.specs.Fault.{decline}
 use Rattle.format.specs.Format.{workerCount}
 use Rattle.faults.specs.declared.Decline.{Decline}
-use Rattle.faults.specs.declared.Fault.the-variants.{ShortWork, ShortLists, BadTurnList, BadTurn}
-use Rattle.disac4.specs.Outcome.{bufferChecks, bufferFault, inputFault, runOf, roundRun, LongEnough}
+use Rattle.faults.specs.declared.Fault.{Fault}
+use Rattle.faults.specs.declared.Fault.the-variants.{BadTurnList, BadTurn}
+use Rattle.disac4.specs.Outcome.{Lent, bufferChecks, inputFault, runFault, turnRun, roundRun}
 use Rattle.disac4.specs.Need.{workNeed, listNeed}
-use Rattle.disac4.specs.Round.{roundRunTurns}
-use Rattle.disac4.specs.System.{systemAt}
 use Rattle.disac4.specs.Turn.{allowed, turnAt, turnListFits, turnFault, faultOf}
 
--- 9 comes first, whatever else is wrong
-pub short-work : (work lists : List ℕ) → length work < workNeed → bufferFault work lists ≡ some (decline ShortWork 0)
-unfolding bufferFault bufferChecks
-short-work work lists h = rw (lt-leb workNeed (length work) h)
+-- ---- 9 and 10
 
--- then 10
-pub short-lists : (work lists : List ℕ) → workNeed ≤ length work → length lists < listNeed
-    → bufferFault work lists ≡ some (decline ShortLists 0)
-unfolding bufferFault bufferChecks
-short-lists work lists g h = rw (le-leb workNeed (length work) g, lt-leb listNeed (length lists) h)
+-- buffers that pass their checks are long enough
+pub long-enough : (l : Lent) → firstFault (bufferChecks l) ≡ none → (workNeed ≤ length (l .work)) × (listNeed ≤ length (l .lists))
+unfolding bufferChecks
+long-enough l e = (
+  leb-true workNeed (length (l .work)) (each-holds (bufferChecks l) e 0),
+  leb-true listNeed (length (l .lists)) (each-holds (bufferChecks l) e 1),
+)
 
--- buffers of these sizes are never declined
-pub buffers-fit : (work lists : List ℕ) → LongEnough work lists → bufferFault work lists ≡ none
-unfolding bufferFault bufferChecks
-buffers-fit work lists long = rw (le-leb workNeed (length work) (long .0), le-leb listNeed (length lists) (long .1))
+-- and buffers that are long enough pass
+pub buffers-fit : (l : Lent) → workNeed ≤ length (l .work) → listNeed ≤ length (l .lists) → firstFault (bufferChecks l) ≡ none
+unfolding bufferChecks
+buffers-fit l g h = rw (le-leb workNeed (length (l .work)) g, le-leb listNeed (length (l .lists)) h)
+
+-- ---- 11 and the plan's own
 
 -- 11 comes before any fault of the plan
 pub bad-turn-list : (b ts : List ℕ) → turnListFits ts ≡ false → inputFault b ts ≡ some (decline BadTurnList 0)
@@ -46,10 +46,10 @@ unfolding inputFault
 bad-turn-list b ts h = rw h
 
 -- then the plan's own faults, then 12
-pub then-plan : (b ts work lists : List ℕ) (o : Option Decline) → bufferFault work lists ≡ none → turnListFits ts ≡ true
-    → firstOf (planFault b) (turnFault (workerCount b) ts) ≡ o → firstOf (bufferFault work lists) (inputFault b ts) ≡ o
+pub then-plan : (b ts : List ℕ) (o : Option Decline) → turnListFits ts ≡ true
+    → firstOf (planFault b) (turnFault (workerCount b) ts) ≡ o → inputFault b ts ≡ o
 unfolding inputFault
-then-plan b ts work lists o long list e = rw (long, list) e
+then-plan b ts o list e = rw list e
 
 -- without a turn list the plan's own are all
 pub no-turn-list : (b : List ℕ) → inputFault b [] ≡ planFault b
@@ -60,12 +60,10 @@ no-turn-list b = go (planFault b)
     go none = refl
     go (some d) = refl
 
--- so a round run is a run with an empty turn list
-pub round-without-list : (b work lists : List ℕ)
-    → roundRun b work lists ≡ runOf b (inputFault b []) (roundRunTurns (systemAt b)) work lists
-unfolding roundRun
-round-without-list b work lists =
-    ap (λ (o : Option Decline). runOf b o (roundRunTurns (systemAt b)) work lists) (sym (no-turn-list b))
+-- so a round run declines as a turn run with an empty turn list does
+pub round-without-list : (b : List ℕ) (l : Lent) → runFault (roundRun b) l ≡ runFault (turnRun b []) l
+unfolding runFault
+round-without-list b l = ap (firstOf (faultAt 0 (firstFault (bufferChecks l)))) (sym (no-turn-list b))
 
 -- ---- 12
 
@@ -109,41 +107,45 @@ module _ (p : ℕ) (ts : List ℕ) where
 
 -- ---- what is found
 
-module _ (b ts work lists : List ℕ) where
-  -- what holds of each fault, where none before it is there, and without any, holds of what is found
-  pub by-fault : (P : Option Decline → Type 0) → (length work < workNeed → P (some (decline ShortWork 0)))
-      → (workNeed ≤ length work → length lists < listNeed → P (some (decline ShortLists 0)))
-      → (LongEnough work lists → turnListFits ts ≡ false → P (some (decline BadTurnList 0)))
-      → (LongEnough work lists → turnListFits ts ≡ true → (d : Decline) → planFault b ≡ some d → P (some d))
-      → (LongEnough work lists → turnListFits ts ≡ true → planFault b ≡ none → BadTurnHas (workerCount b) ts (λ d. P (some d)))
-      → (LongEnough work lists → turnListFits ts ≡ true → planFault b ≡ none → turnFault (workerCount b) ts ≡ none → P none)
-      → P (firstOf (bufferFault work lists) (inputFault b ts))
-  unfolding bufferFault bufferChecks inputFault
-  by-fault P few-work few-lists bad-list bad-plan bad-turn without =
-      go (leb workNeed (length work)) refl (leb listNeed (length lists)) refl (turnListFits ts) refl (planFault b) refl
-      (turnFault (workerCount b) ts) refl
-    where
-      long : leb workNeed (length work) ≡ true → leb listNeed (length lists) ≡ true → LongEnough work lists
-      long p q = (leb-true workNeed (length work) p, leb-true listNeed (length lists) q)
+-- in the buffers, or else in the plan and the turn list
+abbrev foundIn : List Check → List ℕ → List ℕ → Option Decline
+foundIn checks b ts = firstOf (faultAt 0 (firstFault checks)) (inputFault b ts)
 
-      go : (s : Bool) → leb workNeed (length work) ≡ s → (t : Bool) → leb listNeed (length lists) ≡ t
-          → (u : Bool) → turnListFits ts ≡ u → (o : Option Decline) → planFault b ≡ o
-          → (i : Option Decline) → turnFault (workerCount b) ts ≡ i
-          → P (firstOf (faultAt 0 (firstFault ((s orElse ShortWork) ∷ (t orElse ShortLists) ∷ [])))
-          (firstOf (faultAt 0 (firstFault ((u orElse BadTurnList) ∷ []))) (firstOf o i)))
-      go false p t q u r o e i f = few-work (leb-false workNeed (length work) p)
-      go true p false q u r o e i f = few-lists (leb-true workNeed (length work) p) (leb-false listNeed (length lists) q)
-      go true p true q false r o e i f = bad-list (long p q) r
-      go true p true q true r (some d) e i f = bad-plan (long p q) r d e
-      go true p true q true r none e (some d) f = by-bad-turn (workerCount b) ts (λ d. P (some d)) (bad-turn (long p q) r e) d f
-      go true p true q true r none e none f = without (long p q) r e f
+module _ (checks : List Check) (b ts : List ℕ) where
+  -- what holds of each fault, where none before it is there, and without any, holds of what is found
+  pub by-fault : (P : Option Decline → Type 0) → ((f : Fault) → firstFault checks ≡ some f → P (some (decline f 0)))
+      → (firstFault checks ≡ none → turnListFits ts ≡ false → P (some (decline BadTurnList 0)))
+      → (firstFault checks ≡ none → turnListFits ts ≡ true → (d : Decline) → planFault b ≡ some d → P (some d))
+      → (firstFault checks ≡ none → turnListFits ts ≡ true → planFault b ≡ none → BadTurnHas (workerCount b) ts (λ d. P (some d)))
+      → (firstFault checks ≡ none → turnListFits ts ≡ true → planFault b ≡ none → turnFault (workerCount b) ts ≡ none → P none)
+      → P (foundIn checks b ts)
+  unfolding inputFault
+  by-fault P short bad-list bad-plan bad-turn without =
+      go (firstFault checks) refl (turnListFits ts) refl (planFault b) refl (turnFault (workerCount b) ts) refl
+    where
+      go : (c : Option Fault) → firstFault checks ≡ c → (u : Bool) → turnListFits ts ≡ u
+          → (o : Option Decline) → planFault b ≡ o → (i : Option Decline) → turnFault (workerCount b) ts ≡ i
+          → P (firstOf (faultAt 0 c) (firstOf (faultAt 0 (firstFault ((u orElse BadTurnList) ∷ []))) (firstOf o i)))
+      go (some f) p u r o e i g = short f p
+      go none p false r o e i g = bad-list p r
+      go none p true r (some d) e i g = bad-plan p r d e
+      go none p true r none e (some d) g = by-bad-turn (workerCount b) ts (λ d. P (some d)) (bad-turn p r e) d g
+      go none p true r none e none g = without p r e g
 
   -- where nothing is found
-  pub passed : firstOf (bufferFault work lists) (inputFault b ts) ≡ none
-      → LongEnough work lists × (turnListFits ts ≡ true) × (planFault b ≡ none) × (turnFault (workerCount b) ts ≡ none)
+  passed : foundIn checks b ts ≡ none
+      → (firstFault checks ≡ none) × (turnListFits ts ≡ true) × (planFault b ≡ none) × (turnFault (workerCount b) ts ≡ none)
   passed =
       by-fault
       (λ o. o ≡ none
-      → LongEnough work lists × (turnListFits ts ≡ true) × (planFault b ≡ none) × (turnFault (workerCount b) ts ≡ none))
-      (λ h e. none≢some (sym e)) (λ g h e. none≢some (sym e)) (λ g h e. none≢some (sym e)) (λ g h d p e. none≢some (sym e))
+      → (firstFault checks ≡ none) × (turnListFits ts ≡ true) × (planFault b ≡ none) × (turnFault (workerCount b) ts ≡ none))
+      (λ f h e. none≢some (sym e)) (λ g h e. none≢some (sym e)) (λ g h d p e. none≢some (sym e))
       (λ g h p i l bad before e. none≢some (sym e)) (λ g h p q e. (g, h, p, q))
+
+-- a turn run without fault has buffers that are long enough, an accepted plan and allowed turns
+pub turn-passed : (b ts : List ℕ) (l : Lent) → runFault (turnRun b ts) l ≡ none
+    → (workNeed ≤ length (l .work)) × (listNeed ≤ length (l .lists)) × (planFault b ≡ none) × (turnFault (workerCount b) ts ≡ none)
+unfolding runFault
+turn-passed b ts l e =
+    let all = passed (bufferChecks l) b ts e in
+    let long = long-enough l (all .0) in (long .0, long .1, all .2, all .3)

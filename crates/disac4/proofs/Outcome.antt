@@ -10,12 +10,13 @@ use lib.ListN.{length, getD, drop, replicate, length-append, length-drop, length
 use lib.Seq.{getD-append-add, getD-drop}
 use Rattle.base.proofs.Below.{length-list-below}
 use Rattle.base.proofs.Choice.{none≢some}
-use Rattle.base.specs.Choice.{firstOf}
+use Rattle.faults.specs.CheckList.{firstFault}
 use Rattle.faults.specs.declared.Decline.{Decline}
 use Rattle.plan.proofs.WellFormed.{read-well-formed}
 use Rattle.plan.specs.Decode.{planFault}
 use Rattle.plan.specs.Network.{networkOf}
-use Rattle.disac4.specs.Outcome.{Gives, overwrite, refused, played, outcomeBy, runOf, bufferFault, LongEnough, Written}
+use Rattle.disac4.proofs.Order.{long-enough}
+use Rattle.disac4.specs.Outcome.{Lent, Gives, overwrite, refused, played, bufferChecks, Run, runFault, outcomeBy, runOf, Written}
 use Rattle.disac4.specs.Need.{workNeed, listNeed}
 use Rattle.disac4.specs.Report.{listCells, final, reportOf}
 use Rattle.disac4.specs.State.{State}
@@ -53,59 +54,56 @@ pub list-cell-each : (sys : System) (st : State) → length (listCells sys st) �
 unfolding listCells
 list-cell-each sys st = length-list-below (sys .net .variables) _
 
--- an accepted plan has at most 32
+-- an accepted plan has room for them
 few-cells : (b : List ℕ) → planFault b ≡ none → (st : State) → length (listCells (systemAt b) st) ≤ listNeed
 unfolding systemOf networkOf listNeed
 few-cells b sound st = omega (arith, list-cell-each (systemAt b) st, read-well-formed b sound .variables-high)
 
--- so buffers that are long enough have room for what is written
-pub played-written : (b work lists : List ℕ) → planFault b ≡ none → LongEnough work lists → (turns : List Turn)
-    → Written work lists (systemAt b) turns (played work lists (systemAt b) turns)
+-- so buffers that pass their checks have room for what is written
+pub played-written : (b : List ℕ) (l : Lent) → planFault b ≡ none → firstFault (bufferChecks l) ≡ none → (turns : List Turn)
+    → Written l (systemAt b) turns (played l (systemAt b) turns .left)
 unfolding played
-played-written b work lists sound long turns =
+played-written b l sound passed turns =
+    let long = long-enough l passed in
     let cells = listCells (systemAt b) (final (systemAt b) turns) in record {
-      work-length = overwrite-length (replicate workNeed 0) work (omega (arith, length-replicate {A = ℕ} workNeed 0, long .0));
-      list-length = overwrite-length cells lists (omega (arith, few-cells b sound (final (systemAt b) turns), long .1));
+      work-length = overwrite-length (replicate workNeed 0) (l .work) (omega (arith, length-replicate {A = ℕ} workNeed 0, long .0));
+      list-length = overwrite-length cells (l .lists) (omega (arith, few-cells b sound (final (systemAt b) turns), long .1));
       cleared = λ i h.
-          overwrite-front (replicate workNeed 0) work i (omega (arith, length-replicate {A = ℕ} workNeed 0))
+          overwrite-front (replicate workNeed 0) (l .work) i (omega (arith, length-replicate {A = ℕ} workNeed 0))
           ∙ getD-replicate workNeed i 0 0 h;
-      work-kept = λ i h. overwrite-back (replicate workNeed 0) work i (omega (arith, length-replicate {A = ℕ} workNeed 0));
-      cells = overwrite-front cells lists;
-      lists-kept = overwrite-back cells lists;
+      work-kept = λ i h. overwrite-back (replicate workNeed 0) (l .work) i (omega (arith, length-replicate {A = ℕ} workNeed 0));
+      cells = overwrite-front cells (l .lists);
+      lists-kept = overwrite-back cells (l .lists);
     }
 
 -- ---- any run
 
-module _ (b : List ℕ) (fault : Option Decline) (turns : List Turn) (work lists : List ℕ) where
-  -- the first fault, of the buffers or of the inputs
-  abbrev found : Option Decline
-  found = firstOf (bufferFault work lists) fault
-
-  -- without one the turns are played
-  pub run-played : found ≡ none → runOf b fault turns work lists ≡ played work lists (systemAt b) turns
+module _ (r : Run) (l : Lent) where
+  -- without a fault the turns are played
+  pub run-played : runFault r l ≡ none → runOf r l ≡ played l (systemAt (r .plan)) (r .turns)
   unfolding runOf
-  run-played e = ap (outcomeBy b turns work lists) e
+  run-played e = ap (outcomeBy r l) e
 
-  -- with one it is declined, and no lent cell is changed
-  pub run-refused : (d : Decline) → found ≡ some d → Gives (runOf b fault turns work lists) (Declined d) work lists
+  -- with one the run is declined, and no lent cell is changed
+  pub run-refused : (d : Decline) → runFault r l ≡ some d → Gives (runOf r l) (Declined d) l
   unfolding runOf refused
-  run-refused d e = rw e (record { answer = refl; work-cells = refl; list-cells = refl })
+  run-refused d e = rw e (record { answer = refl; cells = refl })
 
-  -- a run reports exactly if there is none
-  pub run-reports : ((r : Report) × (runOf b fault turns work lists .answer ≡ Reported r)) ↔ (found ≡ none)
+  -- it reports exactly if there is none
+  pub run-reports : ((s : Report) × (runOf r l .answer ≡ Reported s)) ↔ (runFault r l ≡ none)
   unfolding runOf played refused
-  run-reports = go found
+  run-reports = go (runFault r l)
     where
-      go : (o : Option Decline) → ((r : Report) × (outcomeBy b turns work lists o .answer ≡ Reported r)) ↔ (o ≡ none)
-      go none = (λ s. refl, λ e. (reportOf (systemAt b) turns, refl))
+      go : (o : Option Decline) → ((s : Report) × (outcomeBy r l o .answer ≡ Reported s)) ↔ (o ≡ none)
+      go none = (λ s. refl, λ e. (reportOf (systemAt (r .plan)) (r .turns), refl))
       go (some d) = (λ s. let e = s .1 in let z : _≡_ {A = ℕ} 0 1 = cc in absurd (omega arith), λ e. none≢some (sym e))
 
   -- and declines exactly the one that there is
-  pub run-declines : (d : Decline) → (runOf b fault turns work lists .answer ≡ Declined d) ↔ (found ≡ some d)
+  pub run-declines : (d : Decline) → (runOf r l .answer ≡ Declined d) ↔ (runFault r l ≡ some d)
   unfolding runOf played refused
-  run-declines d = go found
+  run-declines d = go (runFault r l)
     where
-      go : (o : Option Decline) → (outcomeBy b turns work lists o .answer ≡ Declined d) ↔ (o ≡ some d)
+      go : (o : Option Decline) → (outcomeBy r l o .answer ≡ Declined d) ↔ (o ≡ some d)
       go none = (λ e. let z : _≡_ {A = ℕ} 0 1 = cc in absurd (omega arith), none≢some)
       go (some c) =
           (λ e. let same : c ≡ d = cc in ap {B = Option Decline} some same, λ e. let same : c ≡ d = cc in ap {B = Answer} Declined same)

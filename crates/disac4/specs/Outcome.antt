@@ -19,47 +19,48 @@ use Rattle.disac4.specs.Turn.{Turn, turnsOf, turnListFits, turnFault}
 use Rattle.disac4.specs.declared.Answer.{Answer}
 use Rattle.disac4.specs.declared.Answer.the-variants.{Reported, Declined}
 
+-- the buffers that are lent to a run, before it or after it
+pub record Lent : Type 0 where
+  -- the work cells
+  pub work : List ℕ
+  -- the list cells
+  pub lists : List ℕ
+
+-- these buffers
+abbrev pub lent : List ℕ → List ℕ → Lent
+lent work lists = record { work = work; lists = lists }
+
 -- what a call gives, and what it leaves in the lent buffers
 pub record Outcome : Type 0 where
   pub answer : Answer
-  -- the lent buffers afterwards
-  pub work : List ℕ
-  pub lists : List ℕ
+  pub left : Lent
 
--- a call leaves its caller this outcome: the answer and both lent buffers
-pub record Gives (o : Outcome) (r : Answer) (work lists : List ℕ) : Type 0 where
+-- a call leaves its caller this outcome
+pub record Gives (o : Outcome) (r : Answer) (after : Lent) : Type 0 where
   pub answer : r ≡ o .answer
-  pub work-cells : work ≡ o .work
-  pub list-cells : lists ≡ o .lists
+  pub cells : after ≡ o .left
 
 -- the first cells hold `new`, later ones keep what they had
 unfoldable pub overwrite : List ℕ → List ℕ → List ℕ
 overwrite new cells = new ++ drop (length new) cells
 
 -- a declined call changes no lent cell
-unfoldable pub refused : List ℕ → List ℕ → Decline → Outcome
-refused work lists d = record { answer = Declined d; work = work; lists = lists }
+unfoldable pub refused : Lent → Decline → Outcome
+refused l d = record { answer = Declined d; left = l }
 
 -- a call that played these turns
-unfoldable pub played : List ℕ → List ℕ → System → List Turn → Outcome
-played work lists sys turns = record {
+unfoldable pub played : Lent → System → List Turn → Outcome
+played l sys turns = record {
   answer = Reported (reportOf sys turns);
-  work = overwrite (replicate workNeed 0) work;
-  lists = overwrite (listCells sys (final sys turns)) lists;
+  left = lent (overwrite (replicate workNeed 0) (l .work)) (overwrite (listCells sys (final sys turns)) (l .lists));
 }
 
+-- ---- what a run tests
+
 -- 9 and 10: the buffers are long enough
-unfoldable pub bufferChecks : List ℕ → List ℕ → List Check
-bufferChecks work lists =
-    (leb workNeed (length work) orElse ShortWork) ∷ (leb listNeed (length lists) orElse ShortLists) ∷ []
-
--- the decline 9 or 10, at place 0
-unfoldable pub bufferFault : List ℕ → List ℕ → Option Decline
-bufferFault work lists = faultAt 0 (firstFault (bufferChecks work lists))
-
--- long enough: neither 9 nor 10
-abbrev pub LongEnough : List ℕ → List ℕ → Type 0
-LongEnough work lists = (workNeed ≤ length work) × (listNeed ≤ length lists)
+unfoldable pub bufferChecks : Lent → List Check
+bufferChecks l =
+    (leb workNeed (length (l .work)) orElse ShortWork) ∷ (leb listNeed (length (l .lists)) orElse ShortLists) ∷ []
 
 -- 11; the plan's faults; 12
 unfoldable pub inputFault : List ℕ → List ℕ → Option Decline
@@ -67,29 +68,59 @@ inputFault bytes turnList =
     firstOf (faultAt 0 (firstFault ((turnListFits turnList orElse BadTurnList) ∷ [])))
     (firstOf (planFault bytes) (turnFault (workerCount bytes) turnList))
 
--- these turns are played on a plan, unless a fault was found
-abbrev pub outcomeBy : List ℕ → List Turn → List ℕ → List ℕ → Option Decline → Outcome
-outcomeBy bytes turns work lists none = played work lists (systemAt bytes) turns
-outcomeBy bytes turns work lists (some d) = refused work lists d
+-- ---- the runs
 
--- a run, from the plan, the fault that there may be in its inputs, the turns that it plays and the two buffers: 9 and 10 come first
-unfoldable pub runOf : List ℕ → Option Decline → List Turn → List ℕ → List ℕ → Outcome
-runOf bytes fault turns work lists = outcomeBy bytes turns work lists (firstOf (bufferFault work lists) fault)
+-- a run, whatever buffers it is lent
+pub record Run : Type 0 where
+  -- the plan's bytes
+  pub plan : List ℕ
+  -- its checks of the buffers, each with place 0
+  pub checks : Lent → List Check
+  -- the first fault of its other inputs
+  pub fault : Option Decline
+  -- the turns that it plays
+  pub turns : List Turn
 
--- the turn run, from the plan, the turn list and the two buffers
-unfoldable pub turnRun : List ℕ → List ℕ → List ℕ → List ℕ → Outcome
-turnRun bytes turnList work lists = runOf bytes (inputFault bytes turnList) (turnsOf turnList) work lists
+-- the first fault: the buffers' come before all others
+unfoldable pub runFault : Run → Lent → Option Decline
+runFault r l = firstOf (faultAt 0 (firstFault (r .checks l))) (r .fault)
 
--- the round run: never 11 or 12
-unfoldable pub roundRun : List ℕ → List ℕ → List ℕ → Outcome
-roundRun bytes work lists = runOf bytes (planFault bytes) (roundRunTurns (systemAt bytes)) work lists
+-- the turns are played on the plan, unless a fault was found
+abbrev pub outcomeBy : Run → Lent → Option Decline → Outcome
+outcomeBy r l none = played l (systemAt (r .plan)) (r .turns)
+outcomeBy r l (some d) = refused l d
 
--- a run clears the first work cells, writes a cell for each variable, and keeps all later cells and both lengths
-pub record Written (work lists : List ℕ) (sys : System) (turns : List Turn) (o : Outcome) : Type 0 where
-  pub work-length : length (o .work) ≡ length work
-  pub list-length : length (o .lists) ≡ length lists
-  pub cleared : (i : ℕ) → i < workNeed → getD (o .work) i 0 ≡ 0
-  pub work-kept : (i : ℕ) → workNeed ≤ i → getD (o .work) i 0 ≡ getD work i 0
+-- the whole outcome of a run
+unfoldable pub runOf : Run → Lent → Outcome
+runOf r l = outcomeBy r l (runFault r l)
+
+-- the turn run, of a plan and a turn list
+abbrev pub turnRun : List ℕ → List ℕ → Run
+turnRun bytes turnList = record {
+  plan = bytes;
+  checks = bufferChecks;
+  fault = inputFault bytes turnList;
+  turns = turnsOf turnList;
+}
+
+-- the round run of a plan: never 11 or 12
+abbrev pub roundRun : List ℕ → Run
+roundRun bytes = record {
+  plan = bytes;
+  checks = bufferChecks;
+  fault = planFault bytes;
+  turns = roundRunTurns (systemAt bytes);
+}
+
+-- ---- what a run that reports leaves in the buffers
+
+-- it clears the first work cells, writes a cell for each variable, and keeps all later cells and both lengths
+pub record Written (before : Lent) (sys : System) (turns : List Turn) (after : Lent) : Type 0 where
+  pub work-length : length (after .work) ≡ length (before .work)
+  pub list-length : length (after .lists) ≡ length (before .lists)
+  pub cleared : (i : ℕ) → i < workNeed → getD (after .work) i 0 ≡ 0
+  pub work-kept : (i : ℕ) → workNeed ≤ i → getD (after .work) i 0 ≡ getD (before .work) i 0
   pub cells : (i : ℕ) → i < length (listCells sys (final sys turns))
-      → getD (o .lists) i 0 ≡ getD (listCells sys (final sys turns)) i 0
-  pub lists-kept : (i : ℕ) → length (listCells sys (final sys turns)) ≤ i → getD (o .lists) i 0 ≡ getD lists i 0
+      → getD (after .lists) i 0 ≡ getD (listCells sys (final sys turns)) i 0
+  pub lists-kept : (i : ℕ) → length (listCells sys (final sys turns)) ≤ i
+      → getD (after .lists) i 0 ≡ getD (before .lists) i 0

@@ -6,16 +6,16 @@ use lib.ListN.{length, take, drop}
 use lib.Seq.{drop-at, length-take-le}
 use Rattle.buffer.proofs.Puts.{holds-whole}
 use Rattle.buffer.specs.Buffer.{Holds}
-use Rattle.disac4.specs.Outcome.{Outcome, Gives}
+use Rattle.disac4.specs.Outcome.{Lent, Outcome, Gives}
 use Rattle.disac4.specs.declared.Answer.{Answer}
 use Rattle.text.specs.Printed.{printed}
 use Rattle.display.specs.Shown.{shownOf, Shows}
 
 -- the text of an answer and its list cells is that of the outcome which the call gives
-pub outcome-held : (b : List ℕ) {o : Outcome} {a : Answer} {work lists before after : List ℕ} {count : ℕ} → Gives o a work lists
-    → Holds (printed a b lists) before after count → Holds (shownOf b o) before after count
+pub outcome-held : (b : List ℕ) {o : Outcome} {a : Answer} {l : Lent} {before after : List ℕ} {count : ℕ} → Gives o a l
+    → Holds (printed a b (l .lists)) before after count → Holds (shownOf b o) before after count
 unfolding shownOf
-outcome-held b g h = rw (← g .answer, ← g .list-cells) h
+outcome-held b g h = rw (← g .answer, ← g .cells) h
 
 -- a buffer with room for the text starts with all of it
 pub shows-whole : {text before after : List ℕ} {count : ℕ} → Holds text before after count → length text ≤ length before

@@ -9,12 +9,12 @@ use lib.ListN.{length-replicate}
 use Rattle.disac4.proofs.Order.{buffers-fit}
 use Rattle.disac4.specs.Need.{workNeed, listNeed}
 use Rattle.disac4.specs.Computes.{disac4-computes}
-use Rattle.disac4.specs.Outcome.{overwrite, played, bufferFault, inputFault, outcomeBy, runOf, turnRun}
-use Rattle.disac4.specs.Turn.{turnsOf}
+use Rattle.disac4.specs.Outcome.{overwrite, played, bufferChecks, inputFault, runFault, outcomeBy, runOf, turnRun}
 use Rattle.disac4.specs.Worked.{planP, turnsT}
+use Rattle.faults.specs.CheckList.{firstFault}
 use Rattle.domains.specs.Lines.{newline}
 use Rattle.text.specs.Computes.{text-computes}
-use Rattle.display.specs.Shown.{freshWork, freshLists, shownOf, runBy, shown}
+use Rattle.display.specs.Shown.{fresh, shownOf, runBy, shown}
 
 -- `closed 17 2 1 0`, `1 1: 11`, `2 2: 21 22`, `3 2: 31`
 abbrev linesT : List ℕ
@@ -25,19 +25,17 @@ linesT =
     ++ (51 ∷ 32 ∷ 50 ∷ 58 ∷ 32 ∷ 51 ∷ 49 ∷ newline)
 
 -- the program's own buffers are long enough
-fresh-fits : bufferFault freshWork freshLists ≡ none
-unfolding freshWork freshLists
+fresh-fits : firstFault (bufferChecks fresh) ≡ none
+unfolding fresh
 fresh-fits =
-    buffers-fit freshWork freshLists
-    (omega (arith, length-replicate {A = ℕ} workNeed 0), omega (arith, length-replicate {A = ℕ} listNeed 0))
+    buffers-fit fresh (omega (arith, length-replicate {A = ℕ} workNeed 0)) (omega (arith, length-replicate {A = ℕ} listNeed 0))
 
 -- so that only the inputs decide
-fresh-run : (b turns : List ℕ)
-    → shown b turns false ≡ shownOf b (outcomeBy b (turnsOf turns) freshWork freshLists (inputFault b turns))
-unfolding shown runBy turnRun runOf
+fresh-run : (b turns : List ℕ) → shown b turns false ≡ shownOf b (outcomeBy (turnRun b turns) fresh (inputFault b turns))
+unfolding shown runBy runOf runFault
 fresh-run b turns = rw fresh-fits
 
 -- what the program prints for P with T
 pub shown-run : shown planP turnsT false ≡ linesT
-unfolding shownOf played overwrite freshLists listNeed text-computes disac4-computes
+unfolding shownOf played overwrite fresh listNeed text-computes disac4-computes
 shown-run = fresh-run planP turnsT

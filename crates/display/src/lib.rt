@@ -2,12 +2,12 @@
 use disac4::Answer;
 use disac4::LIST_NEED;
 use disac4::WORK_NEED;
-ghost use Rattle.disac4.specs.Outcome.{Gives};
+ghost use Rattle.disac4.specs.Outcome.{Gives, lent, runOf};
 ghost use Rattle.display.specs.Shown.{runBy, shown, Shows};
 
 // A run by rounds or by the turn list.
 fn run(plan: &[u8], turns: &[u8], rounds: bool, work: &mut [u16], lists: &mut [u16]) -> Answer
-    ensures { λ r. ⌜ Gives (runBy (now (plan .entry)) (now (turns .entry)) rounds (now (work .entry)) (now (lists .entry))) r (now (work .exit)) (now (lists .exit)) ⌝ }
+    ensures { λ r. ⌜ Gives (runOf (runBy (now (plan .entry)) (now (turns .entry)) rounds) (lent (now (work .entry)) (now (lists .entry)))) r (lent (now (work .exit)) (now (lists .exit))) ⌝ }
 {
     if rounds {
         calls::run_round(plan, work, lists)

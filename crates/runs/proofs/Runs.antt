@@ -2,9 +2,9 @@
 use Prim.Native.Nat.{ℕ, _^_, _<_, _≤_}
 use mathlib.Core.List.{List, []}
 use mathlib.Core.Option.{none}
-use mathlib.Core.Path.{_≡_, refl, _∙_, ap}
+use mathlib.Core.Path.{_≡_, refl, _∙_, ap, ap₂}
 use lib.ListN.{length}
-use Rattle.disac4.specs.Outcome.{Gives, played}
+use Rattle.disac4.specs.Outcome.{Gives, lent, played}
 use Rattle.disac4.specs.Need.{workNeed}
 use Rattle.disac4.specs.System.{systemAt}
 use Rattle.disac4.specs.Turn.{Turn}
@@ -28,12 +28,11 @@ begun b m cells g sound long at = record {
 -- a run that has played its turns from there, and ends
 pub ends : (b : List ℕ) → planFault b ≡ none → (work cells cells′ lists work′ lists′ : List ℕ) (us : List Turn) (g g′ : Progress) (r : Report)
     → At b (memOf work) [] cells g → Plays b us cells g cells′ g′ → length cells′ ≡ length work → length cells′ < 2 ^ 64
-    → Finishes b cells′ lists g′ work′ lists′ r → Gives (played work lists (systemAt b) us) (Reported r) work′ lists′
+    → Finishes b cells′ lists g′ work′ lists′ r → Gives (played (lent work lists) (systemAt b) us) (Reported r) (lent work′ lists′)
 unfolding played Plays
 ends b sound work cells cells′ lists work′ lists′ us g g′ r at plays same few f =
     let now = plays (memOf work) [] at in
     record {
       answer = ap Reported (f .reported (memOf work) us now);
-      work-cells = f .cleared ∙ work-of-turns b sound work us cells′ g′ now same few;
-      list-cells = f .listed (memOf work) us now;
+      cells = ap₂ lent (f .cleared ∙ work-of-turns b sound work us cells′ g′ now same few) (f .listed (memOf work) us now);
     }

@@ -5,7 +5,7 @@ ghost use mathlib.Core.Option.{none};
 ghost use mathlib.Core.Path.{_≡_};
 ghost use Prim.Native.Nat.{_≤_};
 ghost use lib.ListN.{length};
-ghost use Rattle.disac4.specs.Outcome.{Gives, played};
+ghost use Rattle.disac4.specs.Outcome.{Gives, lent, played};
 ghost use Rattle.disac4.specs.Need.{workNeed, listNeed};
 ghost use Rattle.disac4.specs.Round.{roundRunTurns};
 ghost use Rattle.disac4.specs.System.{systemAt};
@@ -18,7 +18,7 @@ mod ends;
 // Plays a list of allowed turns on an accepted plan.
 pub fn play_list(plan: &[u8], turns: &[u8], work: &mut [u16], lists: &mut [u16], p: usize) -> Report
     requires { ⌜ (planFault (now plan) ≡ none) × (workNeed ≤ length (now work)) × (listNeed ≤ length (now lists)) × (p ≡ workerCount (now plan)) × (turnFault p (now turns) ≡ none) ⌝ }
-    ensures { λ r. ⌜ Gives (played (now (work .entry)) (now (lists .entry)) (systemAt (now (plan .entry))) (turnsOf (now (turns .entry)))) (Answer.Reported r) (now (work .exit)) (now (lists .exit)) ⌝ }
+    ensures { λ r. ⌜ Gives (played (lent (now (work .entry)) (now (lists .entry))) (systemAt (now (plan .entry))) (turnsOf (now (turns .entry)))) (Answer.Reported r) (lent (now (work .exit)) (now (lists .exit))) ⌝ }
 {
     let start = ends::load(plan, work);
     let g = playing::play_turns(plan, turns, work, start, p);
@@ -28,7 +28,7 @@ pub fn play_list(plan: &[u8], turns: &[u8], work: &mut [u16], lists: &mut [u16],
 // Plays rounds on an accepted plan until it is closed.
 pub fn play_until_closed(plan: &[u8], work: &mut [u16], lists: &mut [u16], p: usize) -> Report
     requires { ⌜ (planFault (now plan) ≡ none) × (workNeed ≤ length (now work)) × (listNeed ≤ length (now lists)) × (p ≡ workerCount (now plan)) ⌝ }
-    ensures { λ r. ⌜ Gives (played (now (work .entry)) (now (lists .entry)) (systemAt (now (plan .entry))) (roundRunTurns (systemAt (now (plan .entry))))) (Answer.Reported r) (now (work .exit)) (now (lists .exit)) ⌝ }
+    ensures { λ r. ⌜ Gives (played (lent (now (work .entry)) (now (lists .entry))) (systemAt (now (plan .entry))) (roundRunTurns (systemAt (now (plan .entry))))) (Answer.Reported r) (lent (now (work .exit)) (now (lists .exit))) ⌝ }
 {
     let start = ends::load(plan, work);
     let g = rounds::play_rounds(plan, work, start, p);

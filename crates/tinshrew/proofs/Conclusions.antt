@@ -1,10 +1,10 @@
 -- What a caller may conclude from a call's contract: the promises of the calls, from the plan's bytes, the turns and the buffers.
 use Prim.Native.Nat.{ℕ, _/_}
 use mathlib.Core.Bool.{Bool, true, false, cond, false≢true}
-use mathlib.Core.List.{List, []}
+use mathlib.Core.List.{List}
 use mathlib.Core.Logic.{_↔_}
 use mathlib.Core.Option.{none, some}
-use mathlib.Core.Path.{_≡_, refl, sym, _∙_, ap}
+use mathlib.Core.Path.{_≡_, refl, sym, _∙_, ap, subst}
 use native.Mathlib.Omega.{arith}
 use lib.Dec.{eqb}
 use lib.ListN.{length}
@@ -12,17 +12,17 @@ use Rattle.base.proofs.Below.{getD-list-below}
 use Rattle.base.proofs.Bools.{and-left}
 use Rattle.base.proofs.Each.{each-all, each-gather}
 use Rattle.base.proofs.Row.{row-bit}
-use Rattle.base.specs.Choice.{allOf, firstOf}
+use Rattle.base.specs.Choice.{allOf}
 use Rattle.base.specs.Row.{bit, rowOf}
 use Rattle.disac4.proofs.Demands.{demand2, demand3, round-closes-plan}
-use Rattle.disac4.proofs.Order.{round-without-list}
+use Rattle.disac4.proofs.Order.{no-turn-list}
 use Rattle.disac4.proofs.Outcome.{list-cell-each, played-written, run-played, run-refused, run-reports, run-declines}
 use Rattle.disac4.specs.Demands.{closedAfter, RoundCloses}
-use Rattle.disac4.specs.Outcome.{Gives, played, bufferFault, inputFault, runOf, turnRun, roundRun, Written}
+use Rattle.disac4.specs.Outcome.{Lent, Gives, played, bufferChecks, runFault, runOf, turnRun, roundRun, Written}
 use Rattle.disac4.specs.Report.{final, listCells, lowestEmpty, statusOf, reportOf}
 use Rattle.disac4.specs.Round.{roundRunTurns}
 use Rattle.disac4.specs.System.{systemAt}
-use Rattle.disac4.specs.Turn.{Turn, allowed, turnsOf}
+use Rattle.disac4.specs.Turn.{allowed, turnsOf}
 use Rattle.disac4.specs.declared.Answer.{Answer}
 use Rattle.disac4.specs.declared.Answer.the-variants.{Reported, Declined}
 use Rattle.disac4.specs.declared.Report.{Report}
@@ -39,10 +39,11 @@ use Rattle.plan.specs.Answer.{planCheck, checkedAs, countsOf}
 use Rattle.plan.specs.Decode.{planOf, decode, accepted, declined}
 use Rattle.plan.specs.declared.Checked as checked
 use Rattle.plan.specs.declared.Checked.{Checked}
+use Rattle.faults.specs.CheckList.{firstFault}
 use Rattle.faults.specs.declared.Decline.{Decline}
 use Rattle.plan.specs.declared.Counts.{Counts}
-use Rattle.tinshrew.proofs.Faults.{declined-plan, none-found, one-found, in-table, empty-fits}
-use Rattle.tinshrew.specs.Conclusions.{AcceptedPlan, DeclinedPlan, PlanAndBuffersFit, TurnsFit, FirstFault, InTable, DeclinedRun, listedIn, ReportedRun, RunTells}
+use Rattle.tinshrew.proofs.Faults.{declined-plan, Inputs, none-found, one-found, in-table, empty-fits}
+use Rattle.tinshrew.specs.Conclusions.{AcceptedPlan, DeclinedPlan, Call, turnCall, roundCall, system, PlanAndBuffersFit, TurnsFit, FirstFault, InTable, DeclinedRun, listedIn, ReportedRun, RunTells}
 
 -- ---- the plan check
 
@@ -96,46 +97,49 @@ never-open false full e h = let z : _≡_ {A = ℕ} 0 1 = cc in omega arith
 
 -- ---- a reported run
 
-module _ (b : List ℕ) (turns : List Turn) (work lists work′ lists′ : List ℕ) (r : Report) (fits : PlanAndBuffersFit b work lists)
-    (g : Gives (played work lists (systemAt b) turns) (Reported r) work′ lists′) where
+module _ (c : Call) (after : Lent) (r : Report) (fits : PlanAndBuffersFit c) (same : c .run .checks ≡ bufferChecks)
+    (g : Gives (played (c .before) (system c) (c .run .turns)) (Reported r) after) where
   -- the report is that of the turns
-  told : r ≡ reportOf (systemAt b) turns
+  told : r ≡ reportOf (system c) (c .run .turns)
   unfolding played
   told = let e = g .answer in cc
 
   -- and so is every cell
-  wrote : Written work lists (systemAt b) turns (record { answer = Reported r; work = work′; lists = lists′ })
+  wrote : Written (c .before) (system c) (c .run .turns) after
   wrote =
-      rw (g .answer, g .work-cells, g .list-cells)
-      (played-written b work lists (decode-plan b (planOf b) (fits .accepts) .0) (fits .work-cells, fits .list-cells) turns)
+      let b = c .run .plan in
+      rw (g .cells)
+      (played-written b (c .before) (decode-plan b (planOf b) (fits .accepts) .0)
+      (subst (λ k. firstFault (k (c .before)) ≡ none) same (fits .buffers)) (c .run .turns))
 
   -- list cells as the turns leave them hold a label exactly if it is still in its domain
-  holds : (x v : ℕ) → loaded (systemAt b .net) x v ≡ true
-      → listedIn (systemAt b .net) lists′ x v ≡ final (systemAt b) turns .domain x v
+  holds : (x v : ℕ) → loaded (system c .net) x v ≡ true
+      → listedIn (system c .net) (after .lists) x v ≡ final (system c) (c .run .turns) .domain x v
   unfolding listedIn listCells
   holds x v h =
-      let net = systemAt b .net in
-      let row : ℕ → ℕ = λ y. rowOf (net .size y) (final (systemAt b) turns .domain y) in
+      let net = system c .net in
+      let ended = final (system c) (c .run .turns) in
+      let row : ℕ → ℕ = λ y. rowOf (net .size y) (ended .domain y) in
       let low = loaded-variable net x v h in
       rw h
-      (ap (λ (c : ℕ). bit c v)
-      (wrote .cells x (omega (arith, low, list-cell-each (systemAt b) (final (systemAt b) turns)))
-      ∙ getD-list-below (net .variables) row 0 x low)
-      ∙ row-bit (net .size x) (final (systemAt b) turns .domain x) v (loaded-value net x v h))
+      (ap (λ (k : ℕ). bit k v)
+      (wrote .cells x (omega (arith, low, list-cell-each (system c) ended)) ∙ getD-list-below (net .variables) row 0 x low)
+      ∙ row-bit (net .size x) (ended .domain x) v (loaded-value net x v h))
 
   -- so they hold every label of the largest domains
-  keeps : (d : Domains) → Largest (systemAt b .net) d → Within d (listedIn (systemAt b .net) lists′)
+  keeps : (d : Domains) → Largest (system c .net) d → Within d (listedIn (system c .net) (after .lists))
   unfolding Within
   keeps d most x v p =
-      holds x v (largest-consistent (systemAt b .net) d most .within x v p)
-      ∙ demand3 b (planOf b) (fits .accepts) turns .keeps-largest d most x v p
+      holds x v (largest-consistent (system c .net) d most .within x v p)
+      ∙ demand3 (c .run .plan) (planOf (c .run .plan)) (fits .accepts) (c .run .turns) .keeps-largest d most x v p
 
   -- allowed turns that were played on fitting inputs
-  reported-run : allOf (allowed (systemAt b .workers)) turns ≡ true → ReportedRun b turns work lists work′ lists′ r
+  reported-run : allOf (allowed (system c .workers)) (c .run .turns) ≡ true → ReportedRun c after r
   unfolding reportOf statusOf closedAfter Largest Within listedIn
   reported-run fine =
-      let second = demand2 b (planOf b) (fits .accepts) turns in
-      let third = demand3 b (planOf b) (fits .accepts) turns in record {
+      let b = c .run .plan in
+      let second = demand2 b (planOf b) (fits .accepts) (c .run .turns) in
+      let third = demand3 b (planOf b) (fits .accepts) (c .run .turns) in record {
         accepts = fits .accepts;
         all-allowed = fine;
         report = told;
@@ -152,86 +156,82 @@ module _ (b : List ℕ) (turns : List Turn) (work lists work′ lists′ : List 
 
 -- ---- any run
 
-module _ (b ts : List ℕ) (turns : List Turn) (work lists work′ lists′ : List ℕ) (a : Answer)
-    (g : Gives (runOf b (inputFault b ts) turns work lists) a work′ lists′) where
+module _ (c : Call) (inputs : Inputs c) (same : c .run .checks ≡ bufferChecks) (a : Answer) (after : Lent)
+    (g : Gives (runOf (c .run) (c .before)) a after) where
   -- where it reports, nothing was found
-  nothing-found : (r : Report) → a ≡ Reported r → firstOf (bufferFault work lists) (inputFault b ts) ≡ none
-  nothing-found r e = run-reports b (inputFault b ts) turns work lists .0 (r, sym (g .answer) ∙ e)
+  nothing-found : (r : Report) → a ≡ Reported r → runFault (c .run) (c .before) ≡ none
+  nothing-found r e = run-reports (c .run) (c .before) .0 (r, sym (g .answer) ∙ e)
 
   -- where it declines, this fault
-  fault-found : (d : Decline) → a ≡ Declined d → firstOf (bufferFault work lists) (inputFault b ts) ≡ some d
-  fault-found d e = run-declines b (inputFault b ts) turns work lists d .0 (sym (g .answer) ∙ e)
+  fault-found : (d : Decline) → a ≡ Declined d → runFault (c .run) (c .before) ≡ some d
+  fault-found d e = run-declines (c .run) (c .before) d .0 (sym (g .answer) ∙ e)
 
   -- which is the first, in document 01's table, and changed no lent cell
-  declined-run : (most : ℕ) → ((d : Decline) → FirstFault b ts work lists d → InTable most b ts d)
-      → (d : Decline) → a ≡ Declined d → DeclinedRun most b ts work lists work′ lists′ d
-  declined-run most table d e =
-      let first = one-found b ts work lists d .0 (fault-found d e) in
-      let same = run-refused b (inputFault b ts) turns work lists d (fault-found d e) in record {
+  declined-run : ((d : Decline) → FirstFault c d → InTable c d) → (d : Decline) → a ≡ Declined d → DeclinedRun c after d
+  declined-run table d e =
+      let first = one-found c inputs d .0 (fault-found d e) in record {
         first = first;
         in-table = table d first;
-        same-work = g .work-cells ∙ sym (same .work-cells);
-        same-lists = g .list-cells ∙ sym (same .list-cells);
+        same-cells = g .cells ∙ sym (run-refused (c .run) (c .before) d (fault-found d e) .cells);
       }
 
   -- all that it tells, if the turns that it plays are allowed
-  run-tells : (Fitting : Type 0) → Fitting ↔ (PlanAndBuffersFit b work lists × TurnsFit b ts)
-      → (PlanAndBuffersFit b work lists → TurnsFit b ts → allOf (allowed (systemAt b .workers)) turns ≡ true)
-      → (most : ℕ) → ((d : Decline) → FirstFault b ts work lists d → InTable most b ts d)
-      → RunTells Fitting most b ts turns work lists work′ lists′ a
-  run-tells Fitting fitting fine most table = record {
+  run-tells : (Fitting : Type 0) → Fitting ↔ (PlanAndBuffersFit c × TurnsFit c)
+      → (PlanAndBuffersFit c → TurnsFit c → allOf (allowed (system c .workers)) (c .run .turns) ≡ true)
+      → ((d : Decline) → FirstFault c d → InTable c d) → RunTells Fitting c (record { answer = a; left = after })
+  run-tells Fitting fitting fine table = record {
     reports = (
-      λ s. fitting .1 (none-found b ts work lists .0 (nothing-found (s .0) (s .1))),
+      λ s. fitting .1 (none-found c inputs .0 (nothing-found (s .0) (s .1))),
       λ h.
-          let s = run-reports b (inputFault b ts) turns work lists .1 (none-found b ts work lists .1 (fitting .0 h)) in
+          let s = run-reports (c .run) (c .before) .1 (none-found c inputs .1 (fitting .0 h)) in
           (s .0, g .answer ∙ s .1),
     );
     declines = λ d. (
-      λ e. one-found b ts work lists d .0 (fault-found d e),
-      λ h. g .answer ∙ run-declines b (inputFault b ts) turns work lists d .1 (one-found b ts work lists d .1 h),
+      λ e. one-found c inputs d .0 (fault-found d e),
+      λ h. g .answer ∙ run-declines (c .run) (c .before) d .1 (one-found c inputs d .1 h),
     );
     reported = λ r e.
         let found = nothing-found r e in
-        let fits = none-found b ts work lists .0 found in
-        reported-run b turns work lists work′ lists′ r (fits .0)
-        (rw (← run-played b (inputFault b ts) turns work lists found, ← e) g) (fine (fits .0) (fits .1));
-    declined = declined-run most table;
+        let fits = none-found c inputs .0 found in
+        reported-run c after r (fits .0) same (rw (← run-played (c .run) (c .before) found, ← e) g) (fine (fits .0) (fits .1));
+    declined = declined-run table;
   }
 
 -- ---- the turn run
 
 -- a list of allowed turns, as they are played
-list-allowed : (b ts : List ℕ) → TurnsFit b ts → allOf (allowed (systemAt b .workers)) (turnsOf ts) ≡ true
+list-allowed : (b ts : List ℕ) (l : Lent) → TurnsFit (turnCall b ts l) → allOf (allowed (systemAt b .workers)) (turnsOf ts) ≡ true
 unfolding turnsOf
-list-allowed b ts fits =
+list-allowed b ts l fits =
     each-all (allowed (systemAt b .workers)) (turnsOf ts)
     (each-gather (λ t. allowed (systemAt b .workers) t ≡ true) (length ts / 2) _ (λ i h. (fits .all-allowed i h, tt)))
 
 -- it reports exactly if none of the listed faults is there; otherwise it declines the first of them, with a number from 1 to 12
-pub turn-run-tells : (b ts work lists work′ lists′ : List ℕ) (a : Answer) → Gives (turnRun b ts work lists) a work′ lists′
-    → RunTells (PlanAndBuffersFit b work lists × TurnsFit b ts) 12 b ts (turnsOf ts) work lists work′ lists′ a
-unfolding turnRun
-turn-run-tells b ts work lists work′ lists′ a g =
-    run-tells b ts (turnsOf ts) work lists work′ lists′ a g _ (λ h. h, λ h. h) (λ h fits. list-allowed b ts fits) 12
-    (in-table b ts work lists 12 (omega arith) (λ h. omega arith) (λ h. omega arith))
+pub turn-run-tells : (b ts : List ℕ) (l : Lent) (a : Answer) (after : Lent) → Gives (runOf (turnRun b ts) l) a after
+    → let c = turnCall b ts l in RunTells (PlanAndBuffersFit c × TurnsFit c) c (record { answer = a; left = after })
+turn-run-tells b ts l a after g =
+    let c = turnCall b ts l in
+    run-tells c refl refl a after g _ (λ h. h, λ h. h) (λ h fits. list-allowed b ts l fits)
+    (in-table c refl (omega arith) (λ h. omega arith) (λ h. omega arith))
 
 -- ---- the round run
 
 -- it reports exactly if the buffers are long enough and the plan is accepted; otherwise the number is from 1 to 10, never 11 or 12
-pub round-run-tells : (b work lists work′ lists′ : List ℕ) (a : Answer) → Gives (roundRun b work lists) a work′ lists′
-    → RunTells (PlanAndBuffersFit b work lists) 10 b [] (roundRunTurns (systemAt b)) work lists work′ lists′ a
-round-run-tells b work lists work′ lists′ a g =
-    run-tells b [] (roundRunTurns (systemAt b)) work lists work′ lists′ a (rw (← round-without-list b work lists) g) _
-    (λ h. (h, empty-fits b), λ h. h .0) (λ h fits. round-closes-plan b (planOf b) (h .accepts) .all-allowed) 10
-    (in-table b [] work lists 10 (omega arith)
-    (λ h. absurd (false≢true (sym h ∙ empty-fits b .list-fits)))
+pub round-run-tells : (b : List ℕ) (l : Lent) (a : Answer) (after : Lent) → Gives (runOf (roundRun b) l) a after
+    → RunTells (PlanAndBuffersFit (roundCall b l)) (roundCall b l) (record { answer = a; left = after })
+round-run-tells b l a after g =
+    let c = roundCall b l in
+    run-tells c (sym (no-turn-list b)) refl a after g _
+    (λ h. (h, empty-fits b l), λ h. h .0) (λ h fits. round-closes-plan b (planOf b) (h .accepts) .all-allowed)
+    (in-table c refl (omega arith)
+    (λ h. absurd (false≢true (sym h ∙ empty-fits b l .list-fits)))
     (λ h. absurd (omega arith)))
 
--- a report of its turns: the plan is closed after them, and the status is never open
-pub round-ends : (b work lists work′ lists′ : List ℕ) (r : Report)
-    → ReportedRun b (roundRunTurns (systemAt b)) work lists work′ lists′ r → RoundCloses (systemAt b) × (r .status ≡ Open → ⊥)
+-- where it reports, the plan is closed after its turns, and the status is never open
+pub round-ends : (b : List ℕ) (l after : Lent) (r : Report) → ReportedRun (roundCall b l) after r
+    → RoundCloses (systemAt b) × (r .status ≡ Open → ⊥)
 unfolding reportOf statusOf closedAfter
-round-ends b work lists work′ lists′ r ran =
+round-ends b l after r ran =
     let closes = round-closes-plan b (planOf b) (ran .accepts) in (
       closes,
       λ o.
@@ -239,8 +239,7 @@ round-ends b work lists work′ lists′ r ran =
           (sym (ap (λ (r : Report). r .status) (ran .report)) ∙ o),
     )
 
--- so wherever it reports
-pub round-run-ends : (b work lists work′ lists′ : List ℕ) (r : Report) → Gives (roundRun b work lists) (Reported r) work′ lists′
+-- so of what the call gives
+pub round-run-ends : (b : List ℕ) (l : Lent) (r : Report) (after : Lent) → Gives (runOf (roundRun b) l) (Reported r) after
     → RoundCloses (systemAt b) × (r .status ≡ Open → ⊥)
-round-run-ends b work lists work′ lists′ r g =
-    round-ends b work lists work′ lists′ r (round-run-tells b work lists work′ lists′ _ g .reported r refl)
+round-run-ends b l r after g = round-ends b l after r (round-run-tells b l _ after g .reported r refl)

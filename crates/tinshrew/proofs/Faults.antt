@@ -1,26 +1,31 @@
 -- Which runs report, and which are declined for what: from the tests of a run to document 01's table.
 use Prim.Native.Nat.{ℕ, _/_, _<_, _≤_}
-use mathlib.Core.Bool.{false}
-use mathlib.Core.List.{List, []}
+use mathlib.Core.Bool.{Bool, true, false}
+use mathlib.Core.List.{List, [], _∷_}
 use mathlib.Core.Logic.{_↔_}
 use mathlib.Core.Option.{Option, none, some}
-use mathlib.Core.Path.{_≡_, refl, subst}
+use mathlib.Core.Path.{_≡_, refl, sym, _∙_, ap, subst}
 use native.Mathlib.Omega.{arith}
+use borrow.Author.Tests.{le-leb, lt-leb, leb-true, leb-false}
+use lib.Dec.{leb}
 use lib.ListN.{length}
+use Rattle.base.proofs.Choice.{none≢some, some-same}
 use Rattle.base.specs.Choice.{firstOf}
-use Rattle.disac4.proofs.Order.{short-work, short-lists, buffers-fit, bad-turn-list, then-plan, faultless-below, bad-turn-first, by-fault}
-use Rattle.disac4.specs.Outcome.{bufferFault, inputFault}
+use Rattle.disac4.proofs.Order.{long-enough, buffers-fit, bad-turn-list, then-plan, faultless-below, bad-turn-first, by-fault}
+use Rattle.disac4.specs.Need.{workNeed, listNeed}
+use Rattle.disac4.specs.Outcome.{Lent, bufferChecks, inputFault, runFault}
 use Rattle.disac4.specs.System.{systemOf}
 use Rattle.disac4.specs.Turn.{turnListFits, turnFault}
 use Rattle.inputs.proofs.TurnLists.{is-allowed}
 use Rattle.plan.proofs.Faults.{decoded, not-decoded, decode-plan, decode-fault, number-within, place-within}
 use Rattle.plan.specs.Decode.{planOf, decode, declined}
+use Rattle.faults.specs.CheckList.{Check, _orElse_, firstFault, faultAt}
 use Rattle.faults.specs.Fault.{numberOf, decline}
 use Rattle.format.specs.Format.{workerCount}
 use Rattle.faults.specs.declared.Decline.{Decline}
 use Rattle.faults.specs.declared.Fault.{Fault}
 use Rattle.faults.specs.declared.Fault.the-variants.{ShortWork, ShortLists, BadTurnList}
-use Rattle.tinshrew.specs.Conclusions.{DeclinedPlan, PlanAndBuffersFit, TurnsFit, FirstFault, few-work-cells, few-list-cells, bad-list, bad-plan, bad-turn, InTable}
+use Rattle.tinshrew.specs.Conclusions.{DeclinedPlan, ShortBuffer, few-work-cells, few-list-cells, BuffersTell, Call, roundCall, PlanAndBuffersFit, TurnsFit, FirstFault, short-buffer, bad-list, bad-plan, bad-turn, InTable}
 
 -- ---- the plan
 
@@ -28,87 +33,139 @@ use Rattle.tinshrew.specs.Conclusions.{DeclinedPlan, PlanAndBuffersFit, 
 pub declined-plan : (b : List ℕ) (d : Decline) → decode b ≡ declined d → DeclinedPlan b d
 declined-plan b d e = record { first = e; number = number-within b d e; place = place-within b d e }
 
+-- ---- the buffers
+
+-- the fault of the first that is too short
+short-buffers : (l : Lent) (f : Fault) (s : Bool) → leb workNeed (length (l .work)) ≡ s
+    → (t : Bool) → leb listNeed (length (l .lists)) ≡ t
+    → firstFault ((s orElse ShortWork) ∷ (t orElse ShortLists) ∷ []) ≡ some f → ShortBuffer l f
+short-buffers l f false p t q e =
+    few-work-cells (leb-false workNeed (length (l .work)) p) (some-same (λ g. g ≡ ShortWork) e refl)
+short-buffers l f true p false q e =
+    few-list-cells (leb-true workNeed (length (l .work)) p) (leb-false listNeed (length (l .lists)) q)
+    (some-same (λ g. g ≡ ShortLists) e refl)
+short-buffers l f true p true q e = none≢some e
+
+-- what the checks find
+pub buffers-tell : (l : Lent) → BuffersTell l
+unfolding bufferChecks
+buffers-tell l = record {
+  pass = (long-enough l, λ h. buffers-fit l (h .0) (h .1));
+  fail = λ f. (short-buffers l f _ refl _ refl, found f);
+}
+  where
+    found : (f : Fault) → ShortBuffer l f
+        → firstFault ((leb workNeed (length (l .work)) orElse ShortWork) ∷ (leb listNeed (length (l .lists)) orElse ShortLists) ∷ []) ≡ some f
+    found f (few-work-cells h e) = rw (lt-leb workNeed (length (l .work)) h, e)
+    found f (few-list-cells g h e) = rw (le-leb workNeed (length (l .work)) g, lt-leb listNeed (length (l .lists)) h, e)
+
 -- ---- a run's faults
 
-module _ (b ts work lists : List ℕ) where
-  -- the first fault that the tests of a run find
+-- the call's other inputs are its plan and its turn list
+abbrev pub Inputs : Call → Type 0
+Inputs c = c .run .fault ≡ inputFault (c .run .plan) (c .turnList)
+
+module _ (c : Call) (inputs : Inputs c) where
+  abbrev checks : List Check
+  checks = c .run .checks (c .before)
+
+  -- the first fault of its buffers, or else of its plan and turn list
   abbrev found : Option Decline
-  found = firstOf (bufferFault work lists) (inputFault b ts)
+  found = firstOf (faultAt 0 (firstFault checks)) (inputFault (c .run .plan) (c .turnList))
+
+  is-found : runFault (c .run) (c .before) ≡ found
+  unfolding runFault
+  is-found = ap (firstOf (faultAt 0 (firstFault checks))) inputs
 
   -- what a fault says, and what it says that there is none
   abbrev Found : Option Decline → Type 0
-  Found none = PlanAndBuffersFit b work lists × TurnsFit b ts
-  Found (some d) = FirstFault b ts work lists d
+  Found none = PlanAndBuffersFit c × TurnsFit c
+  Found (some d) = FirstFault c d
 
   found-says : Found found
   unfolding systemOf planOf
   found-says =
-      by-fault b ts work lists Found (λ h. few-work-cells h refl) (λ g h. few-list-cells g h refl) (λ g h. bad-list g h refl)
-      (λ g h d e. bad-plan g h (not-decoded b d e)) (λ g h e i l bad before. bad-turn g h (decoded b e) i l bad before refl)
+      let b = c .run .plan in
+      by-fault checks b (c .turnList) Found (λ f h. short-buffer f h refl) (λ g h. bad-list g h refl)
+      (λ g h d e. bad-plan g h (not-decoded b d e))
+      (λ g h e i l bad before. bad-turn (record { buffers = g; accepts = decoded b e }) h i l bad before refl)
       (λ g h e f. (
-        record { work-cells = g .0; list-cells = g .1; accepts = decoded b e },
-        record { list-fits = h; all-allowed = is-allowed (workerCount b) ts f },
+        record { buffers = g; accepts = decoded b e },
+        record { list-fits = h; all-allowed = is-allowed (workerCount b) (c .turnList) f },
       ))
 
+  -- the buffers pass, so that plan and turn list decide
+  then-inputs : (o : Option Decline) → firstFault checks ≡ none → inputFault (c .run .plan) (c .turnList) ≡ o → found ≡ o
+  then-inputs o g e = rw g e
+
   -- none is found exactly if all fits
-  pub none-found : (found ≡ none) ↔ (PlanAndBuffersFit b work lists × TurnsFit b ts)
+  pub none-found : (runFault (c .run) (c .before) ≡ none) ↔ (PlanAndBuffersFit c × TurnsFit c)
   unfolding systemOf planOf turnFault
   none-found = (
-    λ e. subst Found e found-says,
+    λ e. subst Found (sym is-found ∙ e) found-says,
     λ h.
-        then-plan b ts work lists none (buffers-fit work lists (h .0 .work-cells, h .0 .list-cells)) (h .1 .list-fits)
+        let b = c .run .plan in
+        is-found
+        ∙ then-inputs none (h .0 .buffers)
+        (then-plan b (c .turnList) none (h .1 .list-fits)
         (rw (decode-plan b (planOf b) (h .0 .accepts) .0)
-        (faultless-below (workerCount b) ts (length ts / 2) (h .1 .all-allowed))),
+        (faultless-below (workerCount b) (c .turnList) (length (c .turnList) / 2) (h .1 .all-allowed)))),
   )
 
   -- and this one exactly if it is the first
-  pub one-found : (d : Decline) → (found ≡ some d) ↔ FirstFault b ts work lists d
+  pub one-found : (d : Decline) → (runFault (c .run) (c .before) ≡ some d) ↔ FirstFault c d
   unfolding systemOf planOf
-  one-found d = (λ e. subst Found e found-says, back)
+  one-found d = (λ e. subst Found (sym is-found ∙ e) found-says, λ h. is-found ∙ back h)
     where
-      back : FirstFault b ts work lists d → found ≡ some d
-      back (few-work-cells h e) = rw (short-work work lists h, e)
-      back (few-list-cells g h e) = rw (short-lists work lists g h, e)
-      back (bad-list g h e) = rw (buffers-fit work lists g, bad-turn-list b ts h, e)
+      back : FirstFault c d → found ≡ some d
+      back (short-buffer f h e) = rw (h, e)
+      back (bad-list g h e) = then-inputs (some d) g (rw e (bad-turn-list (c .run .plan) (c .turnList) h))
       back (bad-plan g h e) =
-          then-plan b ts work lists (some d) (buffers-fit work lists g) h (rw (decode-fault b d e))
-      back (bad-turn g h e i l bad before q) =
-          then-plan b ts work lists (some d) (buffers-fit work lists g) h
-          (rw (decode-plan b (planOf b) e .0, bad-turn-first (workerCount b) ts i l bad before, q))
+          then-inputs (some d) g
+          (then-plan (c .run .plan) (c .turnList) (some d) h (rw (decode-fault (c .run .plan) d e)))
+      back (bad-turn g h i l bad before q) =
+          let b = c .run .plan in
+          then-inputs (some d) (g .buffers)
+          (then-plan b (c .turnList) (some d) h
+          (rw (decode-plan b (planOf b) (g .accepts) .0, bad-turn-first (workerCount b) (c .turnList) i l bad before, q)))
 
-  -- its number is at most 10, or more where the turn list is at fault
-  pub in-table : (most : ℕ) → 10 ≤ most → (turnListFits ts ≡ false → 11 ≤ most) → (0 < length ts / 2 → 12 ≤ most)
-      → (d : Decline) → FirstFault b ts work lists d → InTable most b ts d
-  in-table most ten eleven twelve d = go
-    where
-      buffer : (f : Fault) → 9 ≤ numberOf f → numberOf f ≤ 11 → numberOf f ≤ most → InTable most b ts (decline f 0)
-      buffer f low high within = record {
-        number = (omega arith, within);
-        in-plan = λ h. omega arith;
-        at-zero = λ g h. refl;
-        in-list = λ h. omega arith;
-      }
+-- where the buffers' checks are those two, the number is at most 10, or more where the turn list is at fault
+pub in-table : (c : Call) → c .run .checks ≡ bufferChecks → 10 ≤ c .most → (turnListFits (c .turnList) ≡ false → 11 ≤ c .most)
+    → (0 < length (c .turnList) / 2 → 12 ≤ c .most) → (d : Decline) → FirstFault c d → InTable c d
+in-table c same ten eleven twelve d = go
+  where
+    at-start : (f : Fault) → 9 ≤ numberOf f → numberOf f ≤ 11 → numberOf f ≤ c .most → InTable c (decline f 0)
+    at-start f low high within = record {
+      number = (omega arith, within);
+      in-plan = λ h. omega arith;
+      at-zero = λ g h. refl;
+      in-list = λ h. omega arith;
+    }
 
-      go : FirstFault b ts work lists d → InTable most b ts d
-      go (few-work-cells h e) = rw e (buffer ShortWork (omega arith) (omega arith) (omega arith))
-      go (few-list-cells g h e) = rw e (buffer ShortLists (omega arith) (omega arith) (omega arith))
-      go (bad-list g h e) = rw e (buffer BadTurnList (omega arith) (omega arith) (eleven h))
-      go (bad-plan g h e) =
-          let plan = declined-plan b d e in record {
-            number = omega (arith, plan .number);
-            in-plan = λ h. plan .place;
-            at-zero = λ g h. absurd (omega (arith, plan .number));
-            in-list = λ h. absurd (omega (arith, plan .number));
-          }
-      go (bad-turn g h e i l bad before q) = rw q
-          (record {
-            number = (omega arith, twelve (omega arith));
-            in-plan = λ h. absurd (omega arith);
-            at-zero = λ g h. absurd (omega arith);
-            in-list = λ h. l;
-          })
+    short : (f : Fault) → ShortBuffer (c .before) f → InTable c (decline f 0)
+    short f (few-work-cells h e) = rw e (at-start ShortWork (omega arith) (omega arith) (omega arith))
+    short f (few-list-cells g h e) = rw e (at-start ShortLists (omega arith) (omega arith) (omega arith))
+
+    go : FirstFault c d → InTable c d
+    go (short-buffer f h e) =
+        rw e (short f (buffers-tell (c .before) .fail f .0 (subst (λ k. firstFault (k (c .before)) ≡ some f) same h)))
+    go (bad-list g h e) = rw e (at-start BadTurnList (omega arith) (omega arith) (eleven h))
+    go (bad-plan g h e) =
+        let plan = declined-plan (c .run .plan) d e in record {
+          number = omega (arith, plan .number);
+          in-plan = λ h. plan .place;
+          at-zero = λ g h. absurd (omega (arith, plan .number));
+          in-list = λ h. absurd (omega (arith, plan .number));
+        }
+    go (bad-turn g h i l bad before q) = rw q
+        (record {
+          number = (omega arith, twelve (omega arith));
+          in-plan = λ h. absurd (omega arith);
+          at-zero = λ g h. absurd (omega arith);
+          in-list = λ h. l;
+        })
 
 -- an empty list has neither 11 nor 12
-pub empty-fits : (b : List ℕ) → TurnsFit b []
+pub empty-fits : (b : List ℕ) (l : Lent) → TurnsFit (roundCall b l)
 unfolding turnListFits
-empty-fits b = record { list-fits = refl; all-allowed = λ i h. absurd (omega arith) }
+empty-fits b l = record { list-fits = refl; all-allowed = λ i h. absurd (omega arith) }

@@ -1,14 +1,11 @@
 -- From an answer to its numbers, and back.
 use Prim.Native.Nat.{ℕ}
-use mathlib.Core.List.{List, []}
+use mathlib.Core.List.{List}
 use mathlib.Core.Logic.{_⊎_, inl, inr}
 use mathlib.Core.Path.{_≡_, refl, _∙_, ap, subst}
 use native.Mathlib.Omega.{arith}
 use lib.ListN.{getD}
-use Rattle.disac4.specs.Outcome.{Outcome, Gives, turnRun, roundRun}
-use Rattle.disac4.specs.Round.{roundRunTurns}
-use Rattle.disac4.specs.System.{systemAt}
-use Rattle.disac4.specs.Turn.{Turn, turnsOf}
+use Rattle.disac4.specs.Outcome.{Lent, Outcome, Gives, runOf, turnRun, roundRun}
 use Rattle.disac4.specs.declared.Answer.{Answer}
 use Rattle.disac4.specs.declared.Answer.the-variants.{Reported, Declined}
 use Rattle.disac4.specs.declared.Status.{Status}
@@ -21,15 +18,15 @@ use Rattle.faults.specs.declared.Decline.{Decline}
 use Rattle.faults.proofs.FaultNumbers.{number-range}
 use Rattle.numbers.specs.Numbers.{answerNumbers, checkedNumbers, statusNumber}
 use Rattle.tinshrew.proofs.Conclusions.{check-accepts, check-accepted, check-declined, turn-run-tells, round-run-tells, round-ends}
-use Rattle.tinshrew.specs.Conclusions.{PlanAndBuffersFit, TurnsFit, DeclinedRun, ReportedRun, RunTells}
+use Rattle.tinshrew.specs.Conclusions.{Call, turnCall, PlanAndBuffersFit, TurnsFit, RunTells}
 use Rattle.tinshrew.specs.Numbers.{GivesNumbers, NumbersTell, CheckNumbers, RunNumbers, RoundNumbers}
 
 -- what a call gives, with its answer written as numbers
-pub as-numbers : (o : Outcome) (r : Answer) (out work lists : List ℕ) → out ≡ answerNumbers r → Gives o r work lists
-    → GivesNumbers o out work lists
-as-numbers o r out work lists e g = record {
+pub as-numbers : (o : Outcome) (r : Answer) (out : List ℕ) (after : Lent) → out ≡ answerNumbers r → Gives o r after
+    → GivesNumbers o out after
+as-numbers o r out after e g = record {
   numbers = e ∙ ap answerNumbers (g .answer);
-  gives = subst (λ (a : Answer). Gives o a work lists) (g .answer) g;
+  gives = subst (λ (a : Answer). Gives o a after) (g .answer) g;
 }
 
 -- ---- the calls for C
@@ -60,21 +57,17 @@ module _ {A S : Type 0} {numbers : A → List ℕ} {success : S → A} {decline 
       }
 
 -- so those of any run
-run-numbers : {Fitting : Type 0} {most : ℕ} {b ts : List ℕ} {turns : List Turn} {work lists work′ lists′ : List ℕ} (a : Answer)
-    → RunTells Fitting most b ts turns work lists work′ lists′ a
-    → RunNumbers (answerNumbers a) Fitting (ReportedRun b turns work lists work′ lists′)
-    (DeclinedRun most b ts work lists work′ lists′)
+run-numbers : {Fitting : Type 0} {c : Call} {after : Lent} (a : Answer) → RunTells Fitting c (record { answer = a; left = after })
+    → RunNumbers (answerNumbers a) Fitting c after
 unfolding answerNumbers
 run-numbers (Reported r) tells =
     success-tells (λ r. refl) (λ d. refl) r (tells .reports .0 (r, refl)) (tells .reported r refl)
 run-numbers (Declined d) tells = decline-tells (λ r. refl) (λ d. refl) d (tells .reports .1) (tells .declined d refl)
 
 -- of the turn run
-pub turn-numbers : (b ts work lists out work′ lists′ : List ℕ) → GivesNumbers (turnRun b ts work lists) out work′ lists′
-    → RunNumbers out (PlanAndBuffersFit b work lists × TurnsFit b ts) (ReportedRun b (turnsOf ts) work lists work′ lists′)
-    (DeclinedRun 12 b ts work lists work′ lists′)
-turn-numbers b ts work lists out work′ lists′ g =
-    rw (g .numbers) (run-numbers _ (turn-run-tells b ts work lists work′ lists′ _ (g .gives)))
+pub turn-numbers : (b ts : List ℕ) (l : Lent) (out : List ℕ) (after : Lent) → GivesNumbers (runOf (turnRun b ts) l) out after
+    → let c = turnCall b ts l in RunNumbers out (PlanAndBuffersFit c × TurnsFit c) c after
+turn-numbers b ts l out after g = rw (g .numbers) (run-numbers _ (turn-run-tells b ts l _ after (g .gives)))
 
 -- a status other than open has the number of closed or of bare, not that of open
 ended-number : (s : Status) → (s ≡ Open → ⊥)
@@ -84,17 +77,17 @@ ended-number Closed not-open = (inl refl, λ e. omega arith)
 ended-number Bare not-open = (inr refl, λ e. omega arith)
 
 -- of the round run, which leaves no plan open
-pub round-numbers : (b work lists out work′ lists′ : List ℕ) → GivesNumbers (roundRun b work lists) out work′ lists′
-    → RoundNumbers b work lists out work′ lists′
+pub round-numbers : (b : List ℕ) (l : Lent) (out : List ℕ) (after : Lent) → GivesNumbers (runOf (roundRun b) l) out after
+    → RoundNumbers b l out after
 unfolding answerNumbers
-round-numbers b work lists out work′ lists′ g =
+round-numbers b l out after g =
     rw (g .numbers)
-    (let run = run-numbers _ (round-run-tells b work lists work′ lists′ _ (g .gives)) in record {
+    (let run = run-numbers _ (round-run-tells b l _ after (g .gives)) in record {
       run = run;
-      closes = λ z. let told = run .zero-told z in round-ends b work lists work′ lists′ (told .0) (told .1) .0;
+      closes = λ z. let told = run .zero-told z in round-ends b l after (told .0) (told .1) .0;
       ended = λ z.
           let told = run .zero-told z in
-          rw (told .2) (ended-number (told .0 .status) (round-ends b work lists work′ lists′ (told .0) (told .1) .1));
+          rw (told .2) (ended-number (told .0 .status) (round-ends b l after (told .0) (told .1) .1));
     })
 
 -- and of the plan check

@@ -1,8 +1,9 @@
 -- What a caller may conclude from what a call gives, as claims. `proofs/Conclusions.antt` proves them from the calls' contracts.
 use Prim.Native.Nat.{ℕ, _/_, _<_, _≤_}
 use mathlib.Core.Bool.{true, false, _&&_}
-use mathlib.Core.List.{List}
+use mathlib.Core.List.{List, []}
 use mathlib.Core.Logic.{_↔_}
+use mathlib.Core.Option.{none, some}
 use mathlib.Core.Path.{_≡_}
 use lib.ListN.{length, getD}
 use Rattle.format.specs.Limits.{maxWorkers, maxVariables, maxLabels, maxConstraints}
@@ -10,11 +11,10 @@ use Rattle.base.specs.Choice.{allOf}
 use Rattle.base.specs.Row.{bit}
 use Rattle.disac4.specs.Demands.{Demand2, Demand3}
 use Rattle.disac4.specs.Need.{workNeed, listNeed}
-use Rattle.disac4.specs.Outcome.{LongEnough, Written}
+use Rattle.disac4.specs.Outcome.{Lent, Outcome, bufferChecks, Run, turnRun, roundRun, Written}
 use Rattle.disac4.specs.Report.{final, reportOf}
-use Rattle.disac4.specs.System.{boundOf, systemAt}
-use Rattle.disac4.specs.Turn.{Turn, allowed, turnAt, turnListFits}
-use Rattle.disac4.specs.declared.Answer.{Answer}
+use Rattle.disac4.specs.System.{System, boundOf, systemAt}
+use Rattle.disac4.specs.Turn.{allowed, turnAt, turnListFits}
 use Rattle.disac4.specs.declared.Answer.the-variants.{Reported, Declined}
 use Rattle.disac4.specs.declared.Report.{Report}
 use Rattle.disac4.specs.declared.Status.the-variants.{Open}
@@ -22,8 +22,10 @@ use Rattle.network.specs.Consistency.{Within, Largest}
 use Rattle.network.specs.Network.{Network, Domains, loaded}
 use Rattle.plan.specs.Answer.{countsOf}
 use Rattle.plan.specs.Decode.{decode, accepted, declined, planOf}
+use Rattle.faults.specs.CheckList.{firstFault}
 use Rattle.faults.specs.Fault.{numberOf, decline}
 use Rattle.faults.specs.declared.Decline.{Decline}
+use Rattle.faults.specs.declared.Fault.{Fault}
 use Rattle.faults.specs.declared.Fault.the-variants.{ShortWork, ShortLists, BadTurnList, BadTurn}
 use Rattle.plan.specs.declared.Counts.{Counts}
 
@@ -53,61 +55,95 @@ pub record DeclinedPlan (b : List ℕ) (d : Decline) : Type 0 where
   -- "Place": in the plan or at its end
   pub place : d .place ≤ length b
 
+-- ---- a run and its caller
+
+-- a run, its turn list, the buffers that it is lent, and the highest number of a decline. A round run has no turn list: it declines
+-- as with an empty one
+pub record Call : Type 0 where
+  pub run : Run
+  pub turnList : List ℕ
+  pub before : Lent
+  pub most : ℕ
+
+-- the turn run's: 1 to 12
+abbrev pub turnCall : List ℕ → List ℕ → Lent → Call
+turnCall b ts l = record { run = turnRun b ts; turnList = ts; before = l; most = 12 }
+
+-- the round run's: 1 to 10
+abbrev pub roundCall : List ℕ → Lent → Call
+roundCall b l = record { run = roundRun b; turnList = []; before = l; most = 10 }
+
+-- its plan's system
+abbrev pub system : Call → System
+system c = systemAt (c .run .plan)
+
+-- ---- the lent buffers
+
+-- the buffer that is too short, and its fault
+pub data ShortBuffer (l : Lent) (f : Fault) : Type 0 where
+  -- 9
+  few-work-cells : length (l .work) < workNeed → f ≡ ShortWork → ShortBuffer l f
+  -- 10
+  few-list-cells : workNeed ≤ length (l .work) → length (l .lists) < listNeed → f ≡ ShortLists → ShortBuffer l f
+
+-- what the checks of the buffers find
+pub record BuffersTell (l : Lent) : Type 0 where
+  -- nothing exactly if there are at least 24,576 work cells and 32 list cells
+  pub pass : (firstFault (bufferChecks l) ≡ none) ↔ ((workNeed ≤ length (l .work)) × (listNeed ≤ length (l .lists)))
+  -- otherwise the fault of the first that is too short
+  pub fail : (f : Fault) → (firstFault (bufferChecks l) ≡ some f) ↔ ShortBuffer l f
+
 -- ---- when a run reports
 
 -- no fault in the plan and the buffers of a run
-pub record PlanAndBuffersFit (b work lists : List ℕ) : Type 0 where
-  -- not 9: at least 24,576 work cells
-  pub work-cells : workNeed ≤ length work
-  -- not 10: at least 32 list cells
-  pub list-cells : listNeed ≤ length lists
+pub record PlanAndBuffersFit (c : Call) : Type 0 where
+  -- neither 9 nor 10: the buffers pass their checks (`BuffersTell`)
+  pub buffers : firstFault (c .run .checks (c .before)) ≡ none
   -- none of 1 to 8: the plan is accepted
-  pub accepts : decode b ≡ accepted (planOf b)
+  pub accepts : decode (c .run .plan) ≡ accepted (planOf (c .run .plan))
 
 -- nor in the turn list
-pub record TurnsFit (b ts : List ℕ) : Type 0 where
+pub record TurnsFit (c : Call) : Type 0 where
   -- not 11: its length is even and at most 65,536
-  pub list-fits : turnListFits ts ≡ true
+  pub list-fits : turnListFits (c .turnList) ≡ true
   -- not 12: every turn is allowed
-  pub all-allowed : (i : ℕ) → i < length ts / 2 → allowed (systemAt b .workers) (turnAt ts i) ≡ true
+  pub all-allowed : (i : ℕ) → i < length (c .turnList) / 2 → allowed (system c .workers) (turnAt (c .turnList) i) ≡ true
 
 -- ---- when a run is declined
 
--- the fault that comes first in document 01's order, and its place. A round run has no turn list: its faults are those with an
--- empty one
-pub data FirstFault (b ts work lists : List ℕ) (d : Decline) : Type 0 where
-  -- 9
-  few-work-cells : length work < workNeed → d ≡ decline ShortWork 0 → FirstFault b ts work lists d
-  -- 10
-  few-list-cells : workNeed ≤ length work → length lists < listNeed → d ≡ decline ShortLists 0 → FirstFault b ts work lists d
+-- the fault that comes first in document 01's order, and its place
+pub data FirstFault (c : Call) (d : Decline) : Type 0 where
+  -- 9 or 10: a buffer is too short, and none before it is
+  short-buffer : (f : Fault) → firstFault (c .run .checks (c .before)) ≡ some f → d ≡ decline f 0 → FirstFault c d
   -- 11
-  bad-list : LongEnough work lists → turnListFits ts ≡ false → d ≡ decline BadTurnList 0 → FirstFault b ts work lists d
+  bad-list : firstFault (c .run .checks (c .before)) ≡ none → turnListFits (c .turnList) ≡ false → d ≡ decline BadTurnList 0
+      → FirstFault c d
   -- 1 to 8: the plan's first
-  bad-plan : LongEnough work lists → turnListFits ts ≡ true → decode b ≡ declined d → FirstFault b ts work lists d
+  bad-plan : firstFault (c .run .checks (c .before)) ≡ none → turnListFits (c .turnList) ≡ true → decode (c .run .plan) ≡ declined d
+      → FirstFault c d
   -- 12: turn i is not allowed, and all before it are
-  bad-turn : LongEnough work lists → turnListFits ts ≡ true → decode b ≡ accepted (planOf b)
-      → (i : ℕ) → i < length ts / 2 → allowed (systemAt b .workers) (turnAt ts i) ≡ false
-      → ((j : ℕ) → j < i → allowed (systemAt b .workers) (turnAt ts j) ≡ true) → d ≡ decline BadTurn i
-      → FirstFault b ts work lists d
+  bad-turn : PlanAndBuffersFit c → turnListFits (c .turnList) ≡ true
+      → (i : ℕ) → i < length (c .turnList) / 2 → allowed (system c .workers) (turnAt (c .turnList) i) ≡ false
+      → ((j : ℕ) → j < i → allowed (system c .workers) (turnAt (c .turnList) j) ≡ true) → d ≡ decline BadTurn i
+      → FirstFault c d
 
--- a decline as document 01's table has it, its number at most `most`
-pub record InTable (most : ℕ) (b ts : List ℕ) (d : Decline) : Type 0 where
+-- a decline as document 01's table has it
+pub record InTable (c : Call) (d : Decline) : Type 0 where
   -- "Returned"
-  pub number : (1 ≤ numberOf (d .fault)) × (numberOf (d .fault) ≤ most)
+  pub number : (1 ≤ numberOf (d .fault)) × (numberOf (d .fault) ≤ c .most)
   -- "Place" for 1 to 8: in the plan or at its end
-  pub in-plan : numberOf (d .fault) ≤ 8 → d .place ≤ length b
+  pub in-plan : numberOf (d .fault) ≤ 8 → d .place ≤ length (c .run .plan)
   -- for 9, 10 and 11: 0
   pub at-zero : 9 ≤ numberOf (d .fault) → numberOf (d .fault) ≤ 11 → d .place ≡ 0
   -- for 12: the number of a turn, from 0
-  pub in-list : numberOf (d .fault) ≡ 12 → d .place < length ts / 2
+  pub in-list : numberOf (d .fault) ≡ 12 → d .place < length (c .turnList) / 2
 
--- a run that was declined, from the buffers before and after it
-pub record DeclinedRun (most : ℕ) (b ts work lists work′ lists′ : List ℕ) (d : Decline) : Type 0 where
-  pub first : FirstFault b ts work lists d
-  pub in-table : InTable most b ts d
+-- a run that was declined, with the buffers after it
+pub record DeclinedRun (c : Call) (after : Lent) (d : Decline) : Type 0 where
+  pub first : FirstFault c d
+  pub in-table : InTable c d
   -- no lent cell is changed
-  pub same-work : work′ ≡ work
-  pub same-lists : lists′ ≡ lists
+  pub same-cells : after ≡ c .before
 
 -- ---- what a report says
 
@@ -115,38 +151,37 @@ pub record DeclinedRun (most : ℕ) (b ts work lists work′ lists′ : List ℕ
 unfoldable pub listedIn : Network → List ℕ → Domains
 listedIn net cells x v = loaded net x v && bit (getD cells x 0) v
 
--- a run of these turns that reported, from the buffers before and after it
-pub record ReportedRun (b : List ℕ) (turns : List Turn) (work lists work′ lists′ : List ℕ) (r : Report) : Type 0 where
+-- a run that reported, with the buffers after it
+pub record ReportedRun (c : Call) (after : Lent) (r : Report) : Type 0 where
   -- the plan is accepted
-  pub accepts : decode b ≡ accepted (planOf b)
+  pub accepts : decode (c .run .plan) ≡ accepted (planOf (c .run .plan))
   -- every turn is allowed
-  pub all-allowed : allOf (allowed (systemAt b .workers)) turns ≡ true
+  pub all-allowed : allOf (allowed (system c .workers)) (c .run .turns) ≡ true
   -- the report is that of these turns
-  pub report : r ≡ reportOf (systemAt b) turns
-  -- every cell of both buffers: cleared, written or kept
-  pub cells : Written work lists (systemAt b) turns (record { answer = Reported r; work = work′; lists = lists′ })
-  pub demand2 : Demand2 (systemAt b) turns
-  pub demand3 : Demand3 (systemAt b) turns
+  pub report : r ≡ reportOf (system c) (c .run .turns)
+  -- every cell of the buffers: cleared, written or kept
+  pub cells : Written (c .before) (system c) (c .run .turns) after
+  pub demand2 : Demand2 (system c) (c .run .turns)
+  pub demand3 : Demand3 (system c) (c .run .turns)
   -- the list cells hold a label exactly if it is still in its domain
-  pub listed : (x v : ℕ) → loaded (systemAt b .net) x v ≡ true
-      → listedIn (systemAt b .net) lists′ x v ≡ final (systemAt b) turns .domain x v
+  pub listed : (x v : ℕ) → loaded (system c .net) x v ≡ true
+      → listedIn (system c .net) (after .lists) x v ≡ final (system c) (c .run .turns) .domain x v
   -- they hold every label of the largest arc-consistent domains
-  pub keeps-largest : (d : Domains) → Largest (systemAt b .net) d → Within d (listedIn (systemAt b .net) lists′)
+  pub keeps-largest : (d : Domains) → Largest (system c .net) d → Within d (listedIn (system c .net) (after .lists))
   -- unless the status is open, they are the largest arc-consistent domains
-  pub largest : (r .status ≡ Open → ⊥) → Largest (systemAt b .net) (listedIn (systemAt b .net) lists′)
+  pub largest : (r .status ≡ Open → ⊥) → Largest (system c .net) (listedIn (system c .net) (after .lists))
   -- the reported number of changing turns is at most 5pL + 2L + 3p + 1
-  pub bounded : r .changes ≤ boundOf (systemAt b)
+  pub bounded : r .changes ≤ boundOf (system c)
 
 -- ---- all that a run tells
 
--- from its answer and the buffers before and after it. `Fitting` is that nothing is at fault, `most` the highest number of a
--- decline, `ts` the turn list (for a round run an empty one), and `turns` are those that are played
-pub record RunTells (Fitting : Type 0) (most : ℕ) (b ts : List ℕ) (turns : List Turn) (work lists work′ lists′ : List ℕ) (a : Answer) : Type 0 where
+-- from its outcome; `Fitting` is that nothing is at fault
+pub record RunTells (Fitting : Type 0) (c : Call) (o : Outcome) : Type 0 where
   -- it reports exactly if nothing is at fault
-  pub reports : ((r : Report) × (a ≡ Reported r)) ↔ Fitting
+  pub reports : ((r : Report) × (o .answer ≡ Reported r)) ↔ Fitting
   -- it declines exactly the first fault
-  pub declines : (d : Decline) → (a ≡ Declined d) ↔ FirstFault b ts work lists d
+  pub declines : (d : Decline) → (o .answer ≡ Declined d) ↔ FirstFault c d
   -- what follows from a report
-  pub reported : (r : Report) → a ≡ Reported r → ReportedRun b turns work lists work′ lists′ r
+  pub reported : (r : Report) → o .answer ≡ Reported r → ReportedRun c (o .left) r
   -- and from a decline
-  pub declined : (d : Decline) → a ≡ Declined d → DeclinedRun most b ts work lists work′ lists′ d
+  pub declined : (d : Decline) → o .answer ≡ Declined d → DeclinedRun c (o .left) d

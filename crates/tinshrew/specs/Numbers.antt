@@ -1,27 +1,25 @@
 -- What a call for C leaves its caller: numbers in `out`, and both lent buffers. And what a caller may conclude from them, as claims
 -- that `proofs/Numbers.antt` proves.
 use Prim.Native.Nat.{ℕ}
-use mathlib.Core.List.{List, []}
+use mathlib.Core.List.{List}
 use mathlib.Core.Logic.{_↔_, _⊎_}
 use mathlib.Core.Path.{_≡_}
 use lib.ListN.{getD}
 use Rattle.disac4.specs.Demands.{RoundCloses}
-use Rattle.disac4.specs.Outcome.{Outcome, Gives}
-use Rattle.disac4.specs.Round.{roundRunTurns}
+use Rattle.disac4.specs.Outcome.{Lent, Outcome, Gives}
 use Rattle.disac4.specs.System.{systemAt}
 use Rattle.disac4.specs.declared.Answer.the-variants.{Reported, Declined}
-use Rattle.disac4.specs.declared.Report.{Report}
 use Rattle.disac4.specs.declared.Status.the-variants.{Open, Closed, Bare}
 use Rattle.numbers.specs.Numbers.{answerNumbers, checkedNumbers, statusNumber}
 use Rattle.plan.specs.Decode.{decode, accepted, planOf}
 use Rattle.plan.specs.declared.Checked as checked
 use Rattle.faults.specs.declared.Decline.{Decline}
-use Rattle.tinshrew.specs.Conclusions.{AcceptedPlan, DeclinedPlan, PlanAndBuffersFit, DeclinedRun, ReportedRun}
+use Rattle.tinshrew.specs.Conclusions.{AcceptedPlan, DeclinedPlan, Call, roundCall, PlanAndBuffersFit, DeclinedRun, ReportedRun}
 
 -- `Gives`, with the answer as its numbers
-pub record GivesNumbers (o : Outcome) (out work lists : List ℕ) : Type 0 where
+pub record GivesNumbers (o : Outcome) (out : List ℕ) (after : Lent) : Type 0 where
   pub numbers : out ≡ answerNumbers (o .answer)
-  pub gives : Gives o (o .answer) work lists
+  pub gives : Gives o (o .answer) after
 
 -- what the numbers of an answer tell. `numbers` writes a success and a decline; `Fitting` is that nothing is at fault, and `Told` and
 -- `Refused` are what follows from each
@@ -41,14 +39,13 @@ CheckNumbers b out =
     (AcceptedPlan b) (DeclinedPlan b)
 
 -- those of a run: 0 and the report exactly if plan, turns and buffers are fit for it
-abbrev pub RunNumbers : List ℕ → Type 0 → (Report → Type 0) → (Decline → Type 0) → Type 0
-RunNumbers = NumbersTell answerNumbers Reported Declined
+abbrev pub RunNumbers : List ℕ → Type 0 → Call → Lent → Type 0
+RunNumbers out Fitting c after = NumbersTell answerNumbers Reported Declined out Fitting (ReportedRun c after) (DeclinedRun c after)
 
 -- those of a round run
-pub record RoundNumbers (b work lists out work′ lists′ : List ℕ) : Type 0 where
+pub record RoundNumbers (b : List ℕ) (l : Lent) (out : List ℕ) (after : Lent) : Type 0 where
   -- as of any run
-  pub run : RunNumbers out (PlanAndBuffersFit b work lists) (ReportedRun b (roundRunTurns (systemAt b)) work lists work′ lists′)
-      (DeclinedRun 10 b [] work lists work′ lists′)
+  pub run : RunNumbers out (PlanAndBuffersFit (roundCall b l)) (roundCall b l) after
   -- where the first is 0, the plan is closed after its turns
   pub closes : getD out 0 0 ≡ 0 → RoundCloses (systemAt b)
   -- and the second, the status, has the number of closed or of bare, never that of open

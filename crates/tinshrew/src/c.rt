@@ -3,7 +3,7 @@
 use numbers::answer_numbers;
 use numbers::checked_numbers;
 ghost use mathlib.Core.Path.{_≡_};
-ghost use Rattle.disac4.specs.Outcome.{turnRun, roundRun};
+ghost use Rattle.disac4.specs.Outcome.{lent, runOf, turnRun, roundRun};
 ghost use Rattle.plan.specs.Answer.{planCheck};
 ghost use Rattle.numbers.specs.Numbers.{checkedNumbers};
 ghost use Rattle.tinshrew.specs.Numbers.{GivesNumbers};
@@ -25,7 +25,7 @@ pub extern "C" fn tinshrew_run_turns(
     lists: &mut [u16],
     out: &mut [usize; 6],
 )
-    ensures { λ _. ⌜ GivesNumbers (turnRun (now (plan .entry)) (now (turns .entry)) (now (work .entry)) (now (lists .entry))) (now (out .exit)) (now (work .exit)) (now (lists .exit)) ⌝ }
+    ensures { λ _. ⌜ GivesNumbers (runOf (turnRun (now (plan .entry)) (now (turns .entry))) (lent (now (work .entry)) (now (lists .entry)))) (now (out .exit)) (lent (now (work .exit)) (now (lists .exit))) ⌝ }
 {
     *out = answer_numbers(calls::run_turns(plan, turns, work, lists));
 }
@@ -38,7 +38,7 @@ pub extern "C" fn tinshrew_run_round(
     lists: &mut [u16],
     out: &mut [usize; 6],
 )
-    ensures { λ _. ⌜ GivesNumbers (roundRun (now (plan .entry)) (now (work .entry)) (now (lists .entry))) (now (out .exit)) (now (work .exit)) (now (lists .exit)) ⌝ }
+    ensures { λ _. ⌜ GivesNumbers (runOf (roundRun (now (plan .entry))) (lent (now (work .entry)) (now (lists .entry)))) (now (out .exit)) (lent (now (work .exit)) (now (lists .exit))) ⌝ }
 {
     *out = answer_numbers(calls::run_round(plan, work, lists));
 }

@@ -5,9 +5,8 @@ use mathlib.Core.Option.{Option, none}
 use mathlib.Core.Path.{_≡_, refl, sym, _∙_}
 use Prim.Native.Nat.{_/_}
 use lib.ListN.{length}
-use Rattle.base.specs.Choice.{firstOf}
 use Rattle.disac4.proofs.Order.{bad-turn-list, then-plan}
-use Rattle.disac4.specs.Outcome.{bufferFault, inputFault}
+use Rattle.disac4.specs.Outcome.{lent, inputFault, runFault, turnRun}
 use Rattle.disac4.specs.Turn.{turnListFits}
 use Rattle.inputs.specs.Bad.{badTurn}
 use Rattle.plan.proofs.Answer.{plan-check, no-fault, its-workers, its-fault, answer-accepted, answer-declined}
@@ -28,9 +27,13 @@ use Rattle.calls.proofs.check_run.Tie as tie
 abbrev start : tie.After-check-buffers → tie.Start
 start k = k .before .before .before .before .before
 
+-- the first fault of the run
+abbrev fault : tie.Start → Option Decline
+fault s = let a = s .args in runFault (turnRun (now (a .plan)) (now (a .turns))) (lent (now (a .work)) (now (a .lists)))
+
 -- the buffers pass
-fits : (e : tie.After-enum-told) → let a = start (e .before .before) .args in bufferFault (now (a .work)) (now (a .lists)) ≡ none
-fits e = buffers-pass _ _ _ (e .before .before .check-buffers .ensures) (e .enum-told .given .1)
+fits : (e : tie.After-enum-told) → let s = start (e .before .before) in fault s ≡ inputFault (now (s .args .plan)) (now (s .args .turns))
+fits e = buffers-pass _ _ _ _ (e .before .before .check-buffers .ensures) (e .enum-told .given .1)
 
 list-fits : (e : tie.Else1) → turnListFits (now (start (e .before .before .before .before) .args .turns)) ≡ true
 list-fits e = holds (e .before .list-fits .ensures) (e .if1 .left)
@@ -52,13 +55,12 @@ workers : (t : tie.After-f) → t .f .given .0 .0 .workers ≡ workerCount (now 
 workers t = its-workers _ _ _ (known t)
 
 -- the turns are tried, and what is found decides
-tried : (l : tie.After-first-bad) (o : Option Decline) → let a = given (l .before .before) .args in
-    badTurn (length (now (a .turns)) / 2) (l .first-bad .result) ≡ o
-    → firstOf (bufferFault (now (a .work)) (now (a .lists))) (inputFault (now (a .plan)) (now (a .turns))) ≡ o
+tried : (l : tie.After-first-bad) (o : Option Decline) → let s = given (l .before .before) in
+    badTurn (length (now (s .args .turns)) / 2) (l .first-bad .result) ≡ o → fault s ≡ o
 tried l o e =
     let t = l .before .before in
-    then-plan _ _ _ _ o (fits (checked t .before .before)) (list-fits (checked t))
-    (rw (sound t, ← workers t) (l .first-bad .ensures .1 ∙ e))
+    fits (checked t .before .before)
+    ∙ then-plan _ _ o (list-fits (checked t)) (rw (sound t, ← workers t) (l .first-bad .ensures .1 ∙ e))
 
 -- ---- the calls and the answers
 
@@ -75,8 +77,7 @@ returns : tie.Need-returns
 returns c =
     let v = c .before .before in
     let k = v .before .before in
-    answer-declined _ _ _ _ (c .declined .ensures)
-    (rw (buffers-fail _ _ _ (k .check-buffers .ensures) _ (v .verdict .given .1)))
+    answer-declined _ _ _ _ (c .declined .ensures) (buffers-fail _ _ _ _ (k .check-buffers .ensures) _ (v .verdict .given .1))
 
 enum-told : tie.Need-enum-told
 enum-told c = search needs
@@ -92,7 +93,7 @@ returns-2 c =
     let l = c .before .before in
     let a = start (l .before .before .before) .args in
     answer-declined _ _ _ _ (c .declined2 .ensures)
-    (rw (fits (l .before), bad-turn-list (now (a .plan)) (now (a .turns)) (fails (l .list-fits .ensures) (c .before .if1 .taken))))
+    (fits (l .before) ∙ bad-turn-list (now (a .plan)) (now (a .turns)) (fails (l .list-fits .ensures) (c .before .if1 .taken)))
 
 check-plan-requires : tie.Need-check-plan-requires
 check-plan-requires c κs = search needs
@@ -118,7 +119,8 @@ returns-4 c =
     let k = c .before .before .before in
     let e = k .before in
     answer-declined _ _ _ _ refl
-    (then-plan _ _ _ _ _ (fits (e .before .before)) (list-fits e)
+    (fits (e .before .before)
+    ∙ then-plan _ _ _ (list-fits e)
     (rw (its-fault _ _ _ (sym (c .before .d .given .1) ∙ k .check-plan .ensures ∙ plan-check _))))
 
 returns-5 : tie.Need-returns-5

@@ -3,11 +3,9 @@ use denote.Ref.{now}
 use mathlib.Core.List.{[]}
 use mathlib.Core.Option.{none}
 use mathlib.Core.Path.{_≡_, sym, _∙_}
-use Rattle.base.specs.Choice.{firstOf}
-use Rattle.disac4.proofs.Order.{passed, round-without-list}
-use Rattle.disac4.specs.Need.{workNeed, listNeed}
+use Rattle.disac4.proofs.Order.{turn-passed, round-without-list}
 use Rattle.disac4.proofs.Outcome.{run-played, run-refused}
-use Rattle.disac4.specs.Outcome.{bufferFault, inputFault}
+use Rattle.disac4.specs.Outcome.{lent, runFault, turnRun}
 use Rattle.format.specs.Format.{workerCount}
 use Rattle.plan.proofs.Answer.{no-fault, its-fault, its-workers}
 use borrow.Author.Needs.{needs}
@@ -21,7 +19,7 @@ abbrev start : tie.After-f → tie.Start
 start t = t .before .before .before .before .before .before .before .before .before
 
 nothing : (t : tie.After-f) → let a = start t .args in
-    firstOf (bufferFault (now (a .work)) (now (a .lists))) (inputFault (now (a .plan)) []) ≡ none
+    runFault (turnRun (now (a .plan)) []) (lent (now (a .work)) (now (a .lists))) ≡ none
 nothing t = no-fault _ _ _ (sym (t .f .given .1) ∙ t .before .before .check-run .ensures) .0
 
 workers : (t : tie.After-f) → t .f .given .0 .0 .workers ≡ workerCount (now (start t .args .plan))
@@ -42,13 +40,12 @@ enum-known-f : tie.Need-enum-known-f
 enum-known-f c = search needs
 
 play-until-closed-requires : tie.Need-play-until-closed-requires
-unfolding workNeed listNeed
 play-until-closed-requires c κs =
     let t = c .before .before .before in
-    let passes = passed _ _ _ _ (nothing t) in (
+    let passes = turn-passed _ _ _ (nothing t) in (
       passes .2,
-      passes .0 .0,
-      passes .0 .1,
+      passes .0,
+      passes .1,
       workers t,
     )
 
@@ -60,8 +57,9 @@ same-length-2 c = search needs
 
 returns : tie.Need-returns
 returns c =
-    rw (round-without-list _ _ _)
-    (run-refused _ _ _ _ _ _ (its-fault _ _ _ (sym (c .before .d .given .1) ∙ c .before .before .before .check-run .ensures)))
+    run-refused _ _ _
+    (round-without-list _ _
+    ∙ its-fault _ _ _ (sym (c .before .d .given .1) ∙ c .before .before .before .check-run .ensures))
 
 same-length-3 : tie.Need-same-length-3
 same-length-3 c = search needs
@@ -72,7 +70,7 @@ same-length-4 c = search needs
 returns-2 : tie.Need-returns-2
 returns-2 c =
     let p = c .before .before .before .before in
-    rw (round-without-list _ _ _, run-played _ _ _ _ _ (nothing (p .before .before .before .before))) (p .play-until-closed .ensures)
+    rw (run-played _ _ (round-without-list _ _ ∙ nothing (p .before .before .before .before))) (p .play-until-closed .ensures)
 
 pub run-round-spec : {M : Type 1} → statement M
 run-round-spec =

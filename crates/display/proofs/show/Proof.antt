@@ -7,7 +7,7 @@ use Rattle.disac4.specs.Need.{workNeed, listNeed}
 use Rattle.base.specs.Bytes.{byteAt}
 use Rattle.display.proofs.Fits.{shown-fits}
 use Rattle.display.proofs.Texts.{outcome-held, shows-whole}
-use Rattle.display.specs.Shown.{shown, freshWork, freshLists}
+use Rattle.display.specs.Shown.{shown, fresh}
 use borrow.Author.Needs.{needs}
 use Rattle.display.proofs.show.Statement.{statement}
 use Rattle.display.proofs.show.Tie as tie
@@ -37,7 +37,7 @@ print-answer-requires : tie.Need-print-answer-requires
 print-answer-requires c κs = search needs
 
 returns : tie.Need-returns
-unfolding shown freshWork freshLists workNeed listNeed
+unfolding shown fresh workNeed listNeed
 returns c =
     let r = c .before .before .before .before .before in
     let k = r .before .before .before in
