@@ -14,8 +14,9 @@ index-plan-requires c κs = search needs
 
 load-plan-requires : tie.Need-load-plan-requires
 load-plan-requires c κs =
-    let a = c .before .before .before .before .before .before .before .before .before .before .before in
-    let cleared = c .before .before .before .before .before .before .before .clear in
+    let a : tie.Start = search in
+    let k : tie.After-clear = search in
+    let cleared = k .clear in
     let indexed = c .before .before .before .index-plan in
     start-ready (now (a .args .b)) (now (a .args .cells)) (cleared .last .0) (indexed .last .1 .0) (a .pre .0)
     (cleared .ensures) (indexed .ensures) (omega (arith, a .pre .1, cleared .kept .0, indexed .kept .1 .0))
@@ -28,9 +29,11 @@ same-length c = search needs
 
 returns : tie.Need-returns
 returns c =
-    let a = c .before .before .before .before .before .before .before .before .before .before .before .before .before .before .before in
-    let cleared = c .before .before .before .before .before .before .before .before .before .before .before .clear in
-    let indexed = c .before .before .before .before .before .before .before .index-plan in
+    let a : tie.Start = search in
+    let k : tie.After-clear = search in
+    let cleared = k .clear in
+    let i : tie.After-index-plan = search in
+    let indexed = i .index-plan in
     start-made (now (a .args .b)) (now (a .args .cells)) (cleared .last .0) (indexed .last .1 .0) (a .pre .0)
     (cleared .ensures) (indexed .ensures) (c .before .before .before .load-plan .last .1 .0) (c .fresh .result)
     (c .before .before .before .load-plan .ensures) (c .fresh .ensures)

@@ -28,7 +28,7 @@ second-requires c κs = search needs
 
 numbered-size-requires-2 : tie.Need-numbered-size-requires-2
 numbered-size-requires-2 c κs =
-    let s = c .before .before .before .before .before .before in
+    let s : tie.Start = search in
     let o = ordered (s .args .b .now) (s .args .at) (s .pre .2) in
     (s .pre .0, omega (arith, o, c .second .ensures .0), omega (arith, o, c .second .ensures .0))
 

@@ -81,7 +81,8 @@ loop-less c = omega arith
 loop-again : tie.Need-loop-again Inv-loop μ-loop Inv-scan μ-scan
 loop-again c =
     let l = c .before .before .before in
-    let a = l .before .before .before .before .before .before .args in (
+    let start : tie.Start Inv-loop μ-loop Inv-scan μ-scan = search in
+    let a = start .args in (
       l .loop .inv .0,
       omega arith,
       same-more (a .b .now) (a .at) (l .loop .u) (l .before .before .before .scan .v) (c .before .code2 .result) (l .before .code .result)
