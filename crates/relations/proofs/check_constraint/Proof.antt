@@ -40,7 +40,9 @@ ordered c = next (known (c .before .before)) (rw (in-order c))
 
 abbrev exact : tie.Else5 → Stage checks
 unfolding constraintChecks
-exact c = let s = ordered (c .before .before) in next s (rw (← s .place .before .word-at .ensures .0, ← c .before .constraint-length .ensures, eq-eqb _ _ (c .if5 .left)))
+exact c =
+    let s = ordered (c .before .before) in
+    next s (rw (← s .place .before .word-at .ensures .0, ← c .before .constraint-length .ensures, eq-eqb _ _ (c .if5 .left)))
 
 abbrev fitting : tie.Else6 → Stage checks
 unfolding constraintChecks
@@ -82,7 +84,9 @@ constraint-length-requires c κs =
 
 returns-5 : tie.Need-returns-5
 unfolding constraintChecks
-returns-5 c = let s = ordered (c .before .before) in rw (s .past, ← s .place .before .word-at .ensures .0, ← c .before .constraint-length .ensures, ne-eqb _ _ (c .if5 .taken))
+returns-5 c =
+    let s = ordered (c .before .before) in
+    rw (s .past, ← s .place .before .word-at .ensures .0, ← c .before .constraint-length .ensures, ne-eqb _ _ (c .if5 .taken))
 
 table-fits-requires : tie.Need-table-fits-requires
 unfolding exact

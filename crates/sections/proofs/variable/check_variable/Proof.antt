@@ -27,11 +27,16 @@ counted c = let s = roomy (c .before) in next s (rw (← s .place .size .ensures
 
 abbrev exact : tie.Else4 → Stage checks
 unfolding variableChecks
-exact c = let s = counted (c .before) in next s (rw (← s .place .before .word-at .ensures .0, ← s .place .size .ensures .0, eq-eqb _ _ (c .if4 .left)))
+exact c =
+    let s = counted (c .before) in
+    next s (rw (← s .place .before .word-at .ensures .0, ← s .place .size .ensures .0, eq-eqb _ _ (c .if4 .left)))
 
 abbrev owned : tie.Else5 → Stage checks
 unfolding variableChecks
-owned c = next (exact (c .before .before .before .before)) (rw (← c .before .before .before .worker-count .ensures .0, ← c .before .before .owner .ensures .0, holds (c .before .between .ensures) (c .if5 .left)))
+owned c =
+    let b = c .before in
+    next (exact (b .before .before .before))
+    (rw (← b .before .before .worker-count .ensures .0, ← b .before .owner .ensures .0, holds (b .between .ensures) (c .if5 .left)))
 
 abbrev distinct : tie.Else6 → Stage checks
 unfolding variableChecks
@@ -66,7 +71,9 @@ add-if4 c = search needs
 
 returns-4 : tie.Need-returns-4
 unfolding variableChecks
-returns-4 c = let s = counted (c .before) in rw (s .past, ← s .place .before .word-at .ensures .0, ← s .place .size .ensures .0, ne-eqb _ _ (c .if4 .taken))
+returns-4 c =
+    let s = counted (c .before) in
+    rw (s .past, ← s .place .before .word-at .ensures .0, ← s .place .size .ensures .0, ne-eqb _ _ (c .if4 .taken))
 
 worker-count-requires : tie.Need-worker-count-requires
 worker-count-requires c κs = search needs
@@ -79,7 +86,14 @@ between-requires c κs = search needs
 
 returns-5 : tie.Need-returns-5
 unfolding variableChecks
-returns-5 c = rw (exact (c .before .before .before .before) .past, ← c .before .before .before .worker-count .ensures .0, ← c .before .before .owner .ensures .0, fails (c .before .between .ensures) (c .if5 .taken))
+returns-5 c =
+    let b = c .before in
+    rw (
+      exact (b .before .before .before) .past,
+      ← b .before .before .worker-count .ensures .0,
+      ← b .before .owner .ensures .0,
+      fails (b .between .ensures) (c .if5 .taken),
+    )
 
 repeats-code-requires : tie.Need-repeats-code-requires
 repeats-code-requires c κs = search needs
