@@ -27,10 +27,10 @@ same-length c = search needs
 
 returns : tie.Need-returns
 returns c =
-    let at-put3 = c .before .before in
-    let at-put2 = at-put3 .before .before .before .before in
-    let at-put = at-put2 .before .before .before .before in
-    let start = at-put .before .before .before .before in
+    let at-put3 : tie.After-put3 = search in
+    let at-put2 : tie.After-put2 = search in
+    let at-put : tie.After-put = search in
+    let start : tie.Start = search in
     answered _ _ _ _ (start .args .i) (start .args .number .0) (start .args .outs) (at-put .put .ensures)
     (at-put2 .put2 .ensures) (at-put3 .put3 .ensures)
 

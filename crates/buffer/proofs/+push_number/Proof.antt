@@ -63,7 +63,8 @@ push-number-returns : (t : ℕ) → push-number-lts.Need-returns (
   push-number.Post,
 ) (push-number-at t) push-number.Post
 push-number-returns t c =
-    let start = c .before .before .before .before .before .before in
+    let low = c .before .before .before .before in
+    let start = low .before .before in
     rw (decimal-low (start .args .n) (omega arith)) (c .before .before .push .ensures)
 
 push-number-push-number-requires : (t : ℕ) → push-number-lts.Need-push-number-requires (

@@ -16,7 +16,9 @@ same-length c = search needs
 
 returns : tie.Need-returns
 unfolding spaced
-returns c = c .before .before .before .before .before .before .push .ensures then c .before .before .push-number .ensures
+returns c =
+    let pushed : tie.After-push = search in
+    pushed .push .ensures then c .before .before .push-number .ensures
 
 pub push-spaced-spec : {M : Type 1} → statement M
 push-spaced-spec = tie.close (tie.spec push-requires push-number-requires same-length returns)

@@ -36,8 +36,8 @@ loop-less c = omega arith
 
 loop-again : tie.Need-loop-again Inv-loop μ-loop
 loop-again c =
-    let at-push = c .before .before in
-    let at-loop = at-push .before .before .before .before in
+    let at-push : tie.After-push Inv-loop μ-loop = search in
+    let at-loop : tie.At-loop Inv-loop μ-loop = search in
     let word = at-loop .before .before .before .args .word .now in
     (omega arith, omega arith, then-next word (at-loop .loop .i) (omega arith) (at-loop .loop .inv .2) (at-push .push .ensures))
 
@@ -46,7 +46,8 @@ same-length c = omega arith
 
 returns : tie.Need-returns Inv-loop μ-loop
 returns c =
-    let word = c .before .before .before .before .args .word .now in
+    let start : tie.Start Inv-loop μ-loop = search in
+    let word = start .args .word .now in
     rw (take-all (c .before .loop .i) word (omega arith)) at (c .before .loop .inv .2)
 
 pub push-word-spec : {M : Type 1} → statement M

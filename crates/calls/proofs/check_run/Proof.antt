@@ -25,7 +25,7 @@ use Rattle.calls.proofs.check_run.Tie as tie
 
 -- the arguments, from the test of the buffers on
 abbrev start : tie.After-check-buffers → tie.Start
-start k = k .before .before .before .before .before
+start k = let lent = k .before in lent .before .before .before .before
 
 -- the first fault of the run
 abbrev fault : tie.Start → Option Decline

@@ -51,21 +51,23 @@ put-requires : tie.Need-put-requires
 put-requires c κs = may-put _ _ _ refl _ _ (omega (arith, room (c .before .before .before)))
 
 told-requires : tie.Need-told-requires
-told-requires c κs = omega (arith, room (c .before .before .before .before .before .before))
+told-requires c κs =
+    let message : tie.Else1 = search in
+    omega (arith, room message)
 
 same-length-2 : tie.Need-same-length-2
 same-length-2 c = search needs
 
 returns-2 : tie.Need-returns-2
 returns-2 c =
-    let at-put = c .before .before .before in
-    let at-get3 = at-put .before .before in
-    let at-if1 = at-get3 .before .before in
-    let at-has-out = at-if1 .before in
-    let at-get2 = at-has-out .before in
-    let at-get = at-get2 .before .before in
+    let at-put : tie.After-put = search in
+    let at-get3 : tie.After-get3 = search in
+    let message : tie.Else1 = search in
+    let at-has-out : tie.After-has-out = search in
+    let at-get2 : tie.After-get2 = search in
+    let at-get : tie.After-get = search in
     λ sys e. acts _ _ _ _ (hear-takes _ _ _ (at-has-out .has-out .ensures) _ _ _ (at-get .get .ensures .0)
-    (at-get2 .get2 .ensures .0) (at-if1 .if1 .left) (at-get3 .get3 .ensures .0) e)
+    (at-get2 .get2 .ensures .0) (message .if1 .left) (at-get3 .get3 .ensures .0) e)
     (stands _ _ _ (at-put .put .ensures) (c .told .ensures))
 
 pub hear-spec : {M : Type 1} → statement M

@@ -17,8 +17,8 @@ use Rattle.plan.specs.Network.{shareConstraint, networkOf}
 
 linked-requires : tie.Need-linked-requires
 linked-requires c κs =
-    let s = c .before .before .before in
-    omega (arith, s .pre .0 .long, s .pre .1, s .pre .2, few-sections (now (s .args .b)) (s .pre .0 .sound))
+    let start : tie.Start = search in
+    omega (arith, start .pre .0 .long, start .pre .1, start .pre .2, few-sections (now (start .args .b)) (start .pre .0 .sound))
 
 -- the test of the index says whether the two are linked, in either order
 module _ (c : tie.After-linked) where
@@ -53,14 +53,14 @@ put-counts-requires c κs =
 
 put-counts-requires-2 : tie.Need-put-counts-requires-2
 put-counts-requires-2 c κs =
-    let p = c .before .before .before .before in
-    let r = p .before .before .before in
-    let t = branch r in
+    let one-put : tie.After-put-counts = search in
+    let rows-read : tie.After-support-rows = search in
+    let t = branch rows-read in
     let a = s (t .before) in (
-      ready-kept (now (a .args .b)) (now (a .args .cells)) _ (a .pre .0) (p .put-counts .kept .1 .0) (p .put-counts .ensures)
+      ready-kept (now (a .args .b)) (now (a .args .cells)) _ (a .pre .0) (one-put .put-counts .kept .1 .0) (one-put .put-counts .ensures)
           (counters-alone (pair-else (systemAt (now (a .args .b))) (a .args .x) (a .args .y) _)),
       found (t .before) _ (t .if1 .taken) .1,
-      r .support-rows .ensures .1,
+      rows-read .support-rows .ensures .1,
     )
 
 same-length : tie.Need-same-length
@@ -69,12 +69,12 @@ same-length c = search needs
 returns : tie.Need-returns
 unfolding systemOf networkOf
 returns c =
-    let q = c .before .before in
-    let p = q .before .before .before .before .before in
-    let t = branch (p .before .before .before) in
+    let both-put : tie.After-put-counts2 = search in
+    let one-put : tie.After-put-counts = search in
+    let t = branch (one-put .before .before .before) in
     let a = s (t .before) .args in
     let f = found (t .before) _ (t .if1 .taken) in
-    both-linked (systemAt (now (a .b))) (a .x) (a .y) _ _ _ (f .0) (f .1) (p .put-counts .ensures) (q .put-counts2 .ensures)
+    both-linked (systemAt (now (a .b))) (a .x) (a .y) _ _ _ (f .0) (f .1) (one-put .put-counts .ensures) (both-put .put-counts2 .ensures)
 
 same-length-2 : tie.Need-same-length-2
 same-length-2 c = search needs

@@ -31,13 +31,13 @@ abbrev μ-loop : tie.MeasureT-loop
 
 size-requires : tie.Need-size-requires Inv-loop μ-loop
 size-requires c κs =
-    let s = c .before .before .before in
-    (s .pre .0, linked-inside (now (s .args .b)) (s .pre .0 .sound) (s .args .x) (s .args .y) (s .pre .1) .0)
+    let start : tie.Start Inv-loop μ-loop = search in
+    (start .pre .0, linked-inside (now (start .args .b)) (start .pre .0 .sound) (start .args .x) (start .args .y) (start .pre .1) .0)
 
 counter-row-requires : tie.Need-counter-row-requires Inv-loop μ-loop
 counter-row-requires c κs =
-    let s = c .before .before .before .before .before in
-    linked-row (now (s .args .b)) (now (s .args .cells)) (s .pre .0) (s .args .x) (s .args .y) (s .pre .1)
+    let start : tie.Start Inv-loop μ-loop = search in
+    linked-row (now (start .args .b)) (now (start .args .cells)) (start .pre .0) (start .args .x) (start .args .y) (start .pre .1)
 
 loop-holds : tie.Need-loop-holds Inv-loop μ-loop
 loop-holds c = done-none
@@ -122,8 +122,8 @@ same-length c = omega arith
 returns : tie.Need-returns Inv-loop μ-loop
 unfolding countPairM systemOf networkOf
 returns c =
-    let z = c .before .before .before .before in
-    done-all _ (c .before .loop .inv) (omega (arith, c .loop-test .left, z .size .ensures .0))
+    let at-size : tie.After-size Inv-loop μ-loop = search in
+    done-all _ (c .before .loop .inv) (omega (arith, c .loop-test .left, at-size .size .ensures .0))
 
 pub put-counts-spec : {M : Type 1} → statement M
 put-counts-spec =

@@ -33,11 +33,12 @@ no-rows-requires c κs = tt
 
 loop-holds : tie.Need-loop-holds Inv-loop μ-loop
 unfolding rowOf
-loop-holds c = (
-  omega arith,
-  record { long = c .no-rows .ensures .long; each = λ w h. absurd (omega arith) },
-  c .before .before .before .before .pre .2,
-)
+loop-holds c =
+    let start : tie.Start Inv-loop μ-loop = search in (
+      omega arith,
+      record { long = c .no-rows .ensures .long; each = λ w h. absurd (omega arith) },
+      start .pre .2,
+    )
 
 -- the loop at value v, and what was known before it
 module _ (t : tie.In-loop Inv-loop μ-loop) where
@@ -113,15 +114,15 @@ loop-again c =
 returns : tie.Need-returns Inv-loop μ-loop
 unfolding networkOf
 returns c =
-    let l = c .before in
-    let z = l .before .before in
-    let s = z .before .before .before in
-    let b = now (s .args .b) in
-    let e : l .loop .v ≡ z .size .result = omega (arith, c .loop-test .left, l .loop .inv .0) in
-    let all = e ∙ z .size .ensures .0 in (
-      rw all at (l .loop .inv .1),
-      gathered-all (planOf b) (s .args .x) (s .args .y) (l .loop .others)
-          (size-low b (s .pre .0 .sound) (s .args .x) (s .args .y) (s .pre .1)) (rw all at (l .loop .inv .2)),
+    let at-loop = c .before in
+    let at-size : tie.After-size Inv-loop μ-loop = search in
+    let start : tie.Start Inv-loop μ-loop = search in
+    let b = now (start .args .b) in
+    let e : at-loop .loop .v ≡ at-size .size .result = omega (arith, c .loop-test .left, at-loop .loop .inv .0) in
+    let all = e ∙ at-size .size .ensures .0 in (
+      rw all at (at-loop .loop .inv .1),
+      gathered-all (planOf b) (start .args .x) (start .args .y) (at-loop .loop .others)
+          (size-low b (start .pre .0 .sound) (start .args .x) (start .args .y) (start .pre .1)) (rw all at (at-loop .loop .inv .2)),
     )
 
 pub support-rows-spec : {M : Type 1} → statement M

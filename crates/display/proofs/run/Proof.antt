@@ -19,8 +19,8 @@ same-length-2 c = search needs
 returns : tie.Need-returns
 unfolding runBy
 returns c =
-    let r = c .before .before .before .before in
-    rw (r .before .before .before .if1 .taken) (r .run-round .ensures)
+    let ran : tie.After-run-round = search in
+    rw (ran .before .before .before .if1 .taken) (ran .run-round .ensures)
 
 same-length-3 : tie.Need-same-length-3
 same-length-3 c = search needs
@@ -31,8 +31,8 @@ same-length-4 c = search needs
 returns-2 : tie.Need-returns-2
 unfolding runBy
 returns-2 c =
-    let r = c .before .before .before .before in
-    rw (r .before .before .before .if1 .left) (r .run-turns .ensures)
+    let ran : tie.After-run-turns = search in
+    rw (ran .before .before .before .if1 .left) (ran .run-turns .ensures)
 
 pub run-spec : {M : Type 1} → statement M
 run-spec =

@@ -39,10 +39,10 @@ print-answer-requires c κs = search needs
 returns : tie.Need-returns
 unfolding shown fresh workNeed listNeed
 returns c =
-    let r = c .before .before .before .before .before in
-    let k = r .before .before .before in
-    shows-whole (outcome-held (now (k .before .before .args .plan)) (r .run .ensures) (c .print-answer .ensures))
-    (omega (arith, fits k, c .before .print-answer-arg .given .0 .1))
+    let ran : tie.After-run = search in
+    let lent : tie.After-shared-slice-known2 = search in
+    shows-whole (outcome-held (now (lent .before .before .args .plan)) (ran .run .ensures) (c .print-answer .ensures))
+    (omega (arith, fits lent, c .before .print-answer-arg .given .0 .1))
 
 pub show-spec : {M : Type 1} → statement M
 show-spec =

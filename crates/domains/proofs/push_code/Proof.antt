@@ -14,7 +14,7 @@ same-length c = search needs
 
 returns : tie.Need-returns
 returns c =
-    let odd = c .before .before .before .before in
+    let odd : tie.Then1 = search in
     rw (eq-eqb (odd .before .before .args .row % 2) 1 (odd .if1 .taken)) (c .before .before .push-spaced .ensures)
 
 returns-2 : tie.Need-returns-2

@@ -58,15 +58,15 @@ loop-less c = omega arith
 
 loop-again : tie.Need-loop-again Inv-loop μ-loop
 loop-again c =
-    let at-push = c .before .before in
-    let at-word = at-push .before in
-    let l = at-word .before .before .before in
-    let start = l .before .before .before .before in (
+    let at-push : tie.After-push-code Inv-loop μ-loop = search in
+    let at-word : tie.After-word-at Inv-loop μ-loop = search in
+    let at-loop : tie.At-loop Inv-loop μ-loop = search in
+    let start : tie.Start Inv-loop μ-loop = search in (
       omega arith,
       omega arith,
-      half-more (l .loop .rest) (start .args .row) (l .loop .v) (l .loop .inv .2),
-      codes-more (start .args .row) (l .loop .rest) (l .loop .v) (codeAt (now (start .args .plan)) (start .args .section))
-          (at-word .word-at .result) (l .loop .inv .2) (at-word .word-at .ensures .0) (l .loop .inv .3) (at-push .push-code .ensures),
+      half-more (at-loop .loop .rest) (start .args .row) (at-loop .loop .v) (at-loop .loop .inv .2),
+      codes-more (start .args .row) (at-loop .loop .rest) (at-loop .loop .v) (codeAt (now (start .args .plan)) (start .args .section))
+          (at-word .word-at .result) (at-loop .loop .inv .2) (at-word .word-at .ensures .0) (at-loop .loop .inv .3) (at-push .push-code .ensures),
     )
 
 same-length : tie.Need-same-length Inv-loop μ-loop
@@ -74,10 +74,10 @@ same-length c = omega arith
 
 returns : tie.Need-returns Inv-loop μ-loop
 returns c =
-    let l = c .before in
-    let start = l .before .before .before .before in
-    let all : l .loop .v ≡ sizeAt (now (start .args .plan)) (start .args .section) = omega (arith, l .before .byte-at .ensures .0) in
-    rw all at (l .loop .inv .3)
+    let at-loop = c .before in
+    let start : tie.Start Inv-loop μ-loop = search in
+    let all : at-loop .loop .v ≡ sizeAt (now (start .args .plan)) (start .args .section) = omega (arith, at-loop .before .byte-at .ensures .0) in
+    rw all at (at-loop .loop .inv .3)
 
 pub push-codes-spec : {M : Type 1} → statement M
 push-codes-spec =

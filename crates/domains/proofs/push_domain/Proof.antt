@@ -33,11 +33,11 @@ same-length c = search needs
 returns : tie.Need-returns
 unfolding domainLine
 returns c =
-    let at-push = c .before .before in
-    let at-codes = at-push .before .before .before .before in
-    let at-colon = at-codes .before .before .before .before in
-    let at-owner = at-colon .before .before .before .before in
-    let at-number = at-owner .before .before .before .before .before in
+    let at-push : tie.After-push2 = search in
+    let at-codes : tie.After-push-codes = search in
+    let at-colon : tie.After-push = search in
+    let at-owner : tie.After-push-spaced = search in
+    let at-number : tie.After-push-number = search in
     rw (sym (at-owner .before .byte-at .ensures .0))
     (at-number .push-number .ensures
     then at-owner .push-spaced .ensures

@@ -39,7 +39,8 @@ add-section c = omega arith
 
 loop-holds : tie.Need-loop-holds Inv-loop μ-loop
 loop-holds c =
-    let plan = now (c .before .before .before .before .before .args .plan) in
+    let start : tie.Start Inv-loop μ-loop = search in
+    let plan = now (start .args .plan) in
     (omega arith, refl, start-first plan (c .word-at .result) (c .word-at .ensures .0), omega arith, adds-none)
 
 add-push-domain : tie.Need-add-push-domain Inv-loop μ-loop
@@ -68,20 +69,20 @@ loop-less c = omega arith
 
 loop-again : tie.Need-loop-again Inv-loop μ-loop
 loop-again c =
-    let at-push = c .before .before .before in
-    let at-cell = at-push .before in
-    let l = at-cell .before .before .before in
-    let start = l .before .before .before .before .before .before in
+    let at-push : tie.After-push-domain Inv-loop μ-loop = search in
+    let at-cell : tie.After-cell-at Inv-loop μ-loop = search in
+    let at-loop : tie.At-loop Inv-loop μ-loop = search in
+    let start : tie.Start Inv-loop μ-loop = search in
     let plan = now (start .args .plan) in
     let lists = now (start .args .lists) in
-    let x = l .loop .x in (
+    let x = at-loop .loop .x in (
       omega arith,
       omega arith,
-      start-more plan (l .loop .section) (c .word-at2 .result) x (l .loop .inv .2) (c .word-at2 .ensures .0),
+      start-more plan (at-loop .loop .section) (c .word-at2 .result) x (at-loop .loop .inv .2) (c .word-at2 .ensures .0),
       omega arith,
-      then-more x (variableLine (planOf plan) lists) (l .loop .inv .4)
-          (line-read plan lists x (l .loop .section) (x + 1) (at-cell .cell-at .result)
-          (omega (arith, l .before .before .variable-count .ensures .0)) (l .loop .inv .2) (add-one x) (at-cell .cell-at .ensures))
+      then-more x (variableLine (planOf plan) lists) (at-loop .loop .inv .4)
+          (line-read plan lists x (at-loop .loop .section) (x + 1) (at-cell .cell-at .result)
+          (omega (arith, at-loop .before .before .variable-count .ensures .0)) (at-loop .loop .inv .2) (add-one x) (at-cell .cell-at .ensures))
           (at-push .push-domain .ensures),
     )
 
@@ -90,11 +91,11 @@ same-length c = omega arith
 
 returns : tie.Need-returns Inv-loop μ-loop
 returns c =
-    let l = c .before in
-    let start = l .before .before .before .before .before .before in
+    let at-loop = c .before in
+    let start : tie.Start Inv-loop μ-loop = search in
     let plan = now (start .args .plan) in
-    rw (lines-all plan (now (start .args .lists)) (l .loop .x) (omega (arith, l .before .before .variable-count .ensures .0)))
-    at (l .loop .inv .4)
+    rw (lines-all plan (now (start .args .lists)) (at-loop .loop .x) (omega (arith, at-loop .before .before .variable-count .ensures .0)))
+    at (at-loop .loop .inv .4)
 
 pub push-domains-spec : {M : Type 1} → statement M
 push-domains-spec =

@@ -29,10 +29,13 @@ variable-count-requires c κs = search needs
 constraint-count-requires : tie.Need-constraint-count-requires Inv-loop μ-loop
 constraint-count-requires c κs = search needs
 
+abbrev start-of : tie.At-loop Inv-loop μ-loop → tie.Start Inv-loop μ-loop
+start-of l = let counted = l .before .before in counted .before .before .before
+
 -- while the chains grow, the sections' places are known
-places-known : (l : tie.At-loop Inv-loop μ-loop) → Located (now (l .before .before .before .before .before .args .b)) (l .loop .cells)
+places-known : (l : tie.At-loop Inv-loop μ-loop) → Located (now (start-of l .args .b)) (l .loop .cells)
 places-known l =
-    let s = l .before .before .before .before .before in
+    let s = start-of l in
     located-done (now (s .args .b)) (s .pre) (l .loop .inv .2)
     (λ c m k. link-keeps _ _ c m PLACES 0 k (λ e. omega arith) (λ e. omega arith))
 
@@ -42,7 +45,7 @@ module _ (c : tie.After-place Inv-loop μ-loop) where
   l = c .before .before .before
 
   abbrev s : tie.Start Inv-loop μ-loop
-  s = l .before .before .before .before .before
+  s = start-of l
 
   listed : l .loop .c < constraintCount (now (s .args .b))
   listed = omega (arith, l .loop .inv, c .before .before .loop-test .taken)
@@ -59,17 +62,17 @@ loop-holds c = (c .before .variable-count .ensures .0, c .constraint-count .ensu
 
 add-place : tie.Need-add-place Inv-loop μ-loop
 add-place c =
-    let l = c .before .before in
-    let s = l .before .before .before .before .before in
-    let few = few-sections (now (s .args .b)) (s .pre .sound) in
-    omega (arith, l .loop .inv)
+    let at-loop : tie.At-loop Inv-loop μ-loop = search in
+    let start : tie.Start Inv-loop μ-loop = search in
+    let few = few-sections (now (start .args .b)) (start .pre .sound) in
+    omega (arith, at-loop .loop .inv)
 
 add-place-2 : tie.Need-add-place-2 Inv-loop μ-loop
 add-place-2 c =
-    let l = c .before .before in
-    let s = l .before .before .before .before .before in
-    let few = few-sections (now (s .args .b)) (s .pre .sound) in
-    omega (arith, l .loop .inv)
+    let at-loop : tie.At-loop Inv-loop μ-loop = search in
+    let start : tie.Start Inv-loop μ-loop = search in
+    let few = few-sections (now (start .args .b)) (start .pre .sound) in
+    omega (arith, at-loop .loop .inv)
 
 place-requires : tie.Need-place-requires Inv-loop μ-loop
 place-requires c κs =
@@ -90,14 +93,14 @@ sub-link-2 c = omega (arith, numbers (c .before .before .before), c .second .ens
 
 link-requires : tie.Need-link-requires Inv-loop μ-loop
 link-requires c κs =
-    let l = c .before .before .before .before .before .before in
-    let s = l .before .before .before .before .before in
-    let few = few-sections (now (s .args .b)) (s .pre .sound) in
+    let at-loop : tie.At-loop Inv-loop μ-loop = search in
+    let start : tie.Start Inv-loop μ-loop = search in
+    let few = few-sections (now (start .args .b)) (start .pre .sound) in
     let order = numbers (c .before .before .before) in (
       omega (arith, c .before .first .ensures),
       omega (arith, c .second .ensures),
-      omega (arith, l .loop .inv),
-      omega (arith, l .loop .inv, s .pre .long),
+      omega (arith, at-loop .loop .inv),
+      omega (arith, at-loop .loop .inv, start .pre .long),
     )
 
 add-c : tie.Need-add-c Inv-loop μ-loop
@@ -108,17 +111,18 @@ loop-less c = search needs
 
 loop-again : tie.Need-loop-again Inv-loop μ-loop
 loop-again c =
-    let g = c .before .before .before .before .before .before in
-    let inv = l g .loop .inv in
-    let b = now (s g .args .b) in
+    let first-read : tie.After-first Inv-loop μ-loop = search in
+    let placed : tie.After-place Inv-loop μ-loop = search in
+    let inv = l placed .loop .inv in
+    let b = now (s placed .args .b) in
     let link = c .before .before .link in (
       inv .0,
       inv .1,
       done-more (inv .2) (omega arith) (link .kept .0)
           (link .ensures
-          ∙ ap₂ (λ (x y : ℕ). linkM (x - 1) (y - 1) (l g .loop .c) (memOf (l g .loop .cells)))
-          (c .before .before .before .before .first .ensures .0 ∙ ap (firstAt b) (found g))
-          (c .before .before .before .second .ensures .0 ∙ ap (secondAt b) (found g))),
+          ∙ ap₂ (λ (x y : ℕ). linkM (x - 1) (y - 1) (l placed .loop .c) (memOf (l placed .loop .cells)))
+          (first-read .first .ensures .0 ∙ ap (firstAt b) (found placed))
+          (c .before .before .before .second .ensures .0 ∙ ap (secondAt b) (found placed))),
     )
 
 same-length : tie.Need-same-length Inv-loop μ-loop

@@ -32,23 +32,23 @@ loop-holds c = (c .section-count .ensures .0, refl, done-none)
 
 put-requires : tie.Need-put-requires Inv-loop μ-loop
 put-requires c κs =
-    let l = c .before .before in
-    let s = l .before .before .before .before in
-    let b = now (s .args .b) in
+    let at-loop : tie.At-loop Inv-loop μ-loop = search in
+    let start : tie.Start Inv-loop μ-loop = search in
+    let b = now (start .args .b) in
     may-put _ _ _ refl _ _
     (omega (
       arith,
-      l .loop .inv,
-      s .pre,
-      few-sections b (s .pre .0),
-      start-fits b (s .pre .0) (l .loop .k) (omega (arith, l .loop .inv)),
+      at-loop .loop .inv,
+      start .pre,
+      few-sections b (start .pre .0),
+      start-fits b (start .pre .0) (at-loop .loop .k) (omega (arith, at-loop .loop .inv)),
     ))
 
 behind-requires : tie.Need-behind-requires Inv-loop μ-loop
 behind-requires c κs =
-    let l = c .before .before .before .before .before in
-    let s = l .before .before .before .before in
-    omega (arith, start-inside (now (s .args .b)) (s .pre .0) (l .loop .k) (omega (arith, l .loop .inv)), l .loop .inv)
+    let at-loop : tie.At-loop Inv-loop μ-loop = search in
+    let start : tie.Start Inv-loop μ-loop = search in
+    omega (arith, start-inside (now (start .args .b)) (start .pre .0) (at-loop .loop .k) (omega (arith, at-loop .loop .inv)), at-loop .loop .inv)
 
 add-k : tie.Need-add-k Inv-loop μ-loop
 add-k c = search needs
@@ -59,12 +59,13 @@ loop-less c = search needs
 loop-again : tie.Need-loop-again Inv-loop μ-loop
 unfolding sectionStart
 loop-again c =
-    let l = c .before .before .before .before .before .before in
+    let at-loop : tie.At-loop Inv-loop μ-loop = search in
+    let start : tie.Start Inv-loop μ-loop = search in
     let put = c .before .before .before .put in (
-      l .loop .inv .0,
-      rw add-one (c .behind .ensures ∙ ap (behind (now (l .before .before .before .before .args .b))) (l .loop .inv .1)),
-      done-more (l .loop .inv .2) (omega arith) (put .kept .0)
-          (put .ensures ∙ ap (store (memOf (l .loop .cells)) PLACES 0 (l .loop .k)) (l .loop .inv .1)),
+      at-loop .loop .inv .0,
+      rw add-one (c .behind .ensures ∙ ap (behind (now (start .args .b))) (at-loop .loop .inv .1)),
+      done-more (at-loop .loop .inv .2) (omega arith) (put .kept .0)
+          (put .ensures ∙ ap (store (memOf (at-loop .loop .cells)) PLACES 0 (at-loop .loop .k)) (at-loop .loop .inv .1)),
     )
 
 same-length : tie.Need-same-length Inv-loop μ-loop

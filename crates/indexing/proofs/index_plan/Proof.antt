@@ -38,10 +38,11 @@ index-chains-requires c κs = written (c .before .before .before)
 
 index-own-requires : tie.Need-index-own-requires
 index-own-requires c κs =
-    let l = c .before .before .before in
-    let p = l .before .before .before .before in
-    located-kept (b p) (p .index-places .last .1 .0) (l .index-chains .last .1 .0) _ (written p) (l .index-chains .kept .1 .0)
-    (l .index-chains .ensures) (λ k. chains-keep (b p) _ PLACES 0 k (λ e. omega arith) (λ e. omega arith))
+    let chained : tie.After-index-chains = search in
+    let placed : tie.After-index-places = search in
+    let chains = chained .index-chains in
+    located-kept (b placed) (placed .index-places .last .1 .0) (chains .last .1 .0) _ (written placed) (chains .kept .1 .0)
+    (chains .ensures) (λ k. chains-keep (b placed) _ PLACES 0 k (λ e. omega arith) (λ e. omega arith))
 
 same-length : tie.Need-same-length
 same-length c = search needs
@@ -49,10 +50,10 @@ same-length c = search needs
 returns : tie.Need-returns
 unfolding indexM
 returns c =
-    let o = c .before .before in
-    let l = o .before .before .before .before in
-    let p = l .before .before .before .before in
-    o .index-own .ensures ∙ ap (ownM (b p)) (l .index-chains .ensures ∙ ap (chainsM (b p)) (p .index-places .ensures))
+    let owned : tie.After-index-own = search in
+    let chained : tie.After-index-chains = search in
+    let placed : tie.After-index-places = search in
+    owned .index-own .ensures ∙ ap (ownM (b placed)) (chained .index-chains .ensures ∙ ap (chainsM (b placed)) (placed .index-places .ensures))
 
 pub index-plan-spec : {M : Type 1} → statement M
 index-plan-spec = tie.close (tie.spec index-places-requires index-chains-requires index-own-requires same-length returns)

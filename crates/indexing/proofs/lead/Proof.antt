@@ -29,14 +29,14 @@ same-length c = search needs
 
 returns : tie.Need-returns
 returns c =
-    let q = c .before .before in
-    let p = q .before .before .before .before in
-    let f = p .before .before in
-    let t = f .before .before in
-    let g = t .before in
-    let a = g .before .before .before .args in
-    lead-put (a .i) (a .x) (a .y) (memOf (now (a .cells))) _ _ _ _ (g .get .ensures .0) (t .if1 .taken) (f .get2 .ensures .0)
-    (p .put .ensures) (q .put2 .ensures)
+    let at-put2 : tie.After-put2 = search in
+    let at-put : tie.After-put = search in
+    let at-get2 : tie.After-get2 = search in
+    let linked : tie.Then1 = search in
+    let at-get : tie.After-get = search in
+    let a = at-get .before .before .before .args in
+    lead-put (a .i) (a .x) (a .y) (memOf (now (a .cells))) _ _ _ _ (at-get .get .ensures .0) (linked .if1 .taken) (at-get2 .get2 .ensures .0)
+    (at-put .put .ensures) (at-put2 .put2 .ensures)
 
 same-length-2 : tie.Need-same-length-2
 same-length-2 c = search needs

@@ -28,8 +28,9 @@ add-put-2 c = search needs
 
 put-requires-3 : tie.Need-put-requires-3
 put-requires-3 c κs =
-    let p = c .before .before .before in
-    may-put _ _ _ refl _ _ (omega (arith, p .put2 .kept .0, p .before .before .before .before .put .kept .0))
+    let at-put2 : tie.After-put2 = search in
+    let at-put : tie.After-put = search in
+    may-put _ _ _ refl _ _ (omega (arith, at-put2 .put2 .kept .0, at-put .put .kept .0))
 
 same-length : tie.Need-same-length
 same-length c = search needs
@@ -37,16 +38,16 @@ same-length c = search needs
 returns : tie.Need-returns
 unfolding linkM
 returns c =
-    let q = c .before .before in
-    let p = q .before .before .before .before in
-    let n = p .before .before .before .before in
-    let g = n .before .before in
-    let a = g .before .before .before .args in
-    q .put3 .ensures
+    let at-put3 : tie.After-put3 = search in
+    let at-put2 : tie.After-put2 = search in
+    let at-put : tie.After-put = search in
+    let at-get : tie.After-get = search in
+    let a = at-get .before .before .before .args in
+    at-put3 .put3 .ensures
     ∙ ap (λ (m : Mem). store m HEADS (a .y) (a .x) (a .c + 1))
-    (p .put2 .ensures
+    (at-put2 .put2 .ensures
     ∙ ap (λ (m : Mem). store m HEADS (a .x) (a .y) (a .c + 1))
-    (n .put .ensures ∙ ap (store (memOf (now (a .cells))) NEXT 0 (a .c)) (g .get .ensures .0)))
+    (at-put .put .ensures ∙ ap (store (memOf (now (a .cells))) NEXT 0 (a .c)) (at-get .get .ensures .0)))
 
 pub link-spec : {M : Type 1} → statement M
 link-spec =

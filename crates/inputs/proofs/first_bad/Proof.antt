@@ -20,8 +20,11 @@ abbrev μ-loop : tie.MeasureT-loop
 μ-loop list p count table k₀ k = count - k
 
 -- the loop before this turn, and what was known before it
+abbrev in-loop : tie.After-judged Inv-loop μ-loop → tie.In-loop Inv-loop μ-loop
+in-loop a = a .before .before .before .before
+
 abbrev at-loop : tie.After-judged Inv-loop μ-loop → tie.At-loop Inv-loop μ-loop
-at-loop a = a .before .before .before .before .before
+at-loop a = in-loop a .before
 
 abbrev start : tie.At-loop Inv-loop μ-loop → tie.Start Inv-loop μ-loop
 start l = l .before .before .before
@@ -55,7 +58,9 @@ byte-at-requires-2 : tie.Need-byte-at-requires-2 Inv-loop μ-loop
 byte-at-requires-2 c κs = tt
 
 judged-requires : tie.Need-judged-requires Inv-loop μ-loop
-judged-requires c κs = c .before .before .before .before .before .judge-all .ensures
+judged-requires c κs =
+    let tabled : tie.After-judge-all Inv-loop μ-loop = search in
+    tabled .judge-all .ensures
 
 returns : tie.Need-returns Inv-loop μ-loop
 returns c =
@@ -63,7 +68,7 @@ returns c =
     let l = at-loop a in
     let s = start l in (
       omega arith,
-      first-fault (s .args .p) (now (s .args .list)) (l .loop .k) (a .before .before .before .before .loop-test .taken)
+      first-fault (s .args .p) (now (s .args .list)) (l .loop .k) (in-loop a .loop-test .taken)
           (l .loop .inv .1) (sym (said a) ∙ not-true _ (c .if1 .taken)),
     )
 

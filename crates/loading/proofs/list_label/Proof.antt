@@ -17,18 +17,18 @@ use Rattle.loading.proofs.list_label.Tie as tie
 
 put-requires : tie.Need-put-requires
 put-requires c κs =
-    let s = c .before .before .before in
+    let start : tie.Start = search in
     may-put _ _ _ refl _ _
-    (omega (arith, s .pre .0 .long, label-small (now (s .args .b)) (s .pre .0 .sound) (s .args .x) (s .args .v) (s .pre .1)))
+    (omega (arith, start .pre .0 .long, label-small (now (start .args .b)) (start .pre .0 .sound) (start .args .x) (start .args .v) (start .pre .1)))
 
 owner-requires : tie.Need-owner-requires
 owner-requires c κs =
-    let p = c .before .before .before .before in
-    let s = p .before .before .before .before in (
-      located (now (s .args .b)) _
-          (ready-kept (now (s .args .b)) (now (s .args .cells)) _ (s .pre .0) (p .put .kept .0) (p .put .ensures)
-          (kept-stored DOMAIN (s .args .x) (s .args .v) LISTED (omega arith) kept-same)),
-      s .pre .1 .variable,
+    let at-put : tie.After-put = search in
+    let start : tie.Start = search in (
+      located (now (start .args .b)) _
+          (ready-kept (now (start .args .b)) (now (start .args .cells)) _ (start .pre .0) (at-put .put .kept .0) (at-put .put .ensures)
+          (kept-stored DOMAIN (start .args .x) (start .args .v) LISTED (omega arith) kept-same)),
+      start .pre .1 .variable,
     )
 
 sub-delete : tie.Need-sub-delete
@@ -36,13 +36,13 @@ sub-delete c = search needs
 
 delete-requires : tie.Need-delete-requires
 delete-requires c κs =
-    let p = c .before .before .before .before .before .before in
-    let s = p .before .before .before .before in
+    let at-put : tie.After-put = search in
+    let start : tie.Start = search in
     omega (
       arith,
-      s .pre .0 .long,
-      p .put .kept .0,
-      label-small (now (s .args .b)) (s .pre .0 .sound) (s .args .x) (s .args .v) (s .pre .1),
+      start .pre .0 .long,
+      at-put .put .kept .0,
+      label-small (now (start .args .b)) (start .pre .0 .sound) (start .args .x) (start .args .v) (start .pre .1),
       c .before .owner .ensures,
     )
 
@@ -51,24 +51,24 @@ same-length c = search needs
 
 returns : tie.Need-returns
 returns c =
-    let o = c .before .before .before .before in
-    let t = o .before .before in
-    let p = t .before .before .before in
-    let s = p .before .before .before .before in
-    let a = s .args in
-    label-deleted (systemAt (now (a .b))) (a .x) (a .v) _ _ (p .put .ensures) (a .supported) _ _
-    (not-true _ (t .if1 .taken))
-    (o .owner .ensures .0) (c .before .before .delete .ensures)
+    let owner-read : tie.After-owner = search in
+    let unsupported : tie.Then1 = search in
+    let at-put : tie.After-put = search in
+    let start : tie.Start = search in
+    let a = start .args in
+    label-deleted (systemAt (now (a .b))) (a .x) (a .v) _ _ (at-put .put .ensures) (a .supported) _ _
+    (not-true _ (unsupported .if1 .taken))
+    (owner-read .owner .ensures .0) (c .before .before .delete .ensures)
 
 same-length-2 : tie.Need-same-length-2
 same-length-2 c = search needs
 
 returns-2 : tie.Need-returns-2
 returns-2 c =
-    let p = c .before .before .before in
-    let s = p .before .before .before .before in
-    let a = s .args in
-    label-kept (systemAt (now (a .b))) (a .x) (a .v) _ _ (p .put .ensures) (a .supported)
+    let at-put : tie.After-put = search in
+    let start : tie.Start = search in
+    let a = start .args in
+    label-kept (systemAt (now (a .b))) (a .x) (a .v) _ _ (at-put .put .ensures) (a .supported)
     (not-false _ (c .if1 .left))
 
 pub list-label-spec : {M : Type 1} → statement M

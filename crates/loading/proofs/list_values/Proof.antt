@@ -21,7 +21,7 @@ abbrev μ-loop : tie.MeasureT-loop
 μ-loop b cells₀ x row n v₀ cells v = n - v
 
 size-requires : tie.Need-size-requires Inv-loop μ-loop
-size-requires c κs = let s = c .before .before .before in (s .pre .0, s .pre .1)
+size-requires c κs = let start : tie.Start Inv-loop μ-loop = search in (start .pre .0, start .pre .1)
 
 loop-holds : tie.Need-loop-holds Inv-loop μ-loop
 loop-holds c = done-none
@@ -31,12 +31,12 @@ row-holds-requires c κs = omega (arith, c .before .loop-test .taken, c .before 
 
 list-label-requires : tie.Need-list-label-requires Inv-loop μ-loop
 list-label-requires c κs =
-    let t = c .before .before in
-    let l = t .before in
-    let z = l .before in
-    let s = z .before .before .before .before in (
-      ready-done (now (s .args .b)) (s .pre .0) (l .loop .inv) (λ v m. index-behind (list-label-kept _ (s .args .x) v _ m)),
-      record { variable = s .pre .1; value = omega (arith, t .loop-test .taken, z .size .ensures .0) },
+    let in-loop : tie.In-loop Inv-loop μ-loop = search in
+    let at-loop : tie.At-loop Inv-loop μ-loop = search in
+    let sized : tie.After-size Inv-loop μ-loop = search in
+    let start : tie.Start Inv-loop μ-loop = search in (
+      ready-done (now (start .args .b)) (start .pre .0) (at-loop .loop .inv) (λ v m. index-behind (list-label-kept _ (start .args .x) v _ m)),
+      record { variable = start .pre .1; value = omega (arith, in-loop .loop-test .taken, sized .size .ensures .0) },
     )
 
 add-v : tie.Need-add-v Inv-loop μ-loop
@@ -47,13 +47,15 @@ loop-less c = omega arith
 
 loop-again : tie.Need-loop-again Inv-loop μ-loop
 loop-again c =
-    let p = c .before .before in
-    let h = p .before in
-    let l = h .before .before .before in
-    let a = l .before .before .before .before .before .args in
-    done-more (l .loop .inv) (omega arith) (p .list-label .kept .1 .0)
-    (p .list-label .ensures
-    ∙ ap (λ (t : Bool). listLabelM (systemAt (now (a .b))) (a .x) (l .loop .v) t (memOf (l .loop .cells))) (h .row-holds .ensures))
+    let listed : tie.After-list-label Inv-loop μ-loop = search in
+    let row-read : tie.After-row-holds Inv-loop μ-loop = search in
+    let at-loop : tie.At-loop Inv-loop μ-loop = search in
+    let start : tie.Start Inv-loop μ-loop = search in
+    let a = start .args in
+    done-more (at-loop .loop .inv) (omega arith) (listed .list-label .kept .1 .0)
+    (listed .list-label .ensures
+    ∙ ap (λ (t : Bool). listLabelM (systemAt (now (a .b))) (a .x) (at-loop .loop .v) t (memOf (at-loop .loop .cells)))
+    (row-read .row-holds .ensures))
 
 same-length : tie.Need-same-length Inv-loop μ-loop
 same-length c = omega arith
@@ -61,9 +63,10 @@ same-length c = omega arith
 returns : tie.Need-returns Inv-loop μ-loop
 unfolding listValuesM
 returns c =
-    let z = c .before .before in
-    let a = z .before .before .before .before .args in
-    done-all _ (c .before .loop .inv) (omega (arith, c .loop-test .left, z .size .ensures .0, size-is (now (a .b)) (a .x)))
+    let sized : tie.After-size Inv-loop μ-loop = search in
+    let start : tie.Start Inv-loop μ-loop = search in
+    let a = start .args in
+    done-all _ (c .before .loop .inv) (omega (arith, c .loop-test .left, sized .size .ensures .0, size-is (now (a .b)) (a .x)))
 
 pub list-values-spec : {M : Type 1} → statement M
 list-values-spec =

@@ -21,11 +21,12 @@ same-length c = search needs
 returns : tie.Need-returns
 unfolding listVariableM
 returns c =
-    let l = c .before .before in
-    let r = l .before .before in
-    let a = r .before .before .before .before .args in
-    l .list-values .ensures
-    ∙ ap (λ (row : ℕ). listValuesM (systemAt (now (a .b))) (a .x) row (memOf (now (a .cells)))) (r .supported-row .ensures)
+    let listed : tie.After-list-values = search in
+    let row-found : tie.After-supported-row = search in
+    let start : tie.Start = search in
+    let a = start .args in
+    listed .list-values .ensures
+    ∙ ap (λ (row : ℕ). listValuesM (systemAt (now (a .b))) (a .x) row (memOf (now (a .cells)))) (row-found .supported-row .ensures)
 
 pub list-variable-spec : {M : Type 1} → statement M
 list-variable-spec = tie.close (tie.spec supported-row-requires list-values-requires same-length returns)

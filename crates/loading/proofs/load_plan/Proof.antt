@@ -14,9 +14,10 @@ count-supports-requires c κs = search needs
 
 list-plan-requires : tie.Need-list-plan-requires
 list-plan-requires c κs =
-    let k = c .before .before .before in
-    let s = k .before .before .before .before in
-    ready-kept (now (s .args .b)) (now (s .args .cells)) _ (s .pre) (k .count-supports .kept .1 .0) (k .count-supports .ensures)
+    let counted : tie.After-count-supports = search in
+    let start : tie.Start = search in
+    ready-kept (now (start .args .b)) (now (start .args .cells)) _ (start .pre) (counted .count-supports .kept .1 .0)
+    (counted .count-supports .ensures)
     (counters-alone (count-else _ _))
 
 same-length : tie.Need-same-length
@@ -25,10 +26,11 @@ same-length c = search needs
 returns : tie.Need-returns
 unfolding loadM
 returns c =
-    let l = c .before .before in
-    let k = l .before .before .before .before in
-    let a = k .before .before .before .before .args in
-    l .list-plan .ensures ∙ ap (listM (systemAt (now (a .b)))) (k .count-supports .ensures)
+    let listed : tie.After-list-plan = search in
+    let counted : tie.After-count-supports = search in
+    let start : tie.Start = search in
+    let a = start .args in
+    listed .list-plan .ensures ∙ ap (listM (systemAt (now (a .b)))) (counted .count-supports .ensures)
 
 pub load-plan-spec : {M : Type 1} → statement M
 load-plan-spec = tie.close (tie.spec count-supports-requires list-plan-requires same-length returns)

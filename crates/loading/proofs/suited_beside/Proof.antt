@@ -19,26 +19,26 @@ linked-requires c κs =
 returns : tie.Need-returns
 unfolding systemOf networkOf
 returns c =
-    let s = c .before .before .before .before in
-    let a = s .args in
+    let start : tie.Start = search in
+    let a = start .args in
     suited-apart (systemAt (now (a .b))) (memOf (now (a .cells))) (a .x) (a .y) (a .row)
-    (sym (c .before .linked .ensures (now (a .b)) (s .pre .0 .index)) ∙ not-true _ (c .if1 .taken))
-    (s .pre .3)
+    (sym (c .before .linked .ensures (now (a .b)) (start .pre .0 .index)) ∙ not-true _ (c .if1 .taken))
+    (start .pre .3)
 
 counted-row-requires : tie.Need-counted-row-requires
 counted-row-requires c κs =
-    let s = c .before .before .before .before in
-    (s .pre .0, sym (c .before .linked .ensures (now (s .args .b)) (s .pre .0 .index)) ∙ not-false _ (c .if1 .left))
+    let start : tie.Start = search in
+    (start .pre .0, sym (c .before .linked .ensures (now (start .args .b)) (start .pre .0 .index)) ∙ not-false _ (c .if1 .left))
 
 returns-2 : tie.Need-returns-2
 unfolding systemOf networkOf
 returns-2 c =
-    let t = c .before in
-    let s = t .before .before .before .before in
-    let a = s .args in
+    let are-linked = c .before in
+    let start : tie.Start = search in
+    let a = start .args in
     suited-linked (systemAt (now (a .b))) (memOf (now (a .cells))) (a .x) (a .y) (a .row) (c .counted-row .result)
-    (sym (t .before .linked .ensures (now (a .b)) (s .pre .0 .index)) ∙ not-false _ (t .if1 .left))
-    (s .pre .3) (c .counted-row .ensures)
+    (sym (are-linked .before .linked .ensures (now (a .b)) (start .pre .0 .index)) ∙ not-false _ (are-linked .if1 .left))
+    (start .pre .3) (c .counted-row .ensures)
 
 pub suited-beside-spec : {M : Type 1} → statement M
 suited-beside-spec = tie.close (tie.spec linked-requires returns counted-row-requires returns-2)

@@ -33,19 +33,20 @@ sub-row c = omega (arith, c .power .ensures, pow-pos (c .before .size .result))
 
 loop-holds : tie.Need-loop-holds Inv-loop μ-loop
 loop-holds c =
-    let z = c .before in
-    let a = z .before .before .before .before .args in (
+    let sized = c .before in
+    let start : tie.Start Inv-loop μ-loop = search in
+    let a = start .args in (
       omega arith,
-      suited-all (systemAt (now (a .b))) (memOf (now (a .cells))) (a .x) (c .power .result) (z .size .result)
-          (z .size .ensures .0 ∙ size-is (now (a .b)) (a .x)) (c .power .ensures),
+      suited-all (systemAt (now (a .b))) (memOf (now (a .cells))) (a .x) (c .power .result) (sized .size .result)
+          (sized .size .ensures .0 ∙ size-is (now (a .b)) (a .x)) (c .power .ensures),
     )
 
 suited-beside-requires : tie.Need-suited-beside-requires Inv-loop μ-loop
 suited-beside-requires c κs =
-    let l = c .before in
-    let k = l .before .before .before in
-    let s = k .before .before .before in
-    (s .pre .0, s .pre .1, omega (arith, c .loop-test .taken, k .variable-count .ensures .0), l .loop .inv .1)
+    let at-loop = c .before in
+    let counted : tie.After-variable-count Inv-loop μ-loop = search in
+    let start : tie.Start Inv-loop μ-loop = search in
+    (start .pre .0, start .pre .1, omega (arith, c .loop-test .taken, counted .variable-count .ensures .0), at-loop .loop .inv .1)
 
 add-y : tie.Need-add-y Inv-loop μ-loop
 add-y c = omega arith
@@ -58,10 +59,10 @@ loop-again c = (omega arith, c .suited-beside .ensures)
 
 returns : tie.Need-returns Inv-loop μ-loop
 returns c =
-    let k = c .before .before .before .before in
-    let b = now (k .before .before .before .args .b) in
+    let counted : tie.After-variable-count Inv-loop μ-loop = search in
+    let b = now (counted .before .before .before .args .b) in
     let e : c .before .loop .y ≡ systemAt b .net .variables =
-    omega (arith, c .loop-test .left, c .before .loop .inv .0, k .variable-count .ensures .0, variables-are b) in
+    omega (arith, c .loop-test .left, c .before .loop .inv .0, counted .variable-count .ensures .0, variables-are b) in
     rw e at (c .before .loop .inv .1)
 
 pub supported-row-spec : {M : Type 1} → statement M

@@ -18,7 +18,7 @@ use Rattle.playing.proofs.next_turn.Tie as tie
 
 -- what holds before the turn is played
 abbrev start : tie.After-advance → tie.Start
-start v = v .before .before .before .before .before .before .before
+start v = let looked-up = v .before .before .before in looked-up .before .before .before .before
 
 -- the turn was played
 abbrev played : tie.After-struct-known2 → tie.After-advance
@@ -38,11 +38,11 @@ is-set-requires c κs =
 
 returns : tie.Need-returns
 returns c =
-    let k = c .before in
-    let s = k .before .before .before .before in
+    let looked-up = c .before in
+    let s : tie.Start = search in
     let a = s .args in (
       passed-over (now (a .b)) (now (a .cells)) (a .g) (now (a .table)) (s .pre .0) (s .pre .3) (a .actor) (a .action)
-          (inside s .0) (inside s .1) (eqb-true _ 1 (sym (k .is-set .ensures) ∙ c .if1 .taken)),
+          (inside s .0) (inside s .1) (eqb-true _ 1 (sym (looked-up .is-set .ensures) ∙ c .if1 .taken)),
       s .pre .3,
     )
 
@@ -96,14 +96,17 @@ same-length-2 c = search needs
 
 returns-3 : tie.Need-returns-3
 returns-3 c =
-    let f = c .before .before .before .before .before in
-    (played (f .before .before .before) .advance .ensures, c .settle .ensures _ (known-after f))
+    let forgot : tie.After-forget = search in
+    let advanced : tie.After-advance = search in
+    (advanced .advance .ensures, c .settle .ensures _ (known-after forgot))
 
 same-length-3 : tie.Need-same-length-3
 same-length-3 c = search needs
 
 returns-4 : tie.Need-returns-4
-returns-4 c = (played (c .before .before .before .before) .advance .ensures, known-after (c .before))
+returns-4 c =
+    let advanced : tie.After-advance = search in
+    (advanced .advance .ensures, known-after (c .before))
 
 pub next-turn-spec : {M : Type 1} → statement M
 next-turn-spec =

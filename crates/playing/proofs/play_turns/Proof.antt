@@ -43,11 +43,14 @@ byte-at-requires-2 : tie.Need-byte-at-requires-2 Inv-loop μ-loop
 byte-at-requires-2 c κs = tt
 
 -- the loop before this turn, and what was known before it
+abbrev in-loop : tie.After-byte-at2 Inv-loop μ-loop → tie.In-loop Inv-loop μ-loop
+in-loop c = c .before .before .before .before
+
 abbrev at-loop : tie.After-byte-at2 Inv-loop μ-loop → tie.At-loop Inv-loop μ-loop
-at-loop c = c .before .before .before .before .before
+at-loop c = in-loop c .before
 
 abbrev start : tie.At-loop Inv-loop μ-loop → tie.Start Inv-loop μ-loop
-start l = l .before .before .before .before .before
+start l = let lent = l .before .before in lent .before .before .before
 
 -- the two bytes are those of the turn
 is-turn : (c : tie.After-byte-at2 Inv-loop μ-loop)
@@ -61,7 +64,7 @@ next-turn-requires c κs =
       goes-on (l .loop .inv .0) (s .pre .0),
       s .pre .1,
       ap (allowed (s .args .p)) (is-turn c)
-          ∙ is-allowed (s .args .p) (now (s .args .list)) (s .pre .2) (l .loop .i) (c .before .before .before .before .loop-test .taken),
+          ∙ is-allowed (s .args .p) (now (s .args .list)) (s .pre .2) (l .loop .i) (in-loop c .loop-test .taken),
       l .loop .inv .1,
     )
 
@@ -75,7 +78,7 @@ loop-again : tie.Need-loop-again Inv-loop μ-loop
 loop-again c =
     let v = c .before .before in
     let w = v .before in (
-      one-more (at-loop w .loop .inv .0) _ (v .next-turn .result) (w .before .before .before .before .loop-test .taken)
+      one-more (at-loop w .loop .inv .0) _ (v .next-turn .result) (in-loop w .loop-test .taken)
           (v .next-turn .kept .1 .0) (rw (is-turn w) at (v .next-turn .ensures .0)),
       v .next-turn .ensures .1,
     )

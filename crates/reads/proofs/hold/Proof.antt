@@ -20,8 +20,8 @@ same-length c = search needs
 
 returns : tie.Need-returns
 returns c =
-    let at-put2 = c .before .before in
-    let at-put = at-put2 .before .before .before .before in
+    let at-put2 : tie.After-put2 = search in
+    let at-put : tie.After-put = search in
     rw (at-put2 .put2 .ensures, at-put .put .ensures)
 
 pub hold-spec : {M : Type 1} → statement M

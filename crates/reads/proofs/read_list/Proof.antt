@@ -37,7 +37,7 @@ same-length-3 c = search needs
 
 returns-3 : tie.Need-returns-3
 returns-3 c =
-    let at-get = c .before .before .before .before .before .before .before in
+    let at-get : tie.After-get = search in
     idle _ _ (list-idle _ _ _ (λ has. omega (arith, rw (← (at-get .get .ensures .0)) at (has .label-room))))
 
 get-requires-4 : tie.Need-get-requires-4
@@ -60,13 +60,13 @@ same-length-5 c = search needs
 
 returns-5 : tie.Need-returns-5
 returns-5 c =
-    let at-take-list = c .before .before in
-    let at-get5 = at-take-list .before .before in
-    let at-get4 = at-get5 .before .before .before in
-    let at-get3 = at-get4 .before .before .before in
-    let at-if1 = at-get3 .before .before .before in
-    let at-get2 = at-if1 .before in
-    let at-get = at-get2 .before .before in
+    let at-take-list : tie.After-take-list = search in
+    let at-get5 : tie.After-get5 = search in
+    let at-get4 : tie.After-get4 = search in
+    let at-get3 : tie.After-get3 = search in
+    let at-if1 : tie.Else1 = search in
+    let at-get2 : tie.After-get2 = search in
+    let at-get : tie.After-get = search in
     acts _ _ _ _
     (list-goes _ _ _ (record {
       unread = omega (arith, at-get .get .ensures .0, at-get2 .get2 .ensures .0, at-if1 .if1 .left);

@@ -27,10 +27,10 @@ same-length c = search needs
 
 returns : tie.Need-returns
 returns c =
-    let at-put2 = c .before .before in
-    let at-put = at-put2 .before .before .before .before in
-    let at-copy-between = at-put .before .before .before .before in
-    let start = at-copy-between .before .before .before in
+    let at-put2 : tie.After-put2 = search in
+    let at-put : tie.After-put = search in
+    let at-copy-between : tie.After-copy-between = search in
+    let start : tie.Start = search in
     taken _ _ _ _ (start .args .j) (start .args .i) (start .args .read) (start .args .from) (start .args .to)
     (start .args .lists) (at-copy-between .copy-between .ensures) (at-put .put .ensures) (at-put2 .put2 .ensures)
 

@@ -27,22 +27,22 @@ loop-holds c = (omega arith, refl)
 
 domain-row-requires : tie.Need-domain-row-requires Inv-loop μ-loop
 domain-row-requires c κs =
-    let l = c .before in
-    let s = l .before .before .before .before in
-    (s .pre, omega (arith, l .before .variable-count .ensures))
+    let at-loop = c .before in
+    let start : tie.Start Inv-loop μ-loop = search in
+    (start .pre, omega (arith, at-loop .before .variable-count .ensures))
 
 add-result : tie.Need-add-result Inv-loop μ-loop
 add-result c = omega arith
 
 returns : tie.Need-returns Inv-loop μ-loop
 returns c =
-    let l = c .before .before .before in
-    let s = l .before .before .before .before in
-    let b = now (s .args .b) in (
-      empty-here b (memOf (now (s .args .cells))) (l .loop .x) (l .loop .inv .1)
-          (omega (arith, l .before .variable-count .ensures))
+    let at-loop : tie.At-loop Inv-loop μ-loop = search in
+    let start : tie.Start Inv-loop μ-loop = search in
+    let b = now (start .args .b) in (
+      empty-here b (memOf (now (start .args .cells))) (at-loop .loop .x) (at-loop .loop .inv .1)
+          (omega (arith, at-loop .before .variable-count .ensures))
           (sym (c .before .domain-row .ensures .0) ∙ c .if1 .taken),
-      omega (arith, few-sections b (s .pre .sound), l .before .variable-count .ensures),
+      omega (arith, few-sections b (start .pre .sound), at-loop .before .variable-count .ensures),
     )
 
 add-x : tie.Need-add-x Inv-loop μ-loop
@@ -53,19 +53,19 @@ loop-less c = omega arith
 
 loop-again : tie.Need-loop-again Inv-loop μ-loop
 loop-again c =
-    let l = c .before .before .before in
-    let s = l .before .before .before .before in (
+    let at-loop : tie.At-loop Inv-loop μ-loop = search in
+    let start : tie.Start Inv-loop μ-loop = search in (
       omega arith,
-      empty-next (now (s .args .b)) (memOf (now (s .args .cells))) (l .loop .x) (l .loop .inv .1)
+      empty-next (now (start .args .b)) (memOf (now (start .args .cells))) (at-loop .loop .x) (at-loop .loop .inv .1)
           (λ e. c .if1 .left (c .before .domain-row .ensures .0 ∙ e)),
     )
 
 returns-2 : tie.Need-returns-2 Inv-loop μ-loop
 returns-2 c =
-    let l = c .before in
-    let s = l .before .before .before .before in (
-      empty-nowhere (now (s .args .b)) (memOf (now (s .args .cells))) (l .loop .x) (l .loop .inv .1)
-          (omega (arith, l .before .variable-count .ensures)),
+    let at-loop = c .before in
+    let start : tie.Start Inv-loop μ-loop = search in (
+      empty-nowhere (now (start .args .b)) (memOf (now (start .args .cells))) (at-loop .loop .x) (at-loop .loop .inv .1)
+          (omega (arith, at-loop .before .variable-count .ensures)),
       omega arith,
     )
 

@@ -14,9 +14,9 @@ status-of-requires c κs = search needs
 
 returns : tie.Need-returns
 returns c =
-    let s = c .before .before .before .before .before in
-    report-law (now (s .args .b)) (memOf (now (s .args .cells))) (s .args .g) (c .status-of .result)
-    (c .before .lowest-empty .result) (c .status-of .ensures) (c .before .lowest-empty .ensures .0 (s .args .g .tally))
+    let start : tie.Start = search in
+    report-law (now (start .args .b)) (memOf (now (start .args .cells))) (start .args .g) (c .status-of .result)
+    (c .before .lowest-empty .result) (c .status-of .ensures) (c .before .lowest-empty .ensures .0 (start .args .g .tally))
 
 pub report-spec : {M : Type 1} → statement M
 report-spec = tie.close (tie.spec lowest-empty-requires status-of-requires returns)

@@ -26,13 +26,15 @@ variable-count-requires c κs = search needs
 loop-holds : tie.Need-loop-holds Inv-loop μ-loop
 loop-holds c = (omega arith, refl)
 
+abbrev start-of : tie.At-loop Inv-loop μ-loop → tie.Start Inv-loop μ-loop
+start-of c = let counted = c .before in counted .before .before .before .before
+
 -- the cells are as many as they were, and there is one for each variable
-long : (c : tie.At-loop Inv-loop μ-loop)
-    → (length (c .loop .lists) ≡ length (now (c .before .before .before .before .before .args .lists)))
-    × (c .before .variable-count .result ≤ length (now (c .before .before .before .before .before .args .lists)))
+long : (c : tie.At-loop Inv-loop μ-loop) → let lists = now (start-of c .args .lists) in
+    (length (c .loop .lists) ≡ length lists) × (c .before .variable-count .result ≤ length lists)
 unfolding listNeed
 long c =
-    let s = c .before .before .before .before .before in
+    let s = start-of c in
     let room : c .before .variable-count .result ≤ length (now (s .args .lists)) =
     omega (arith, few-sections (now (s .args .b)) (s .pre .0 .sound), c .before .variable-count .ensures, s .pre .1) in (
       ap length (c .loop .inv .1)
@@ -43,9 +45,9 @@ long c =
 
 domain-row-requires : tie.Need-domain-row-requires Inv-loop μ-loop
 domain-row-requires c κs =
-    let l = c .before in
-    let s = l .before .before .before .before .before in
-    (s .pre .0, omega (arith, l .before .variable-count .ensures))
+    let at-loop = c .before in
+    let start : tie.Start Inv-loop μ-loop = search in
+    (start .pre .0, omega (arith, at-loop .before .variable-count .ensures))
 
 cast-lists : tie.Need-cast-lists Inv-loop μ-loop
 cast-lists c = omega (arith, c .domain-row .ensures)
@@ -64,12 +66,12 @@ loop-less c = omega arith
 
 loop-again : tie.Need-loop-again Inv-loop μ-loop
 loop-again c =
-    let l = c .before .before in
-    let s = l .before .before .before .before .before in (
+    let at-loop : tie.At-loop Inv-loop μ-loop = search in
+    let start : tie.Start Inv-loop μ-loop = search in (
       omega arith,
-      ap₂ (λ (a : List ℕ) (v : ℕ). set a (l .loop .x) v) (l .loop .inv .1) (c .domain-row .ensures .0)
-          ∙ rows-next (now (s .args .b)) (memOf (now (s .args .cells))) (l .loop .x) (now (s .args .lists))
-          (omega (arith, long l)),
+      ap₂ (λ (a : List ℕ) (v : ℕ). set a (at-loop .loop .x) v) (at-loop .loop .inv .1) (c .domain-row .ensures .0)
+          ∙ rows-next (now (start .args .b)) (memOf (now (start .args .cells))) (at-loop .loop .x) (now (start .args .lists))
+          (omega (arith, long at-loop)),
     )
 
 same-length : tie.Need-same-length Inv-loop μ-loop
@@ -77,11 +79,11 @@ same-length c = long (c .before) .0
 
 returns : tie.Need-returns Inv-loop μ-loop
 returns c t =
-    let l = c .before in
-    let s = l .before .before .before .before .before in
-    l .loop .inv .1
-    ∙ rows-all (now (s .args .b)) (memOf (now (s .args .cells))) (l .loop .x) (now (s .args .lists))
-    (omega (arith, l .before .variable-count .ensures)) t
+    let at-loop = c .before in
+    let start : tie.Start Inv-loop μ-loop = search in
+    at-loop .loop .inv .1
+    ∙ rows-all (now (start .args .b)) (memOf (now (start .args .cells))) (at-loop .loop .x) (now (start .args .lists))
+    (omega (arith, at-loop .before .variable-count .ensures)) t
 
 pub write-lists-spec : {M : Type 1} → statement M
 write-lists-spec =

@@ -23,17 +23,18 @@ have-worked w =
 
 hear-all-requires : tie.Need-hear-all-requires
 hear-all-requires c κs =
-    let w = c .before .before .before in
-    (have-worked w, w .before .before .before .before .pre .1)
+    let worked : tie.After-workers-round = search in
+    let start : tie.Start = search in
+    (have-worked worked, start .pre .1)
 
 control-requires : tie.Need-control-requires
 control-requires c κs =
-    let h = c .before .before .before in
-    let w = h .before .before .before .before in
-    let s = w .before .before .before .before in (
-      goes-after _ _ _ _ _ _ (have-worked w) (h .hear-all .kept .1 .0) (h .hear-all .ensures),
-      s .pre .1,
-      may-poll (s .args .p),
+    let heard : tie.After-hear-all = search in
+    let worked : tie.After-workers-round = search in
+    let start : tie.Start = search in (
+      goes-after _ _ _ _ _ _ (have-worked worked) (heard .hear-all .kept .1 .0) (heard .hear-all .ensures),
+      start .pre .1,
+      may-poll (start .args .p),
     )
 
 same-length : tie.Need-same-length
@@ -42,15 +43,16 @@ same-length c = search needs
 returns : tie.Need-returns
 unfolding round
 returns c =
-    let e = c .before .before in
-    let h = e .before .before .before .before in
-    let w = h .before .before .before .before in
-    let a = w .before .before .before .before .args in
+    let controlled : tie.After-control = search in
+    let heard : tie.After-hear-all = search in
+    let worked : tie.After-workers-round = search in
+    let start : tie.Start = search in
+    let a = start .args in
     let b = now (a .b) in
     let workers = gatherBelow (a .p) (λ i. workerRound (a .p) (suc i)) in
     let controller = listBelow (a .p) (λ i. turn 0 (suc i)) in
     plays-then b (workers ++ controller) (turn 0 pollAction ∷ []) _ _ _ _ _ _
-    (plays-then b workers controller _ _ _ _ _ _ (w .workers-round .ensures) (h .hear-all .ensures)) (e .control .ensures)
+    (plays-then b workers controller _ _ _ _ _ _ (worked .workers-round .ensures) (heard .hear-all .ensures)) (controlled .control .ensures)
 
 pub play-round-spec : {M : Type 1} → statement M
 play-round-spec =

@@ -15,13 +15,13 @@ returns c =
 
 read-turn-requires : tie.Need-read-turn-requires
 read-turn-requires c κs =
-    let s = c .before .before .before .before in
-    let can = running-playable (now (s .args .b)) (now (s .args .cells)) (s .args .t) (s .pre .0) in (
-      s .pre .0,
-      s .pre .1,
-      s .pre .2,
-      omega (arith, s .pre .1, s .pre .4, can .workers),
-      may-read (s .args .p) (s .args .k) (s .args .j) (s .pre .2) (s .pre .3) (s .pre .4) (c .before .if1 .left),
+    let start : tie.Start = search in
+    let can = running-playable (now (start .args .b)) (now (start .args .cells)) (start .args .t) (start .pre .0) in (
+      start .pre .0,
+      start .pre .1,
+      start .pre .2,
+      omega (arith, start .pre .1, start .pre .4, can .workers),
+      may-read (start .args .p) (start .args .k) (start .args .j) (start .pre .2) (start .pre .3) (start .pre .4) (c .before .if1 .left),
     )
 
 same-length : tie.Need-same-length

@@ -30,30 +30,30 @@ loop-holds c = none-worked _ _ _ _ _
 
 read-other-requires : tie.Need-read-other-requires Inv-loop μ-loop
 read-other-requires c κs =
-    let l = c .before .before in
-    let s = l .before .before .before in
-    (working-on (l .loop .inv) (s .pre .0), s .pre .1, s .pre .2, s .pre .3, c .before .loop-test .taken)
+    let at-loop : tie.At-loop Inv-loop μ-loop = search in
+    let start : tie.Start Inv-loop μ-loop = search in
+    (working-on (at-loop .loop .inv) (start .pre .0), start .pre .1, start .pre .2, start .pre .3, c .before .loop-test .taken)
 
 add-changes : tie.Need-add-changes Inv-loop μ-loop
 add-changes c =
-    let v = c .before .before in
-    let l = v .before .before .before in
-    omega (arith, few-at (l .before .before .before), l .loop .inv .few, l .loop .inv .passed, v .read-other .ensures .1)
+    let read : tie.After-read-other Inv-loop μ-loop = search in
+    let at-loop : tie.At-loop Inv-loop μ-loop = search in
+    omega (arith, few-at (at-loop .before .before .before), at-loop .loop .inv .few, at-loop .loop .inv .passed, read .read-other .ensures .1)
 
 add-j : tie.Need-add-j Inv-loop μ-loop
 add-j c =
-    let l = c .before .before .before .before .before in
-    omega (arith, few-at (l .before .before .before), l .loop .inv .passed)
+    let at-loop : tie.At-loop Inv-loop μ-loop = search in
+    omega (arith, few-at (at-loop .before .before .before), at-loop .loop .inv .passed)
 
 loop-less : tie.Need-loop-less Inv-loop μ-loop
 loop-less c = omega arith
 
 loop-again : tie.Need-loop-again Inv-loop μ-loop
 loop-again c =
-    let v = c .before .before in
-    let l = v .before .before .before in
-    one-worked (l .loop .inv) (v .read-other .last .1 .0) (v .read-other .result) (omega arith) (v .read-other .ensures .1)
-    (v .read-other .kept .1 .0) (v .read-other .ensures .0)
+    let read : tie.After-read-other Inv-loop μ-loop = search in
+    let at-loop : tie.At-loop Inv-loop μ-loop = search in
+    one-worked (at-loop .loop .inv) (read .read-other .last .1 .0) (read .read-other .result) (omega arith) (read .read-other .ensures .1)
+    (read .read-other .kept .1 .0) (read .read-other .ensures .0)
 
 same-length : tie.Need-same-length Inv-loop μ-loop
 same-length c = c .before .loop .inv .same
@@ -61,12 +61,12 @@ same-length c = c .before .loop .inv .same
 returns : tie.Need-returns Inv-loop μ-loop
 unfolding others
 returns c =
-    let l = c .before in
-    let s = l .before .before .before in
-    let a = s .args in (
+    let at-loop = c .before in
+    let start : tie.Start Inv-loop μ-loop = search in
+    let a = start .args in (
       rw (map-gather (turn (a .k)) (suc (a .p)) (λ j. cond (eqb j (a .k)) [] (j ∷ []))) at
-          (all-worked (l .loop .inv) (c .loop-test .left)),
-      omega (arith, few-at s, l .loop .inv .few, l .loop .inv .passed),
+          (all-worked (at-loop .loop .inv) (c .loop-test .left)),
+      omega (arith, few-at start, at-loop .loop .inv .few, at-loop .loop .inv .passed),
     )
 
 pub reads-spec : {M : Type 1} → statement M

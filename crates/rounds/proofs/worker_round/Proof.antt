@@ -14,7 +14,10 @@ use Rattle.engine.specs.Play.{Running}
 use Rattle.rounds.proofs.worker_round.Statement.{statement}
 use Rattle.rounds.proofs.worker_round.Tie as tie
 
--- back from sending to treating, from there to the reads, and from these to the start
+-- back from answering to sending, from there to treating, to the reads, and from these to the start
+abbrev sent : tie.After-work-turn3 → tie.After-work-turn2
+sent e = e .before .before .before .before
+
 abbrev treated : tie.After-work-turn2 → tie.After-work-turn
 treated d = d .before .before .before .before
 
@@ -22,7 +25,7 @@ abbrev read : tie.After-work-turn → tie.After-reads
 read t = t .before .before .before .before
 
 abbrev start : tie.After-reads → tie.Start
-start r = r .before .before .before .before .before
+start r = let told = r .before .before in told .before .before .before
 
 reads-requires : tie.Need-reads-requires
 reads-requires c κs =
@@ -63,13 +66,13 @@ work-turn-requires-3 c κs =
 
 -- the counts have room for the turns of a worker
 room : (e : tie.After-work-turn3) →
-    let d = e .before .before .before .before in
+    let d = sent e in
     let t = treated d in
     let g = start (read t) .args .g in
     (g .changes + read t .reads .result + t .work-turn .result + d .work-turn2 .result + e .work-turn3 .result < 65548)
     × (g .sends + d .work-turn2 .result < 65537)
 room e =
-    let d = e .before .before .before .before in
+    let d = sent e in
     let t = treated d in
     let s = start (read t) in
     let c = going-small (now (s .args .b)) (now (s .args .cells)) (s .args .g) (s .pre .0) in
@@ -97,7 +100,7 @@ returns : tie.Need-returns
 unfolding workerRound
 returns c =
     let e = c .before .before .before .before in
-    let d = e .before .before .before .before in
+    let d = sent e in
     let t = treated d in
     let r = read t in
     let a = start r .args in

@@ -26,12 +26,12 @@ limit-row-requires c κs = search needs
 
 returns : tie.Need-returns
 returns c w h =
-    let k = c .before .before .before .before in
-    let s = k .before .before in
-    let b = now (s .args .b) in
-    limit-bits b (s .args .at) (s .args .here) (s .args .v) (s .args .there)
-    (ne-eqb (kindAt b (s .args .at)) 0 (λ e. c .before .before .before .if1 .taken (k .kind .ensures .0 ∙ e))) (s .args .leads)
-    (c .before .before .limit .result) (c .before .figure .result) (s .args .values) (c .limit-row .result)
+    let kind-read : tie.After-kind = search in
+    let start : tie.Start = search in
+    let b = now (start .args .b) in
+    limit-bits b (start .args .at) (start .args .here) (start .args .v) (start .args .there)
+    (ne-eqb (kindAt b (start .args .at)) 0 (λ e. c .before .before .before .if1 .taken (kind-read .kind .ensures .0 ∙ e))) (start .args .leads)
+    (c .before .before .limit .result) (c .before .figure .result) (start .args .values) (c .limit-row .result)
     (c .before .before .limit .ensures .0) (c .before .figure .ensures .0) (c .limit-row .ensures) w h
 
 table-row-requires : tie.Need-table-row-requires
@@ -43,12 +43,12 @@ is-table b at kind e p = eq-eqb (kindAt b at) 0 (sym e ∙ p)
 
 returns-2 : tie.Need-returns-2
 returns-2 c w h =
-    let k = c .before .before .before in
-    let s = k .before .before in
-    let b = now (s .args .b) in
+    let kind-read : tie.After-kind = search in
+    let start : tie.Start = search in
+    let b = now (start .args .b) in
     rw (c .before .if2 .taken)
-    (table-bits b (s .args .at) (s .args .here) (s .args .v) (s .args .there)
-    (is-table b (s .args .at) (k .kind .result) (k .kind .ensures .0) (c .before .before .if1 .left))
+    (table-bits b (start .args .at) (start .args .here) (start .args .v) (start .args .there)
+    (is-table b (start .args .at) (kind-read .kind .result) (kind-read .kind .ensures .0) (c .before .before .if1 .left))
     (c .table-row .result) (c .table-row .ensures .0) w)
 
 table-column-requires : tie.Need-table-column-requires
@@ -56,13 +56,13 @@ table-column-requires c κs = search needs
 
 returns-3 : tie.Need-returns-3
 returns-3 c w h =
-    let k = c .before .before .before in
-    let s = k .before .before in
-    let b = now (s .args .b) in
+    let kind-read : tie.After-kind = search in
+    let start : tie.Start = search in
+    let b = now (start .args .b) in
     rw (c .before .if2 .left)
-    (column-bits b (s .args .at) (s .args .here) (s .args .v) (s .args .there)
-    (is-table b (s .args .at) (k .kind .result) (k .kind .ensures .0) (c .before .before .if1 .left))
-    (s .args .values) (c .table-column .result) (c .table-column .ensures) w h)
+    (column-bits b (start .args .at) (start .args .here) (start .args .v) (start .args .there)
+    (is-table b (start .args .at) (kind-read .kind .result) (kind-read .kind .ensures .0) (c .before .before .if1 .left))
+    (start .args .values) (c .table-column .result) (c .table-column .ensures) w h)
 
 pub constraint-row-spec : {M : Type 1} → statement M
 constraint-row-spec =

@@ -31,17 +31,19 @@ sub-w c = omega (arith, c .loop-test .taken)
 
 mul-row : tie.Need-mul-row Inv-loop μ-loop
 mul-row c =
-    let l = c .before in
-    let s = l .before .before .before in
-    let a = s .args in
+    let at-loop = c .before in
+    let start : tie.Start Inv-loop μ-loop = search in
+    let a = start .args in
     omega (
       arith,
-      upper-small (limited (now (a .b)) (a .limit) (a .f) (a .place)) (a .values) (l .loop .row) (l .loop .w) (s .pre .1)
-          (l .loop .inv),
+      upper-small (limited (now (a .b)) (a .limit) (a .f) (a .place)) (a .values) (at-loop .loop .row) (at-loop .loop .w) (start .pre .1)
+          (at-loop .loop .inv),
     )
 
 figure-requires : tie.Need-figure-requires Inv-loop μ-loop
-figure-requires c κs = omega (arith, c .before .before .before .before .pre, c .before .loop .inv .low)
+figure-requires c κs =
+    let start : tie.Start Inv-loop μ-loop = search in
+    omega (arith, start .pre, c .before .loop .inv .low)
 
 row-if-requires : tie.Need-row-if-requires Inv-loop μ-loop
 row-if-requires c κs = omega arith

@@ -49,7 +49,9 @@ table-byte-requires : tie.Need-table-byte-requires Inv-loop μ-loop
 table-byte-requires c κs = omega (arith, c .before .before .before .pre, c .before .loop .inv .low)
 
 row-holds-requires : tie.Need-row-holds-requires Inv-loop μ-loop
-row-holds-requires c κs = omega (arith, c .before .before .before .before .pre)
+row-holds-requires c κs =
+    let start : tie.Start Inv-loop μ-loop = search in
+    omega (arith, start .pre)
 
 row-if-requires : tie.Need-row-if-requires Inv-loop μ-loop
 row-if-requires c κs = omega arith

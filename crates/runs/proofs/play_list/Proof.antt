@@ -12,21 +12,21 @@ load-requires c κs = search needs
 
 play-turns-requires : tie.Need-play-turns-requires
 play-turns-requires c κs =
-    let l = c .before .before .before in
-    let s = l .before .before .before .before .before .before in (
-      begun _ _ _ _ (s .pre .0) (omega (arith, s .pre .1, l .load .kept .1 .0)) (l .load .ensures) .going,
-      s .pre .3,
-      s .pre .4,
+    let loaded : tie.After-load = search in
+    let start : tie.Start = search in (
+      begun _ _ _ _ (start .pre .0) (omega (arith, start .pre .1, loaded .load .kept .1 .0)) (loaded .load .ensures) .going,
+      start .pre .3,
+      start .pre .4,
     )
 
 finish-requires : tie.Need-finish-requires
 finish-requires c κs =
-    let t = c .before .before .before .before in
-    let l = t .before .before .before .before in
-    let s = l .before .before .before .before .before .before in (
-      goes-after _ _ _ _ _ _ (begun _ _ _ _ (s .pre .0) (omega (arith, s .pre .1, l .load .kept .1 .0)) (l .load .ensures) .going)
-          (t .play-turns .kept .1 .1 .0) (t .play-turns .ensures),
-      s .pre .2,
+    let played : tie.After-play-turns = search in
+    let loaded : tie.After-load = search in
+    let start : tie.Start = search in (
+      goes-after _ _ _ _ _ _ (begun _ _ _ _ (start .pre .0) (omega (arith, start .pre .1, loaded .load .kept .1 .0)) (loaded .load .ensures) .going)
+          (played .play-turns .kept .1 .1 .0) (played .play-turns .ensures),
+      start .pre .2,
     )
 
 same-length : tie.Need-same-length
@@ -37,12 +37,12 @@ same-length-2 c = search needs
 
 returns : tie.Need-returns
 returns c =
-    let f = c .before .before .before .before in
-    let t = f .before .before .before .before .before in
-    let l = t .before .before .before .before in
-    let s = l .before .before .before .before .before .before in
-    ends _ (s .pre .0) _ _ _ _ _ _ _ _ _ _ (l .load .ensures) (t .play-turns .ensures)
-    (t .play-turns .kept .1 .1 .0 ∙ l .load .kept .1 .0) (omega arith) (f .finish .ensures)
+    let finished : tie.After-finish = search in
+    let played : tie.After-play-turns = search in
+    let loaded : tie.After-load = search in
+    let start : tie.Start = search in
+    ends _ (start .pre .0) _ _ _ _ _ _ _ _ _ _ (loaded .load .ensures) (played .play-turns .ensures)
+    (played .play-turns .kept .1 .1 .0 ∙ loaded .load .kept .1 .0) (omega arith) (finished .finish .ensures)
 
 pub play-list-spec : {M : Type 1} → statement M
 play-list-spec =

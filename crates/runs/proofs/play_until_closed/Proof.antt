@@ -12,18 +12,18 @@ load-requires c κs = search needs
 
 play-rounds-requires : tie.Need-play-rounds-requires
 play-rounds-requires c κs =
-    let l = c .before .before .before in
-    let s = l .before .before .before .before .before in
-    (begun _ _ _ _ (s .pre .0) (omega (arith, s .pre .1, l .load .kept .1 .0)) (l .load .ensures), s .pre .3)
+    let loaded : tie.After-load = search in
+    let start : tie.Start = search in
+    (begun _ _ _ _ (start .pre .0) (omega (arith, start .pre .1, loaded .load .kept .1 .0)) (loaded .load .ensures), start .pre .3)
 
 finish-requires : tie.Need-finish-requires
 finish-requires c κs =
-    let t = c .before .before .before .before in
-    let l = t .before .before .before .before in
-    let s = l .before .before .before .before .before in (
-      goes-after _ _ _ _ _ _ (begun _ _ _ _ (s .pre .0) (omega (arith, s .pre .1, l .load .kept .1 .0)) (l .load .ensures) .going)
-          (t .play-rounds .kept .1 .0) (t .play-rounds .ensures),
-      s .pre .2,
+    let played : tie.After-play-rounds = search in
+    let loaded : tie.After-load = search in
+    let start : tie.Start = search in (
+      goes-after _ _ _ _ _ _ (begun _ _ _ _ (start .pre .0) (omega (arith, start .pre .1, loaded .load .kept .1 .0)) (loaded .load .ensures) .going)
+          (played .play-rounds .kept .1 .0) (played .play-rounds .ensures),
+      start .pre .2,
     )
 
 same-length : tie.Need-same-length
@@ -34,12 +34,12 @@ same-length-2 c = search needs
 
 returns : tie.Need-returns
 returns c =
-    let f = c .before .before .before .before in
-    let t = f .before .before .before .before .before in
-    let l = t .before .before .before .before in
-    let s = l .before .before .before .before .before in
-    ends _ (s .pre .0) _ _ _ _ _ _ _ _ _ _ (l .load .ensures) (t .play-rounds .ensures)
-    (t .play-rounds .kept .1 .0 ∙ l .load .kept .1 .0) (omega arith) (f .finish .ensures)
+    let finished : tie.After-finish = search in
+    let played : tie.After-play-rounds = search in
+    let loaded : tie.After-load = search in
+    let start : tie.Start = search in
+    ends _ (start .pre .0) _ _ _ _ _ _ _ _ _ _ (loaded .load .ensures) (played .play-rounds .ensures)
+    (played .play-rounds .kept .1 .0 ∙ loaded .load .kept .1 .0) (omega arith) (finished .finish .ensures)
 
 pub play-until-closed-spec : {M : Type 1} → statement M
 play-until-closed-spec =

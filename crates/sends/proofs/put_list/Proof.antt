@@ -42,12 +42,12 @@ same-length c = search needs
 
 returns : tie.Need-returns
 returns c =
-    let at-put5 = c .before .before in
-    let at-put4 = at-put5 .before .before .before .before in
-    let at-put3 = at-put4 .before .before .before .before in
-    let at-put2 = at-put3 .before .before .before .before in
-    let at-put = at-put2 .before .before .before .before in
-    let start = at-put .before .before .before in
+    let at-put5 : tie.After-put5 = search in
+    let at-put4 : tie.After-put4 = search in
+    let at-put3 : tie.After-put3 = search in
+    let at-put2 : tie.After-put2 = search in
+    let at-put : tie.After-put = search in
+    let start : tie.Start = search in
     sent _ _ _ _ (start .args .i) (start .args .sends) (start .args .end) (start .args .outs)
     (start .args .lists) _ _ (at-put .put .ensures) (at-put2 .put2 .ensures) (at-put3 .put3 .ensures)
     (at-put4 .put4 .ensures) (at-put5 .put5 .ensures)

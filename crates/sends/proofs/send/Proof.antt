@@ -55,12 +55,12 @@ same-length-5 c = search needs
 
 returns-5 : tie.Need-returns-5
 returns-5 c =
-    let at-put-list = c .before .before in
-    let at-get5 = at-put-list .before .before .before in
-    let at-get4 = at-get5 .before .before .before in
-    let at-if2 = at-get4 .before .before in
-    let at-get3 = at-if2 .before in
-    let at-get = at-get3 .before .before .before .before .before in
+    let at-put-list : tie.After-put-list = search in
+    let at-get5 : tie.After-get5 = search in
+    let at-get4 : tie.After-get4 = search in
+    let at-if2 : tie.Else2 = search in
+    let at-get3 : tie.After-get3 = search in
+    let at-get : tie.After-get = search in
     acts _ _ _ _
     (send-goes _ _ (record {
       unsent = λ e. at-if2 .if2 .left (cc);

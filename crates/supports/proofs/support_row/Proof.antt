@@ -52,23 +52,23 @@ add-place c = omega (arith, few (c .before .before .before))
 
 place-requires : tie.Need-place-requires Inv-loop μ-loop
 place-requires c κs =
-    let s = c .before .before .before in
-    (located (now (s .args .b)) (now (s .args .cells)) (s .pre .0), omega (arith, s .pre .1 .variable))
+    let start : tie.Start Inv-loop μ-loop = search in
+    (located (now (start .args .b)) (now (start .args .cells)) (start .pre .0), omega (arith, start .pre .1 .variable))
 
 add-place-2 : tie.Need-add-place-2 Inv-loop μ-loop
 add-place-2 c =
-    let s = c .before .before .before .before in
-    omega (arith, few s, inside s)
+    let start : tie.Start Inv-loop μ-loop = search in
+    omega (arith, few start, inside start)
 
 place-requires-2 : tie.Need-place-requires-2 Inv-loop μ-loop
 place-requires-2 c κs =
-    let s = c .before .before .before .before in
-    (located (now (s .args .b)) (now (s .args .cells)) (s .pre .0), omega (arith, inside s))
+    let start : tie.Start Inv-loop μ-loop = search in
+    (located (now (start .args .b)) (now (start .args .cells)) (start .pre .0), omega (arith, inside start))
 
 size-requires : tie.Need-size-requires Inv-loop μ-loop
 size-requires c κs =
-    let s = c .before .before .before .before .before in
-    (s .pre .0, inside s)
+    let start : tie.Start Inv-loop μ-loop = search in
+    (start .pre .0, inside start)
 
 power-requires : tie.Need-power-requires Inv-loop μ-loop
 power-requires c κs = omega (arith, c .size .ensures)
@@ -78,14 +78,14 @@ sub-row c = omega (arith, c .power .ensures, pow-pos (c .before .size .result))
 
 get-requires : tie.Need-get-requires Inv-loop μ-loop
 get-requires c κs =
-    let s = c .before .before .before .before .before .before .before in
-    may-get _ _ _ refl _ (omega (arith, few s, s .pre .1 .variable, inside s, s .pre .0 .long))
+    let start : tie.Start Inv-loop μ-loop = search in
+    may-get _ _ _ refl _ (omega (arith, few start, start .pre .1 .variable, inside start, start .pre .0 .long))
 
 loop-holds : tie.Need-loop-holds Inv-loop μ-loop
 loop-holds c =
-    let s = c .before .before .before .before .before .before .before .before in
-    left-start (now (s .args .b)) (s .args .x) (s .args .v) (s .args .y) (c .before .before .size .result) (c .before .power .result)
-    (c .before .power .ensures) (c .get .result) (c .get .ensures .0 ∙ s .pre .0 .index .heads (s .args .x) (s .args .y))
+    let start : tie.Start Inv-loop μ-loop = search in
+    left-start (now (start .args .b)) (start .args .x) (start .args .v) (start .args .y) (c .before .before .size .result) (c .before .power .result)
+    (c .before .power .ensures) (c .get .result) (c .get .ensures .0 ∙ start .pre .0 .index .heads (start .args .x) (start .args .y))
 
 -- the walk before a constraint, and what was read before the walk
 module _ (l : tie.At-loop Inv-loop μ-loop) where

@@ -27,10 +27,10 @@ same-length c = search needs
 returns : tie.Need-returns
 unfolding printed
 returns c =
-    let at-domains = c .before .before in
-    let at-report = at-domains .before .before .before .before in
-    let known = at-report .before .before .before in
-    let start = known .before .before .before .before .before in
+    let at-domains : tie.After-push-domains = search in
+    let at-report : tie.After-push-report = search in
+    let known : tie.After-answer = search in
+    let start : tie.Start = search in
     rw (known .answer .given .1)
     (holds-added (now (start .args .out)) (at-report .push-report .ensures then at-domains .push-domains .ensures))
 
@@ -40,9 +40,9 @@ same-length-2 c = search needs
 returns-2 : tie.Need-returns-2
 unfolding printed
 returns-2 c =
-    let at-decline = c .before .before in
-    let known = at-decline .before .before .before in
-    let start = known .before .before .before .before .before in
+    let at-decline : tie.After-push-decline = search in
+    let known : tie.After-answer2 = search in
+    let start : tie.Start = search in
     rw (known .answer2 .given .1) (holds-added (now (start .args .out)) (at-decline .push-decline .ensures))
 
 pub print-answer-spec : {M : Type 1} → statement M

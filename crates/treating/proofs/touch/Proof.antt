@@ -24,11 +24,11 @@ same-length c = search needs
 returns : tie.Need-returns
 unfolding bit
 returns c =
-    let t = c .before .before .before .before in
-    let g = t .before in
-    let a = g .before .before .before .args in
+    let affected : tie.Then1 = search in
+    let at-get : tie.After-get = search in
+    let a = at-get .before .before .before .args in
     λ sys y w e r.
-    sum-touched sys (a .i) y w (a .x) (a .v) _ _ _ (g .get .ensures .0) (g .get .ensures .1) e _ (t .if1 .taken)
+    sum-touched sys (a .i) y w (a .x) (a .v) _ _ _ (at-get .get .ensures .0) (at-get .get .ensures .1) e _ (affected .if1 .taken)
     (c .before .before .lose .ensures y r)
 
 same-length-2 : tie.Need-same-length-2

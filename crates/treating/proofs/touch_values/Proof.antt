@@ -46,15 +46,15 @@ row-stays sys i y w x v m n e =
 
 loop-again : tie.Need-loop-again Inv-loop μ-loop
 loop-again c =
-    let l = c .before .before .before .before .before in
-    let a = l .before .before .args in (
+    let at-loop : tie.At-loop Inv-loop μ-loop = search in
+    let a = at-loop .before .before .args in (
       omega arith,
       omega arith,
       λ sys y w s.
-          let e = l .loop .inv .2 sys y w s in
-          loop-more (l .loop .v) (touchM sys (a .i) y w (a .x)) _ e
-          (c .before .before .touch .ensures sys y w (s .holds (l .loop .v) (omega arith))
-          (s .counted ∙ sym (row-stays sys (a .i) y w (a .x) (l .loop .v) _ _ e))),
+          let e = at-loop .loop .inv .2 sys y w s in
+          loop-more (at-loop .loop .v) (touchM sys (a .i) y w (a .x)) _ e
+          (c .before .before .touch .ensures sys y w (s .holds (at-loop .loop .v) (omega arith))
+          (s .counted ∙ sym (row-stays sys (a .i) y w (a .x) (at-loop .loop .v) _ _ e))),
     )
 
 same-length : tie.Need-same-length Inv-loop μ-loop

@@ -43,27 +43,27 @@ module _ (s : tie.Start) where
 
 size-requires : tie.Need-size-requires
 size-requires c κs =
-    let s = c .before .before .before in
-    (s .pre .0, known s .0)
+    let start : tie.Start = search in
+    (start .pre .0, known start .0)
 
 support-row-requires : tie.Need-support-row-requires
 support-row-requires c κs =
-    let s = c .before .before .before .before .before in
-    (s .pre .0, s .pre .2, linked-too s)
+    let start : tie.Start = search in
+    (start .pre .0, start .pre .2, linked-too start)
 
 counter-row-requires : tie.Need-counter-row-requires
 counter-row-requires c κs =
-    let s = c .before .before .before .before .before .before .before in
-    let few = few-sections (b s) (s .pre .0 .sound) in
-    (s .pre .0 .long, omega (arith, known s .0), omega (arith, known s .1), known s .2)
+    let start : tie.Start = search in
+    let few = few-sections (b start) (start .pre .0 .sound) in
+    (start .pre .0 .long, omega (arith, known start .0), omega (arith, known start .1), known start .2)
 
 touch-values-requires : tie.Need-touch-values-requires
 touch-values-requires c κs =
-    let k = c .before in
-    let z = k .before .before .before .before in
-    let s = z .before .before .before .before in
-    let few = few-sections (b s) (s .pre .0 .sound) in
-    omega (arith, known s .0, z .size .ensures, k .counter-row .ensures)
+    let row-found = c .before in
+    let sized : tie.After-size = search in
+    let start : tie.Start = search in
+    let few = few-sections (b start) (start .pre .0 .sound) in
+    omega (arith, known start .0, sized .size .ensures, row-found .counter-row .ensures)
 
 same-length : tie.Need-same-length
 same-length c = search needs
@@ -71,17 +71,17 @@ same-length c = search needs
 returns : tie.Need-returns
 unfolding systemOf networkOf owns
 returns c =
-    let k = c .before .before .before .before in
-    let r = k .before .before in
-    let z = r .before .before in
-    let s = z .before .before .before .before in
-    let a = s .args in
-    let sys = systemAt (b s) in
-    variable-touched sys (a .i) (a .y) (a .w) (a .x) _ _ (z .size .result) (owned s) (linked s)
-    (z .size .ensures .0 ∙ size-is (b s) (a .x))
+    let row-found : tie.After-counter-row = search in
+    let supports-read : tie.After-support-row = search in
+    let sized : tie.After-size = search in
+    let start : tie.Start = search in
+    let a = start .args in
+    let sys = systemAt (b start) in
+    variable-touched sys (a .i) (a .y) (a .w) (a .x) _ _ (sized .size .result) (owned start) (linked start)
+    (sized .size .ensures .0 ∙ size-is (b start) (a .x))
     (c .before .before .touch-values .ensures sys (a .y) (a .w)
-    (supported (b s) _ (a .y) (a .w) (a .x) _ _ _ (linked-too s) (z .size .ensures .0) (r .support-row .ensures)
-    (k .counter-row .ensures .0)))
+    (supported (b start) _ (a .y) (a .w) (a .x) _ _ _ (linked-too start) (sized .size .ensures .0) (supports-read .support-row .ensures)
+    (row-found .counter-row .ensures .0)))
 
 pub touch-variable-spec : {M : Type 1} → statement M
 touch-variable-spec =

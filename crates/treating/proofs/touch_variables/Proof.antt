@@ -31,18 +31,18 @@ abbrev μ-loop : tie.MeasureT-loop
 
 get-requires : tie.Need-get-requires Inv-loop μ-loop
 get-requires c κs =
-    let s = c .before .before .before in
+    let start : tie.Start Inv-loop μ-loop = search in
     may-get _ _ _ refl _
-    (omega (arith, s .pre .0 .long, s .pre .1, s .pre .2 .variable, few-sections (now (s .args .b)) (s .pre .0 .sound)))
+    (omega (arith, start .pre .0 .long, start .pre .1, start .pre .2 .variable, few-sections (now (start .args .b)) (start .pre .0 .sound)))
 
 loop-holds : tie.Need-loop-holds Inv-loop μ-loop
 loop-holds c =
-    let s = c .before .before .before .before in
-    let a = s .args in (
-      s .pre .0,
+    let start : tie.Start Inv-loop μ-loop = search in
+    let a = start .args in (
+      start .pre .0,
       refl,
       reached-start (now (a .b)) (a .i) (a .y) (a .w) (memOf (now (a .cells))) (c .get .result)
-          (c .get .ensures .0 ∙ s .pre .0 .index .first (a .i) (s .pre .1) (a .y) (s .pre .2 .variable)),
+          (c .get .ensures .0 ∙ start .pre .0 .index .first (a .i) (start .pre .1) (a .y) (start .pre .2 .variable)),
     )
 
 -- the variable that the chain has come to
@@ -51,7 +51,7 @@ module _ (t : tie.In-loop Inv-loop μ-loop) where
   l = t .before
 
   abbrev s : tie.Start Inv-loop μ-loop
-  s = l .before .before .before .before .before
+  s = let led = l .before in led .before .before .before .before
 
   abbrev b : List ℕ
   b = now (s .args .b)
@@ -77,7 +77,9 @@ touch-variable-requires c κs =
     (l t .loop .inv .0, s t .pre .1, s t .pre .2, mine t)
 
 sub-get : tie.Need-sub-get Inv-loop μ-loop
-sub-get c = omega (arith, here (c .before .before .before .before .before))
+sub-get c =
+    let in-loop : tie.In-loop Inv-loop μ-loop = search in
+    omega (arith, here in-loop)
 
 -- when it is done, the index is as it was
 module _ (v : tie.After-touch-variable Inv-loop μ-loop) where
@@ -95,26 +97,26 @@ module _ (v : tie.After-touch-variable Inv-loop μ-loop) where
 
 get-requires-2 : tie.Need-get-requires-2 Inv-loop μ-loop
 get-requires-2 c κs =
-    let v = c .before .before .before in
+    let v : tie.After-touch-variable Inv-loop μ-loop = search in
     let s = s (t v) in
     may-get _ _ _ refl _
     (omega (arith, ready v .long, inside (t v), s .pre .2 .variable, few-sections (now (s .args .b)) (s .pre .0 .sound)))
 
 -- what the chain goes on with
-follows : (c : tie.After-get2 Inv-loop μ-loop)
-    → c .get2 .result
-    ≡ nextOwn (b (t (c .before .before .before .before))) (s (t (c .before .before .before .before)) .args .i)
-    (s (t (c .before .before .before .before)) .args .y)
-    (variableCount (b (t (c .before .before .before .before))) - suc (x (t (c .before .before .before .before))))
+abbrev touched : tie.After-get2 Inv-loop μ-loop → tie.After-touch-variable Inv-loop μ-loop
+touched c = c .before .before .before .before
+
+follows : (c : tie.After-get2 Inv-loop μ-loop) → let t = t (touched c) in
+    c .get2 .result ≡ nextOwn (b t) (s t .args .i) (s t .args .y) (variableCount (b t) - suc (x t))
 follows c =
-    let v = c .before .before .before .before in
+    let v = touched c in
     let s = s (t v) in
     c .get2 .ensures .0
     ∙ ready v .index .follow (s .args .i) (s .pre .1) (x (t v)) (s .args .y) (inside (t v)) (s .pre .2 .variable) (mine (t v))
 
 loop-less : tie.Need-loop-less Inv-loop μ-loop
 loop-less c =
-    let t = t (c .before .before .before .before) in
+    let t = t (touched c) in
     let a = s t .args in
     omega (
       arith,
@@ -124,7 +126,7 @@ loop-less c =
 
 loop-again : tie.Need-loop-again Inv-loop μ-loop
 loop-again c =
-    let v = c .before .before .before .before in
+    let v = touched c in
     let t = t v in
     let a = s t .args in
     let inv = l t .loop .inv in (
@@ -140,10 +142,11 @@ same-length c = c .before .loop .inv .1
 returns : tie.Need-returns Inv-loop μ-loop
 unfolding touchVariablesM
 returns c =
-    let l = c .before in
-    let a = l .before .before .before .before .before .args in
+    let at-loop = c .before in
+    let start : tie.Start Inv-loop μ-loop = search in
+    let a = start .args in
     let b = now (a .b) in
-    l .loop .inv .2 .done (omega (arith, c .loop-test .left))
+    at-loop .loop .inv .2 .done (omega (arith, c .loop-test .left))
     ∙ ap (λ (n : ℕ). loop n (touchVariableM (systemAt b) (a .i) (a .y) (a .w)) (memOf (now (a .cells)))) (sym (variables-are b))
 
 pub touch-variables-spec : {M : Type 1} → statement M

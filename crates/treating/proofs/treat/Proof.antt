@@ -43,17 +43,17 @@ put-requires c κs = search needs
 
 touch-variables-requires : tie.Need-touch-variables-requires
 touch-variables-requires c κs =
-    let p = c .before .before .before in
-    let g3 = p .before .before in
-    let t = g3 .before .before .before in
-    let g2 = t .before in
-    let g = g2 .before .before in
-    let s = g .before .before .before .before in (
-      ready-kept (now (s .args .b)) (now (s .args .cells)) _ (s .pre .0) (p .put .kept .0) (p .put .ensures)
-          (kept-stored WORKERS (s .args .i) HEAD _ (omega arith) kept-same),
-      s .pre .1,
-      head-loaded (now (s .args .b)) (s .args .i) (memOf (now (s .args .cells))) (g .get .ensures .0) (g2 .get2 .ensures .0)
-          (t .if1 .left) (g3 .get3 .ensures .0) (s .pre .2),
+    let at-put : tie.After-put = search in
+    let at-get3 : tie.After-get3 = search in
+    let untreated : tie.Else1 = search in
+    let at-get2 : tie.After-get2 = search in
+    let at-get : tie.After-get = search in
+    let start : tie.Start = search in (
+      ready-kept (now (start .args .b)) (now (start .args .cells)) _ (start .pre .0) (at-put .put .kept .0) (at-put .put .ensures)
+          (kept-stored WORKERS (start .args .i) HEAD _ (omega arith) kept-same),
+      start .pre .1,
+      head-loaded (now (start .args .b)) (start .args .i) (memOf (now (start .args .cells))) (at-get .get .ensures .0) (at-get2 .get2 .ensures .0)
+          (untreated .if1 .left) (at-get3 .get3 .ensures .0) (start .pre .2),
     )
 
 same-length-3 : tie.Need-same-length-3
@@ -61,20 +61,21 @@ same-length-3 c = search needs
 
 returns-3 : tie.Need-returns-3
 returns-3 c =
-    let t2 = c .before .before in
-    let p = t2 .before .before .before .before in
-    let g3 = p .before .before in
-    let t = g3 .before .before .before in
-    let g2 = t .before in
-    let g = g2 .before .before in
-    let a = g .before .before .before .before .args in
+    let touched : tie.After-touch-variables = search in
+    let at-put : tie.After-put = search in
+    let at-get3 : tie.After-get3 = search in
+    let untreated : tie.Else1 = search in
+    let at-get2 : tie.After-get2 = search in
+    let at-get : tie.After-get = search in
+    let start : tie.Start = search in
+    let a = start .args in
     let sys = systemAt (now (a .b)) in
     acts _ _ _ _
-    (treat-goes sys (a .i) _ (g .get .ensures .0) (g3 .get3 .ensures .0) (record {
-      untreated = omega (arith, g .get .ensures .0, g2 .get2 .ensures .0, t .if1 .left);
-      head-room = omega (arith, g .get .ensures .0, g3 .before .before .if2 .left);
+    (treat-goes sys (a .i) _ (at-get .get .ensures .0) (at-get3 .get3 .ensures .0) (record {
+      untreated = omega (arith, at-get .get .ensures .0, at-get2 .get2 .ensures .0, untreated .if1 .left);
+      head-room = omega (arith, at-get .get .ensures .0, at-get3 .before .before .if2 .left);
     }))
-    (t2 .touch-variables .ensures ∙ ap (touchVariablesM sys (a .i) _ _) (p .put .ensures))
+    (touched .touch-variables .ensures ∙ ap (touchVariablesM sys (a .i) _ _) (at-put .put .ensures))
 
 pub treat-spec : {M : Type 1} → statement M
 treat-spec =

@@ -27,10 +27,10 @@ same-length c = search needs
 
 returns : tie.Need-returns
 returns c =
-    let at-push2 = c .before .before in
-    let at-push = at-push2 .before .before .before .before in
-    let at-put = at-push .before .before .before .before in
-    let start = at-put .before .before .before in
+    let at-push2 : tie.After-push2 = search in
+    let at-push : tie.After-push = search in
+    let at-put : tie.After-put = search in
+    let start : tie.Start = search in
     deleted (start .args .i) (start .args .x) (start .args .v) _ _ _ _ (at-put .put .ensures)
     (at-push .push .ensures) (at-push2 .push2 .ensures)
 

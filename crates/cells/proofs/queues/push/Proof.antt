@@ -12,7 +12,7 @@ get-requires c κs = may-get _ _ _ refl _ (omega arith)
 
 put-requires : tie.Need-put-requires
 put-requires c κs =
-    let start = c .before .before .before .before .before in
+    let start : tie.Start = search in
     may-put _ _ _ (start .pre .known) _ _ (omega arith)
 
 add-put : tie.Need-add-put
@@ -26,11 +26,11 @@ same-length c = search needs
 
 returns : tie.Need-returns
 returns c =
-    let at-put2 = c .before .before in
-    let at-put = at-put2 .before .before .before .before in
-    let at-if1 = at-put .before .before in
-    let at-get = at-if1 .before in
-    let start = at-get .before .before .before in
+    let at-put2 : tie.After-put2 = search in
+    let at-put : tie.After-put = search in
+    let at-if1 : tie.Then1 = search in
+    let at-get : tie.After-get = search in
+    let start : tie.Start = search in
     pushed (start .args .g .id) (start .args .col) (start .args .i) (start .args .c) _ _
     (at-get .get .ensures .0) _ _ (at-if1 .if1 .taken) (at-put .put .ensures) (at-put2 .put2 .ensures)
 
@@ -40,7 +40,7 @@ same-length-2 c = search needs
 returns-2 : tie.Need-returns-2
 returns-2 c =
     let at-get = c .before in
-    let start = at-get .before .before .before in
+    let start : tie.Start = search in
     unpushed (start .args .g .id) (start .args .col) (start .args .i) (start .args .c) _ _
     (at-get .get .ensures .0) (c .if1 .left)
 

@@ -14,9 +14,9 @@ use Rattle.engine.proofs.run.advance.Tie as tie
 
 control-requires : tie.Need-control-requires
 control-requires c κs =
-    let t = c .before in
-    let s = t .before .before .before in
-    (s .pre .0, s .pre .1, rw (sym (t .if1 .taken)) (s .pre .2))
+    let by-controller = c .before in
+    let start : tie.Start = search in
+    (start .pre .0, start .pre .1, rw (sym (by-controller .if1 .taken)) (start .pre .2))
 
 same-length : tie.Need-same-length
 same-length c = search needs
@@ -29,35 +29,35 @@ returns c =
 
 work-turn-requires : tie.Need-work-turn-requires
 work-turn-requires c κs =
-    let e = c .before .before in
-    let s = e .before .before .before in (
-      running-by (now (s .args .b)) (now (s .args .cells)) (s .args .g) (s .pre .0),
-      s .pre .1,
-      omega (arith, e .if1 .left),
-      s .pre .2,
+    let by-worker : tie.Else1 = search in
+    let start : tie.Start = search in (
+      running-by (now (start .args .b)) (now (start .args .cells)) (start .args .g) (start .pre .0),
+      start .pre .1,
+      omega (arith, by-worker .if1 .left),
+      start .pre .2,
     )
 
 add-t14 : tie.Need-add-t14
 add-t14 c =
-    let w = c .before .before .before in
-    let s = w .before .before .before .before .before .before in
-    let room = going-small (now (s .args .b)) (now (s .args .cells)) (s .args .g) (s .pre .0) in
-    omega (arith, room .0, w .work-turn .ensures .1)
+    let worked : tie.After-work-turn = search in
+    let start : tie.Start = search in
+    let room = going-small (now (start .args .b)) (now (start .args .cells)) (start .args .g) (start .pre .0) in
+    omega (arith, room .0, worked .work-turn .ensures .1)
 
 if-action-requires : tie.Need-if-action-requires
 if-action-requires c κs = search needs
 
 add-t16 : tie.Need-add-t16
 add-t16 c =
-    let i = c .before in
-    let w = i .before .before .before .before in
-    let s = w .before .before .before .before .before .before in
-    let room = going-small (now (s .args .b)) (now (s .args .cells)) (s .args .g) (s .pre .0) in
+    let counted = c .before in
+    let worked : tie.After-work-turn = search in
+    let start : tie.Start = search in
+    let room = going-small (now (start .args .b)) (now (start .args .cells)) (start .args .g) (start .pre .0) in
     omega (
       arith,
       room .1,
-      w .work-turn .ensures .1,
-      part-of (eqb (s .args .action) sendAction) (w .work-turn .result) (i .if-action .result) (i .if-action .ensures),
+      worked .work-turn .ensures .1,
+      part-of (eqb (start .args .action) sendAction) (worked .work-turn .result) (counted .if-action .result) (counted .if-action .ensures),
     )
 
 same-length-2 : tie.Need-same-length-2
@@ -65,15 +65,16 @@ same-length-2 c = search needs
 
 returns-2 : tie.Need-returns-2
 returns-2 c =
-    let i = c .before in
-    let w = i .before .before .before .before in
-    let a = w .before .before .before .before .before .before .args in
-    worked-plays (now (a .b)) _ _ _ _ _ (a .g) _ (w .work-turn .ensures .0)
+    let counted = c .before in
+    let worked : tie.After-work-turn = search in
+    let start : tie.Start = search in
+    let a = start .args in
+    worked-plays (now (a .b)) _ _ _ _ _ (a .g) _ (worked .work-turn .ensures .0)
     (record {
       before = refl;
       after = refl;
       changes = refl;
-      sends = ap (λ (n : ℕ). a .g .sends + n) (i .if-action .ensures);
+      sends = ap (λ (n : ℕ). a .g .sends + n) (counted .if-action .ensures);
       polls = refl;
     })
 

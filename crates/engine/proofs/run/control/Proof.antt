@@ -14,30 +14,31 @@ use Rattle.engine.proofs.run.control.Tie as tie
 
 control-turn-requires : tie.Need-control-turn-requires
 control-turn-requires c κs =
-    let s = c .before .before .before .before in
-    (playable (now (s .args .b)) (now (s .args .cells)) (s .args .g) (s .pre .0), s .pre .1, s .pre .2)
+    let start : tie.Start = search in
+    (playable (now (start .args .b)) (now (start .args .cells)) (start .args .g) (start .pre .0), start .pre .1, start .pre .2)
 
 add-t12 : tie.Need-add-t12
 add-t12 c =
-    let h = c .before .before .before .before in
-    let s = h .before .before .before .before .before in
-    let room = going-small (now (s .args .b)) (now (s .args .cells)) (s .args .g) (s .pre .0) in
-    omega (arith, room .0, acts-few (h .control-turn .ensures))
+    let played : tie.After-control-turn = search in
+    let start : tie.Start = search in
+    let room = going-small (now (start .args .b)) (now (start .args .cells)) (start .args .g) (start .pre .0) in
+    omega (arith, room .0, acts-few (played .control-turn .ensures))
 
 if-action-requires : tie.Need-if-action-requires
 if-action-requires c κs = search needs
 
 add-t14 : tie.Need-add-t14
 add-t14 c =
-    let i = c .before in
-    let h = i .before .before .before .before .before in
-    let s = h .before .before .before .before .before in
-    let room = going-small (now (s .args .b)) (now (s .args .cells)) (s .args .g) (s .pre .0) in
+    let counted = c .before in
+    let played : tie.After-control-turn = search in
+    let start : tie.Start = search in
+    let room = going-small (now (start .args .b)) (now (start .args .cells)) (start .args .g) (start .pre .0) in
     omega (
       arith,
       room .2,
-      acts-few (h .control-turn .ensures),
-      part-of (eqb (s .args .d) pollAction) (h .control-turn .result .changed) (i .if-action .result) (i .if-action .ensures),
+      acts-few (played .control-turn .ensures),
+      part-of (eqb (start .args .d) pollAction) (played .control-turn .result .changed) (counted .if-action .result)
+          (counted .if-action .ensures),
     )
 
 same-length : tie.Need-same-length
@@ -45,12 +46,13 @@ same-length c = search needs
 
 returns : tie.Need-returns
 returns c =
-    let i = c .before in
-    let h = i .before .before .before .before .before in
-    let s = h .before .before .before .before .before in
-    let a = s .args in
-    advanced (now (a .b)) (now (a .cells)) (h .control-turn .last .1 .0) (a .g) _ 0 (a .d) (h .control-turn .result .changed) (s .pre .0 .sound)
-    (h .control-turn .ensures) refl (omega arith) (ap (λ (n : ℕ). a .g .polls + n) (i .if-action .ensures))
+    let counted = c .before in
+    let played : tie.After-control-turn = search in
+    let start : tie.Start = search in
+    let a = start .args in
+    let p = played .control-turn in
+    advanced (now (a .b)) (now (a .cells)) (p .last .1 .0) (a .g) _ 0 (a .d) (p .result .changed) (start .pre .0 .sound)
+    (p .ensures) refl (omega arith) (ap (λ (n : ℕ). a .g .polls + n) (counted .if-action .ensures))
 
 pub control-spec : {M : Type 1} → statement M
 control-spec =

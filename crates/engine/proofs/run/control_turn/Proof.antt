@@ -32,33 +32,33 @@ same-length c = search needs
 
 returns-2 : tie.Need-returns-2
 returns-2 c =
-    let q = c .before .before in
-    let t = q .before .before in
-    let s = t .before .before .before .before in
-    acts-as (turn-polls _ _ _ _ (t .before .if1 .left) (allowed-at s) refl (t .if2 .taken)) (q .poll .ensures)
+    let polled : tie.After-poll = search in
+    let poll-asked : tie.Then2 = search in
+    let start : tie.Start = search in
+    acts-as (turn-polls _ _ _ _ (poll-asked .before .if1 .left) (allowed-at start) refl (poll-asked .if2 .taken)) (polled .poll .ensures)
 
 sub-heard : tie.Need-sub-heard
 sub-heard c =
-    let s = c .before .before .before .before .before in
-    omega (arith, read-numbers (s .args .p) 0 (s .args .d) (few-at s) (s .pre .2) refl (c .before .if2 .left))
+    let start : tie.Start = search in
+    omega (arith, read-numbers (start .args .p) 0 (start .args .d) (few-at start) (start .pre .2) refl (c .before .if2 .left))
 
 heard-requires : tie.Need-heard-requires
 heard-requires c κs =
-    let s = c .before .before .before .before .before in
-    let h = read-numbers (s .args .p) 0 (s .args .d) (few-at s) (s .pre .2) refl (c .before .if2 .left) in
-    (s .pre .0 .ready .long, s .pre .0 .marks, omega (arith, few-at s), few-at s)
+    let start : tie.Start = search in
+    let h = read-numbers (start .args .p) 0 (start .args .d) (few-at start) (start .pre .2) refl (c .before .if2 .left) in
+    (start .pre .0 .ready .long, start .pre .0 .marks, omega (arith, few-at start), few-at start)
 
 same-length-2 : tie.Need-same-length-2
 same-length-2 c = search needs
 
 returns-3 : tie.Need-returns-3
 returns-3 c =
-    let h = c .before .before in
-    let e = h .before .before in
-    let s = e .before .before .before .before in
-    let b = now (s .args .b) in
-    acts-as (turn-hears _ _ _ _ (e .before .if1 .left) (allowed-at s) refl (e .if2 .left))
-    (h .heard .ensures (systemAt b) (workers-are b ∙ sym (s .pre .1)))
+    let heard : tie.After-heard = search in
+    let not-poll : tie.Else2 = search in
+    let start : tie.Start = search in
+    let b = now (start .args .b) in
+    acts-as (turn-hears _ _ _ _ (not-poll .before .if1 .left) (allowed-at start) refl (not-poll .if2 .left))
+    (heard .heard .ensures (systemAt b) (workers-are b ∙ sym (start .pre .1)))
 
 pub control-turn-spec : {M : Type 1} → statement M
 control-turn-spec =

@@ -10,10 +10,10 @@ use Rattle.engine.proofs.run.read_turn.Tie as tie
 
 returns : tie.Need-returns
 returns c =
-    let s = c .before .before .before in
-    let a = s .args in (
-      rw (no-send (a .j) 0 (s .pre .3)) at
-          (worked-closed (now (a .b)) (now (a .cells)) (a .t) (a .k) (a .j) (s .pre .0) (omega (arith, s .pre .2)) (c .if1 .taken)),
+    let start : tie.Start = search in
+    let a = start .args in (
+      rw (no-send (a .j) 0 (start .pre .3)) at
+          (worked-closed (now (a .b)) (now (a .cells)) (a .t) (a .k) (a .j) (start .pre .0) (omega (arith, start .pre .2)) (c .if1 .taken)),
       omega arith,
     )
 
@@ -22,26 +22,27 @@ sub-read c = search needs
 
 read-requires : tie.Need-read-requires
 read-requires c κs =
-    let s = c .before .before .before .before in
-    let a = s .args in
-    let w = may-act (now (a .b)) (now (a .cells)) (a .t) (a .k) (a .j) (s .pre .0) (omega (arith, s .pre .2)) (s .pre .1) (s .pre .4) in
-    (w .0 .ready .long, omega (arith, w .0 .workers, w .1), s .pre .3)
+    let start : tie.Start = search in
+    let a = start .args in
+    let w = may-act (now (a .b)) (now (a .cells)) (a .t) (a .k) (a .j) (start .pre .0) (omega (arith, start .pre .2)) (start .pre .1)
+    (start .pre .4) in
+    (w .0 .ready .long, omega (arith, w .0 .workers, w .1), start .pre .3)
 
 same-length : tie.Need-same-length
 same-length c = search needs
 
 returns-2 : tie.Need-returns-2
 returns-2 c =
-    let w = c .before .before in
-    let e = w .before .before in
-    let s = e .before .before .before in
-    let a = s .args in (
-      rw (no-send (a .j) (w .read .result) (s .pre .3)) at
-          (worked-open (now (a .b)) (now (a .cells)) (a .t) (a .k) (a .j) (s .pre .0) (omega (arith, s .pre .2)) (s .pre .1) (s .pre .4)
-          _ _ (e .if1 .left)
-          (acts-as (worker-reads _ _ _ _ _ (omega (arith, s .pre .3)) (omega (arith, s .pre .3)) (omega (arith, s .pre .3)))
-          (w .read .ensures))),
-      acts-few (w .read .ensures),
+    let read : tie.After-read = search in
+    let not-closed : tie.Else1 = search in
+    let start : tie.Start = search in
+    let a = start .args in (
+      rw (no-send (a .j) (read .read .result) (start .pre .3)) at
+          (worked-open (now (a .b)) (now (a .cells)) (a .t) (a .k) (a .j) (start .pre .0) (omega (arith, start .pre .2)) (start .pre .1) (start .pre .4)
+          _ _ (not-closed .if1 .left)
+          (acts-as (worker-reads _ _ _ _ _ (omega (arith, start .pre .3)) (omega (arith, start .pre .3)) (omega (arith, start .pre .3)))
+          (read .read .ensures))),
+      acts-few (read .read .ensures),
     )
 
 pub read-turn-spec : {M : Type 1} → statement M

@@ -8,15 +8,16 @@ use Rattle.engine.proofs.run.work.Tie as tie
 
 treat-requires : tie.Need-treat-requires
 treat-requires c κs =
-    let s = c .before .before .before .before in
-    (s .pre .0 .ready, omega (arith, s .pre .0 .workers, s .pre .1), s .pre .0 .labels (s .args .i) (s .pre .1))
+    let start : tie.Start = search in
+    (start .pre .0 .ready, omega (arith, start .pre .0 .workers, start .pre .1), start .pre .0 .labels (start .args .i) (start .pre .1))
 
 same-length : tie.Need-same-length
 same-length c = search needs
 
 returns : tie.Need-returns
 returns c =
-    acts-as (worker-treats _ _ _ _ _ (c .before .before .before .before .if1 .taken)) (c .before .before .treat .ensures)
+    let treat-asked : tie.Then1 = search in
+    acts-as (worker-treats _ _ _ _ _ (treat-asked .if1 .taken)) (c .before .before .treat .ensures)
 
 send-requires : tie.Need-send-requires
 send-requires c κs = search needs
@@ -26,7 +27,9 @@ same-length-2 c = search needs
 
 returns-2 : tie.Need-returns-2
 returns-2 c =
-    acts-as (worker-sends _ _ _ _ _ (c .before .before .before .before .before .if1 .left) (c .before .before .before .before .if2 .taken))
+    let send-asked : tie.Then2 = search in
+    let not-treat : tie.Else1 = search in
+    acts-as (worker-sends _ _ _ _ _ (not-treat .if1 .left) (send-asked .if2 .taken))
     (c .before .before .send .ensures)
 
 answer-requires : tie.Need-answer-requires
@@ -37,16 +40,19 @@ same-length-3 c = search needs
 
 returns-3 : tie.Need-returns-3
 returns-3 c =
-    acts-as (worker-answers _ _ _ _ _ (c .before .before .before .before .before .before .if1 .left) (c .before .before .before .before .before .if2 .left)
-    (c .before .before .before .before .if3 .taken)) (c .before .before .answer .ensures)
+    let answer-asked : tie.Then3 = search in
+    let not-send : tie.Else2 = search in
+    let not-treat : tie.Else1 = search in
+    acts-as (worker-answers _ _ _ _ _ (not-treat .if1 .left) (not-send .if2 .left)
+    (answer-asked .if3 .taken)) (c .before .before .answer .ensures)
 
 read-requires : tie.Need-read-requires
 read-requires c κs =
-    let e = c .before in
-    let s = e .before .before .before .before .before in (
-      s .pre .0 .ready .long,
-      omega (arith, s .pre .0 .workers, s .pre .1),
-      omega (arith, s .pre .2, e .if3 .left, e .before .if2 .left, e .before .before .if1 .left),
+    let not-answer = c .before in
+    let start : tie.Start = search in (
+      start .pre .0 .ready .long,
+      omega (arith, start .pre .0 .workers, start .pre .1),
+      omega (arith, start .pre .2, not-answer .if3 .left, not-answer .before .if2 .left, not-answer .before .before .if1 .left),
     )
 
 same-length-4 : tie.Need-same-length-4

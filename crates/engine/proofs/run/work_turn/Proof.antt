@@ -9,31 +9,31 @@ use Rattle.engine.proofs.run.work_turn.Tie as tie
 
 returns : tie.Need-returns
 returns c =
-    let s = c .before .before .before in
-    let a = s .args in
-    (worked-closed (now (a .b)) (now (a .cells)) (a .t) (a .k) (a .d) (s .pre .0) (omega (arith, s .pre .2)) (c .if1 .taken), omega arith)
+    let start : tie.Start = search in
+    let a = start .args in
+    (worked-closed (now (a .b)) (now (a .cells)) (a .t) (a .k) (a .d) (start .pre .0) (omega (arith, start .pre .2)) (c .if1 .taken), omega arith)
 
 sub-work : tie.Need-sub-work
 sub-work c = search needs
 
 work-requires : tie.Need-work-requires
 work-requires c κs =
-    let s = c .before .before .before .before in
-    let a = s .args in
-    may-act (now (a .b)) (now (a .cells)) (a .t) (a .k) (a .d) (s .pre .0) (omega (arith, s .pre .2)) (s .pre .1) (s .pre .3)
+    let start : tie.Start = search in
+    let a = start .args in
+    may-act (now (a .b)) (now (a .cells)) (a .t) (a .k) (a .d) (start .pre .0) (omega (arith, start .pre .2)) (start .pre .1) (start .pre .3)
 
 same-length : tie.Need-same-length
 same-length c = search needs
 
 returns-2 : tie.Need-returns-2
 returns-2 c =
-    let w = c .before .before in
-    let e = w .before .before in
-    let s = e .before .before .before in
-    let a = s .args in (
-      worked-open (now (a .b)) (now (a .cells)) (a .t) (a .k) (a .d) (s .pre .0) (omega (arith, s .pre .2)) (s .pre .1) (s .pre .3)
-          _ _ (e .if1 .left) (w .work .ensures),
-      acts-few (w .work .ensures),
+    let worked : tie.After-work = search in
+    let not-closed : tie.Else1 = search in
+    let start : tie.Start = search in
+    let a = start .args in (
+      worked-open (now (a .b)) (now (a .cells)) (a .t) (a .k) (a .d) (start .pre .0) (omega (arith, start .pre .2)) (start .pre .1) (start .pre .3)
+          _ _ (not-closed .if1 .left) (worked .work .ensures),
+      acts-few (worked .work .ensures),
     )
 
 pub work-turn-spec : {M : Type 1} → statement M

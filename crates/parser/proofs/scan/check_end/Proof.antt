@@ -16,8 +16,8 @@ declined-requires c κs = search needs
 returns : tie.Need-returns
 unfolding checkOf trailingFault
 returns c =
-    let s = c .before .before .before in
-    rw (← s .pre .1, lt-ltb (s .args .at) (length (s .args .b .now)) (c .before .if1 .taken)) (c .declined .ensures)
+    let start : tie.Start = search in
+    rw (← start .pre .1, lt-ltb (start .args .at) (length (start .args .b .now)) (c .before .if1 .taken)) (c .declined .ensures)
 
 worker-count-requires : tie.Need-worker-count-requires
 worker-count-requires c κs = search needs
@@ -34,10 +34,10 @@ count-labels-requires c κs = search needs
 returns-2 : tie.Need-returns-2
 unfolding checkOf trailingFault
 returns-2 c =
-    let e = c .before .before .before .before in
-    let s = e .before .before in
-    let b = s .args .b .now in
-    rw (← s .pre .1, le-ltb (s .args .at) (length b) (e .if1 .left))
+    let ended : tie.Else1 = search in
+    let start : tie.Start = search in
+    let b = start .args .b .now in
+    rw (← start .pre .1, le-ltb (start .args .at) (length b) (ended .if1 .left))
     (ap Accepted
     (counts-built b _ (c .before .before .before .worker-count .ensures .0)
     (c .before .before .variable-count .ensures .0) (c .before .constraint-count .ensures .0) (c .count-labels .ensures)))

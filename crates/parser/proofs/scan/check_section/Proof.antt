@@ -13,8 +13,8 @@ check-head-requires c κs = search needs
 returns : tie.Need-returns
 unfolding sectionChecks
 returns c =
-    let s = c .before .before .before in
-    rw (eq-eqb (s .args .k) 0 (c .before .if1 .taken), ← s .pre .1) (c .check-head .ensures)
+    let start : tie.Start = search in
+    rw (eq-eqb (start .args .k) 0 (c .before .if1 .taken), ← start .pre .1) (c .check-head .ensures)
 
 variable-count-requires : tie.Need-variable-count-requires
 variable-count-requires c κs = search needs
@@ -25,33 +25,34 @@ check-variable-requires c κs = search needs
 returns-2 : tie.Need-returns-2
 unfolding sectionChecks
 returns-2 c =
-    let t = c .before in
-    let s = t .before .before .before .before in
+    let of-variable = c .before in
+    let start : tie.Start = search in
     rw (
-      ne-eqb (s .args .k) 0 (t .before .before .if1 .left),
-      ← t .before .variable-count .ensures .0,
-      le-leb (s .args .k) _ (t .if2 .taken),
-      ← s .pre .1,
+      ne-eqb (start .args .k) 0 (of-variable .before .before .if1 .left),
+      ← of-variable .before .variable-count .ensures .0,
+      le-leb (start .args .k) _ (of-variable .if2 .taken),
+      ← start .pre .1,
     )
     (c .check-variable .ensures)
 
 check-constraint-requires : tie.Need-check-constraint-requires
 check-constraint-requires c κs =
-    let s = c .before .before .before .before in (
-      variables-known (s .args .b .now) (s .args .starts .now) (s .args .k) (s .pre .0) (s .pre .3) (omega (arith, c .before .variable-count .ensures .0)),
-      s .pre .2,
+    let start : tie.Start = search in
+    let a = start .args in (
+      variables-known (a .b .now) (a .starts .now) (a .k) (start .pre .0) (start .pre .3) (omega (arith, c .before .variable-count .ensures .0)),
+      start .pre .2,
     )
 
 returns-3 : tie.Need-returns-3
 unfolding sectionChecks
 returns-3 c =
-    let t = c .before in
-    let s = t .before .before .before .before in
+    let of-constraint = c .before in
+    let start : tie.Start = search in
     rw (
-      ne-eqb (s .args .k) 0 (t .before .before .if1 .left),
-      ← t .before .variable-count .ensures .0,
-      lt-leb (s .args .k) _ (t .if2 .left),
-      ← s .pre .1,
+      ne-eqb (start .args .k) 0 (of-constraint .before .before .if1 .left),
+      ← of-constraint .before .variable-count .ensures .0,
+      lt-leb (start .args .k) _ (of-constraint .if2 .left),
+      ← start .pre .1,
     )
     (c .check-constraint .ensures)
 

@@ -41,8 +41,9 @@ loop-holds c =
 
 check-section-requires : tie.Need-check-section-requires Inv-loop μ-loop
 check-section-requires c κs =
-    let l = c .before .before in
-    (l .loop .inv .0, l .loop .inv .2, l .loop .inv .3, l .before .before .before .before .pre)
+    let at-loop : tie.At-loop Inv-loop μ-loop = search in
+    let start : tie.Start Inv-loop μ-loop = search in
+    (at-loop .loop .inv .0, at-loop .loop .inv .2, at-loop .loop .inv .3, start .pre)
 
 enum-known-verdict : tie.Need-enum-known-verdict Inv-loop μ-loop
 enum-known-verdict c = search needs
@@ -52,12 +53,17 @@ declined-requires c κs = search needs
 
 returns : tie.Need-returns Inv-loop μ-loop
 returns c =
-    let v = c .before .before in
-    let l = v .before .before .before .before .before in
-    let b = l .before .before .before .before .args .b .now in
-    let fails = verdict-fails (firstFault (sectionChecks b (l .loop .k))) (v .before .before .check-section .result) _ (v .before .before .check-section .ensures)
-    (v .verdict .given .1) in
-    c .declined .ensures ∙ fault-answer b (l .loop .starts) (l .loop .k) (l .loop .inv .0) _ (l .loop .at) _ (l .before .before .section-count .ensures .0) (omega arith) (l .loop .inv .2) fails
+    let fault-told : tie.After-verdict Inv-loop μ-loop = search in
+    let checked : tie.After-check-section Inv-loop μ-loop = search in
+    let at-loop : tie.At-loop Inv-loop μ-loop = search in
+    let start : tie.Start Inv-loop μ-loop = search in
+    let l = at-loop .loop in
+    let b = start .args .b .now in
+    let fails = verdict-fails (firstFault (sectionChecks b (l .k))) (checked .check-section .result) _ (checked .check-section .ensures)
+    (fault-told .verdict .given .1) in
+    c .declined .ensures
+    ∙ fault-answer b (l .starts) (l .k) (l .inv .0) _ (l .at) _ (at-loop .before .before .section-count .ensures .0) (omega arith)
+    (l .inv .2) fails
 
 enum-told : tie.Need-enum-told Inv-loop μ-loop
 enum-told c = search needs
@@ -76,34 +82,41 @@ loop-less c = omega arith
 
 loop-again : tie.Need-loop-again Inv-loop μ-loop
 loop-again c =
-    let e = c .before .before .before in
-    let l = e .before .before .before .before .before in
-    let b = l .before .before .before .before .args .b .now in
-    let passes = verdict-passes (firstFault (sectionChecks b (l .loop .k))) (e .before .before .check-section .result) (e .before .before .check-section .ensures)
-    (e .enum-told .given .1) in
-    let more = passed-more b (l .loop .starts) (l .loop .k) (l .loop .inv .0) (l .loop .at) (l .loop .inv .1) (l .loop .inv .2) passes in
-    let next = next-start b (l .loop .k) (l .loop .at) (c .behind .result) (l .loop .inv .2) (c .behind .ensures) in (
+    let pass-told : tie.After-enum-told Inv-loop μ-loop = search in
+    let checked : tie.After-check-section Inv-loop μ-loop = search in
+    let at-loop : tie.At-loop Inv-loop μ-loop = search in
+    let start : tie.Start Inv-loop μ-loop = search in
+    let l = at-loop .loop in
+    let b = start .args .b .now in
+    let passes = verdict-passes (firstFault (sectionChecks b (l .k))) (checked .check-section .result) (checked .check-section .ensures)
+    (pass-told .enum-told .given .1) in
+    let more = passed-more b (l .starts) (l .k) (l .inv .0) (l .at) (l .inv .1) (l .inv .2) passes in
+    let next = next-start b (l .k) (l .at) (c .behind .result) (l .inv .2) (c .behind .ensures) in (
       rw (c .before .keep-start .ensures) more,
-      rw (c .before .keep-start .ensures, length-set) (l .loop .inv .1),
+      rw (c .before .keep-start .ensures, length-set) (l .inv .1),
       next,
-      rw next (next-within b _ (l .loop .k + 1) more (l .before .before .before .before .pre)),
+      rw next (next-within b _ (l .k + 1) more (start .pre)),
       omega arith,
     )
 
 check-end-requires : tie.Need-check-end-requires Inv-loop μ-loop
 unfolding planEnd
 check-end-requires c κs =
-    let l = c .before .before in
-    let b = l .before .before .before .before .args .b .now in (
-      variables-known b (l .loop .starts) (l .loop .k) (l .loop .inv .0) (l .before .before .before .before .pre) (omega (arith, l .before .before .section-count .ensures .0)),
-      l .loop .inv .2 ∙ ap (sectionStart b) (ended l (c .before .loop-test .left)),
+    let at-loop : tie.At-loop Inv-loop μ-loop = search in
+    let start : tie.Start Inv-loop μ-loop = search in
+    let l = at-loop .loop in
+    let b = start .args .b .now in (
+      variables-known b (l .starts) (l .k) (l .inv .0) (start .pre) (omega (arith, at-loop .before .before .section-count .ensures .0)),
+      l .inv .2 ∙ ap (sectionStart b) (ended at-loop (c .before .loop-test .left)),
     )
 
 returns-2 : tie.Need-returns-2 Inv-loop μ-loop
 returns-2 c =
-    let l = c .before .before .before in
-    let b = l .before .before .before .before .args .b .now in
-    c .check-end .ensures ∙ end-answer b (l .loop .starts) (l .loop .k) (l .loop .inv .0) (ended l (c .before .before .loop-test .left))
+    let at-loop : tie.At-loop Inv-loop μ-loop = search in
+    let start : tie.Start Inv-loop μ-loop = search in
+    let l = at-loop .loop in
+    c .check-end .ensures
+    ∙ end-answer (start .args .b .now) (l .starts) (l .k) (l .inv .0) (ended at-loop (c .before .before .loop-test .left))
 
 pub check-sections-spec : {M : Type 1} → statement M
 check-sections-spec =

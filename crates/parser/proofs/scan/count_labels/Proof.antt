@@ -29,7 +29,9 @@ add-numbered-size : tie.Need-add-numbered-size Inv-loop μ-loop
 add-numbered-size c = omega arith
 
 numbered-size-requires : tie.Need-numbered-size-requires Inv-loop μ-loop
-numbered-size-requires c κs = (c .before .before .before .before .pre, omega arith, omega arith)
+numbered-size-requires c κs =
+    let start : tie.Start Inv-loop μ-loop = search in
+    (start .pre, omega arith, omega arith)
 
 add-labels : tie.Need-add-labels Inv-loop μ-loop
 add-labels c = omega arith

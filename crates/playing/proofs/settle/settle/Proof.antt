@@ -13,9 +13,15 @@ use Rattle.playing.proofs.settle.settle.Tie as tie
 use Rattle.disac4.specs.System.{systemAt}
 use Rattle.disac4.specs.Turn.{treatAction, sendAction, answerAction}
 
--- the arguments, from the third note on
+-- back from the third note to the second, from there to the first, and to the arguments
+abbrev second : tie.After-note3 → tie.After-note2
+second c = c .before .before .before
+
+abbrev first : tie.After-note3 → tie.After-note
+first c = second c .before .before .before
+
 abbrev start : tie.After-note3 → tie.Start
-start c = c .before .before .before .before .before .before .before .before .before .before
+start c = first c .before .before .before .before
 
 -- the worker is not the controller
 works : (c : tie.After-note3) → start c .args .k ≡ 0 → ⊥
@@ -52,17 +58,15 @@ note-requires-4 c κs = search needs
 own-noted : (c : tie.After-note3) (b : List ℕ) → let a = start c .args in
     KnownIdle b (now (a .cells)) (a .t) (now (a .table)) → KnownIdle b (now (a .cells)) (a .t) (c .note3 .last .0)
 own-noted c b known =
-    let second = c .before .before .before in
-    let first = second .before .before .before in
     let a = start c .args in
     let rests = work-idle b (now (a .cells)) (a .t) (a .k) in
     noted _ (a .k) answerAction
     (λ e. rests answerAction (works c) (worker-answers _ _ _ _ _ (λ p. omega arith) (λ p. omega arith) refl ∙ c .before .no-answer .ensures e))
     (c .note3 .ensures)
-    (noted _ (a .k) sendAction (λ e. rests sendAction (works c) (worker-sends _ _ _ _ _ (λ p. omega arith) refl ∙ second .before .all-sent .ensures e))
-    (second .note2 .ensures)
-    (noted _ (a .k) treatAction (λ e. rests treatAction (works c) (worker-treats _ _ _ _ _ refl ∙ first .before .no-work .ensures (systemAt b) e))
-    (first .note .ensures) known))
+    (noted _ (a .k) sendAction (λ e. rests sendAction (works c) (worker-sends _ _ _ _ _ (λ p. omega arith) refl ∙ second c .before .all-sent .ensures e))
+    (second c .note2 .ensures)
+    (noted _ (a .k) treatAction (λ e. rests treatAction (works c) (worker-treats _ _ _ _ _ refl ∙ first c .before .no-work .ensures (systemAt b) e))
+    (first c .note .ensures) known))
 
 returns : tie.Need-returns
 returns c b known =

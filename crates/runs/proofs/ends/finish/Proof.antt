@@ -8,13 +8,13 @@ use Rattle.runs.proofs.ends.finish.Tie as tie
 
 write-lists-requires : tie.Need-write-lists-requires
 write-lists-requires c κs =
-    let s = c .before .before .before .before .before in
-    (going-ready (now (s .args .b)) (now (s .args .cells)) (s .args .g) (s .pre .0), s .pre .1)
+    let start : tie.Start = search in
+    (going-ready (now (start .args .b)) (now (start .args .cells)) (start .args .g) (start .pre .0), start .pre .1)
 
 report-requires : tie.Need-report-requires
 report-requires c κs =
-    let s = c .before .before .before .before .before .before .before .before .before in
-    going-ready (now (s .args .b)) (now (s .args .cells)) (s .args .g) (s .pre .0)
+    let start : tie.Start = search in
+    going-ready (now (start .args .b)) (now (start .args .cells)) (start .args .g) (start .pre .0)
 
 clear-requires : tie.Need-clear-requires
 clear-requires c κs = search needs
@@ -27,10 +27,12 @@ same-length-2 c = search needs
 
 returns : tie.Need-returns
 returns c =
-    let s = c .before .before .before .before .before .before .before .before .before .before .before .before .before .before in
-    let a = s .args in
-    finishes (now (a .b)) (now (a .cells)) (now (a .lists)) (a .g) _ _ _ (s .pre .0 .sound) (c .before .before .clear .ensures)
-    (c .before .before .before .before .report .ensures) (c .before .before .before .before .before .before .before .before .write-lists .ensures (a .g .tally))
+    let reported : tie.After-report = search in
+    let written : tie.After-write-lists = search in
+    let start : tie.Start = search in
+    let a = start .args in
+    finishes (now (a .b)) (now (a .cells)) (now (a .lists)) (a .g) _ _ _ (start .pre .0 .sound) (c .before .before .clear .ensures)
+    (reported .report .ensures) (written .write-lists .ensures (a .g .tally))
 
 pub finish-spec : {M : Type 1} → statement M
 finish-spec =

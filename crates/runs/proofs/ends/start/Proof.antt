@@ -14,11 +14,13 @@ index-plan-requires c κs = search needs
 
 load-plan-requires : tie.Need-load-plan-requires
 load-plan-requires c κs =
-    let a = c .before .before .before .before .before .before .before .before .before .before .before in
-    let cleared = c .before .before .before .before .before .before .before .clear in
-    let indexed = c .before .before .before .index-plan in
-    start-ready (now (a .args .b)) (now (a .args .cells)) (cleared .last .0) (indexed .last .1 .0) (a .pre .0)
-    (cleared .ensures) (indexed .ensures) (omega (arith, a .pre .1, cleared .kept .0, indexed .kept .1 .0))
+    let indexed : tie.After-index-plan = search in
+    let cleared : tie.After-clear = search in
+    let start : tie.Start = search in
+    let i = indexed .index-plan in
+    let k = cleared .clear in
+    start-ready (now (start .args .b)) (now (start .args .cells)) (k .last .0) (i .last .1 .0) (start .pre .0) (k .ensures) (i .ensures)
+    (omega (arith, start .pre .1, k .kept .0, i .kept .1 .0))
 
 fresh-requires : tie.Need-fresh-requires
 fresh-requires c κs = search needs
@@ -28,12 +30,15 @@ same-length c = search needs
 
 returns : tie.Need-returns
 returns c =
-    let a = c .before .before .before .before .before .before .before .before .before .before .before .before .before .before .before in
-    let cleared = c .before .before .before .before .before .before .before .before .before .before .before .clear in
-    let indexed = c .before .before .before .before .before .before .before .index-plan in
-    start-made (now (a .args .b)) (now (a .args .cells)) (cleared .last .0) (indexed .last .1 .0) (a .pre .0)
-    (cleared .ensures) (indexed .ensures) (c .before .before .before .load-plan .last .1 .0) (c .fresh .result)
-    (c .before .before .before .load-plan .ensures) (c .fresh .ensures)
+    let loaded : tie.After-load-plan = search in
+    let indexed : tie.After-index-plan = search in
+    let cleared : tie.After-clear = search in
+    let start : tie.Start = search in
+    let l = loaded .load-plan in
+    let i = indexed .index-plan in
+    let k = cleared .clear in
+    start-made (now (start .args .b)) (now (start .args .cells)) (k .last .0) (i .last .1 .0) (start .pre .0) (k .ensures) (i .ensures)
+    (l .last .1 .0) (c .fresh .result) (l .ensures) (c .fresh .ensures)
 
 pub start-spec : {M : Type 1} → statement M
 start-spec =

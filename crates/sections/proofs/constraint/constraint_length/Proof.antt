@@ -15,9 +15,9 @@ first-requires c κs = search needs
 
 numbered-size-requires : tie.Need-numbered-size-requires
 numbered-size-requires c κs =
-    let s = c .before .before .before .before in
-    let o = ordered (s .args .b .now) (s .args .at) (s .pre .2) in
-    (s .pre .0, omega (arith, o, c .first .ensures .0), omega (arith, o, c .first .ensures .0))
+    let start : tie.Start = search in
+    let o = ordered (start .args .b .now) (start .args .at) (start .pre .2) in
+    (start .pre .0, omega (arith, o, c .first .ensures .0), omega (arith, o, c .first .ensures .0))
 
 mul-result : tie.Need-mul-result
 mul-result c = search needs

@@ -19,18 +19,18 @@ first-requires c κs = search needs
 
 numbered-size-requires : tie.Need-numbered-size-requires
 numbered-size-requires c κs =
-    let s = c .before .before .before .before in
-    let o = ordered (s .args .b .now) (s .args .at) (s .pre .2) in
-    (s .pre .0, omega (arith, o, c .first .ensures .0), omega (arith, o, c .first .ensures .0))
+    let start : tie.Start = search in
+    let o = ordered (start .args .b .now) (start .args .at) (start .pre .2) in
+    (start .pre .0, omega (arith, o, c .first .ensures .0), omega (arith, o, c .first .ensures .0))
 
 second-requires : tie.Need-second-requires
 second-requires c κs = search needs
 
 numbered-size-requires-2 : tie.Need-numbered-size-requires-2
 numbered-size-requires-2 c κs =
-    let s = c .before .before .before .before .before .before in
-    let o = ordered (s .args .b .now) (s .args .at) (s .pre .2) in
-    (s .pre .0, omega (arith, o, c .second .ensures .0), omega (arith, o, c .second .ensures .0))
+    let start : tie.Start = search in
+    let o = ordered (start .args .b .now) (start .args .at) (start .pre .2) in
+    (start .pre .0, omega (arith, o, c .second .ensures .0), omega (arith, o, c .second .ensures .0))
 
 rows-fit-requires : tie.Need-rows-fit-requires
 rows-fit-requires c κs = search needs
@@ -38,12 +38,12 @@ rows-fit-requires c κs = search needs
 returns-2 : tie.Need-returns-2
 unfolding tableFits
 returns-2 c =
-    let f = c .before .before .before in
+    let first-sized : tie.After-numbered-size = search in
     rw (
-      ← f .before .before .before .kind .ensures .0,
-      eq-eqb _ 0 (f .before .before .if1 .left),
-      ← f .before .first .ensures .0,
-      ← f .numbered-size .ensures .0,
+      ← first-sized .before .before .before .kind .ensures .0,
+      eq-eqb _ 0 (first-sized .before .before .if1 .left),
+      ← first-sized .before .first .ensures .0,
+      ← first-sized .numbered-size .ensures .0,
       ← c .before .before .second .ensures .0,
       ← c .before .numbered-size2 .ensures .0,
     )

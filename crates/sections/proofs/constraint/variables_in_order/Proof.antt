@@ -26,7 +26,15 @@ variable-count-requires c κs = search needs
 returns-3 : tie.Need-returns-3
 unfolding variablesInOrder
 returns-3 c =
-    rw (← c .before .before .before .before .first .ensures .0, ← c .before .before .before .second .ensures .0, ← c .variable-count .ensures .0, le-leb 1 _ (c .before .before .if1 .left), lt-ltb _ _ (c .before .if2 .left))
+    let second-read : tie.After-second = search in
+    let first-read : tie.After-first = search in
+    rw (
+      ← first-read .first .ensures .0,
+      ← second-read .second .ensures .0,
+      ← c .variable-count .ensures .0,
+      le-leb 1 _ (c .before .before .if1 .left),
+      lt-ltb _ _ (c .before .if2 .left),
+    )
 
 pub variables-in-order-spec : {M : Type 1} → statement M
 variables-in-order-spec =

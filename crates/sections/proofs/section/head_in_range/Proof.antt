@@ -24,7 +24,13 @@ between-requires-2 c κs = search needs
 returns-2 : tie.Need-returns-2
 unfolding headInRange
 returns-2 c =
-    rw (← c .before .before .before .before .before .worker-count .ensures .0, holds (c .before .before .before .before .between .ensures) (c .before .before .before .if1 .left), ← c .before .before .variable-count .ensures .0, fails (c .before .between2 .ensures) (c .if2 .taken))
+    let workers-fit : tie.Else1 = search in
+    rw (
+      ← workers-fit .before .before .worker-count .ensures .0,
+      holds (workers-fit .before .between .ensures) (workers-fit .if1 .left),
+      ← c .before .before .variable-count .ensures .0,
+      fails (c .before .between2 .ensures) (c .if2 .taken),
+    )
 
 constraint-count-requires : tie.Need-constraint-count-requires
 constraint-count-requires c κs = search needs
@@ -32,7 +38,15 @@ constraint-count-requires c κs = search needs
 returns-3 : tie.Need-returns-3
 unfolding headInRange
 returns-3 c =
-    rw (← c .before .before .before .before .before .before .worker-count .ensures .0, holds (c .before .before .before .before .before .between .ensures) (c .before .before .before .before .if1 .left), ← c .before .before .before .variable-count .ensures .0, holds (c .before .before .between2 .ensures) (c .before .if2 .left), ← c .constraint-count .ensures .0)
+    let variables-fit = c .before in
+    let workers-fit : tie.Else1 = search in
+    rw (
+      ← workers-fit .before .before .worker-count .ensures .0,
+      holds (workers-fit .before .between .ensures) (workers-fit .if1 .left),
+      ← variables-fit .before .before .variable-count .ensures .0,
+      holds (variables-fit .before .between2 .ensures) (variables-fit .if2 .left),
+      ← c .constraint-count .ensures .0,
+    )
 
 pub head-in-range-spec : {M : Type 1} → statement M
 head-in-range-spec =

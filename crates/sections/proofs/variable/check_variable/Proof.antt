@@ -2,40 +2,47 @@
 use borrow.Author.Needs.{needs}
 use borrow.Author.Tests.{le-leb, lt-leb, eq-eqb, ne-eqb}
 use mathlib.Core.List.{List}
-use mathlib.Core.Path.{_∙_}
 use Rattle.format.specs.Limits.{maxValues}
-use Rattle.faults.proofs.Branches.{holds, fails, Past}
+use Rattle.faults.proofs.Branches.{holds, fails, Stage, begin, next}
 use Rattle.faults.specs.CheckList.{Check}
 use Rattle.plan.specs.Check.{variableChecks}
 use Rattle.sections.proofs.variable.check_variable.Statement.{statement}
 use Rattle.sections.proofs.variable.check_variable.Tie as tie
 
-abbrev checks : tie.Start → List Check
-checks s = variableChecks (s .args .b .now) (s .args .at)
+-- ---- the stages: each test that is passed
 
-past-1 : (c : tie.Else1) → Past 1 (checks (c .before .before .before .before .before))
-unfolding variableChecks
-past-1 c = rw (holds (c .before .complete .ensures) (c .if1 .left))
+-- the checks, from where the two reads are done
+abbrev checks : tie.After-size → List Check
+checks r = let a = r .before .before .before .args in variableChecks (a .b .now) (a .at)
 
-past-2 : (c : tie.Else2) → Past 2 (checks (c .before .before .before .before .before .before))
+abbrev whole : tie.Else1 → Stage checks
 unfolding variableChecks
-past-2 c = past-1 (c .before) ∙ rw (← c .before .before .before .before .word-at .ensures .0, le-leb 2 _ (c .if2 .left))
+whole c = next (begin checks (c .before .before)) (rw (holds (c .before .complete .ensures) (c .if1 .left)))
 
-past-3 : (c : tie.Else3) → Past 3 (checks (c .before .before .before .before .before .before .before))
+abbrev roomy : tie.Else2 → Stage checks
 unfolding variableChecks
-past-3 c = past-2 (c .before) ∙ rw (← c .before .before .before .before .size .ensures .0, le-leb _ maxValues (c .if3 .left))
+roomy c = let s = whole (c .before) in next s (rw (← s .place .before .word-at .ensures .0, le-leb 2 _ (c .if2 .left)))
 
-past-4 : (c : tie.Else4) → Past 4 (checks (c .before .before .before .before .before .before .before .before))
+abbrev counted : tie.Else3 → Stage checks
 unfolding variableChecks
-past-4 c = past-3 (c .before) ∙ rw (← c .before .before .before .before .before .before .word-at .ensures .0, ← c .before .before .before .before .before .size .ensures .0, eq-eqb _ _ (c .if4 .left))
+counted c = let s = roomy (c .before) in next s (rw (← s .place .size .ensures .0, le-leb _ maxValues (c .if3 .left)))
 
-past-5 : (c : tie.Else5) → Past 5 (checks (c .before .before .before .before .before .before .before .before .before .before .before .before))
+abbrev exact : tie.Else4 → Stage checks
 unfolding variableChecks
-past-5 c = past-4 (c .before .before .before .before) ∙ rw (← c .before .before .before .worker-count .ensures .0, ← c .before .before .owner .ensures .0, holds (c .before .between .ensures) (c .if5 .left))
+exact c =
+    let s = counted (c .before) in
+    next s (rw (← s .place .before .word-at .ensures .0, ← s .place .size .ensures .0, eq-eqb _ _ (c .if4 .left)))
 
-past-6 : (c : tie.Else6) → Past 6 (checks (c .before .before .before .before .before .before .before .before .before .before .before .before .before .before))
+abbrev owned : tie.Else5 → Stage checks
 unfolding variableChecks
-past-6 c = past-5 (c .before .before) ∙ rw (← c .before .repeats-code .ensures, c .if6 .left)
+owned c =
+    let b = c .before in
+    next (exact (b .before .before .before))
+    (rw (← b .before .before .worker-count .ensures .0, ← b .before .owner .ensures .0, holds (b .between .ensures) (c .if5 .left)))
+
+abbrev distinct : tie.Else6 → Stage checks
+unfolding variableChecks
+distinct c = next (owned (c .before .before)) (rw (← c .before .repeats-code .ensures, c .if6 .left))
 
 word-at-requires : tie.Need-word-at-requires
 word-at-requires c κs = search needs
@@ -52,11 +59,11 @@ returns c = rw (fails (c .before .complete .ensures) (c .if1 .taken))
 
 returns-2 : tie.Need-returns-2
 unfolding variableChecks
-returns-2 c = rw (past-1 (c .before), ← c .before .before .before .before .word-at .ensures .0, lt-leb 2 _ (c .if2 .taken))
+returns-2 c = let s = whole (c .before) in rw (s .past, ← s .place .before .word-at .ensures .0, lt-leb 2 _ (c .if2 .taken))
 
 returns-3 : tie.Need-returns-3
 unfolding variableChecks
-returns-3 c = rw (past-2 (c .before), ← c .before .before .before .before .size .ensures .0, lt-leb _ maxValues (c .if3 .taken))
+returns-3 c = let s = roomy (c .before) in rw (s .past, ← s .place .size .ensures .0, lt-leb _ maxValues (c .if3 .taken))
 
 mul-if4 : tie.Need-mul-if4
 mul-if4 c = search needs
@@ -66,7 +73,9 @@ add-if4 c = search needs
 
 returns-4 : tie.Need-returns-4
 unfolding variableChecks
-returns-4 c = rw (past-3 (c .before), ← c .before .before .before .before .before .before .word-at .ensures .0, ← c .before .before .before .before .before .size .ensures .0, ne-eqb _ _ (c .if4 .taken))
+returns-4 c =
+    let s = counted (c .before) in
+    rw (s .past, ← s .place .before .word-at .ensures .0, ← s .place .size .ensures .0, ne-eqb _ _ (c .if4 .taken))
 
 worker-count-requires : tie.Need-worker-count-requires
 worker-count-requires c κs = search needs
@@ -79,18 +88,25 @@ between-requires c κs = search needs
 
 returns-5 : tie.Need-returns-5
 unfolding variableChecks
-returns-5 c = rw (past-4 (c .before .before .before .before), ← c .before .before .before .worker-count .ensures .0, ← c .before .before .owner .ensures .0, fails (c .before .between .ensures) (c .if5 .taken))
+returns-5 c =
+    let b = c .before in
+    rw (
+      exact (b .before .before .before) .past,
+      ← b .before .before .worker-count .ensures .0,
+      ← b .before .owner .ensures .0,
+      fails (b .between .ensures) (c .if5 .taken),
+    )
 
 repeats-code-requires : tie.Need-repeats-code-requires
 repeats-code-requires c κs = search needs
 
 returns-6 : tie.Need-returns-6
 unfolding variableChecks
-returns-6 c = rw (past-5 (c .before .before), ← c .before .repeats-code .ensures, c .if6 .taken)
+returns-6 c = rw (owned (c .before .before) .past, ← c .before .repeats-code .ensures, c .if6 .taken)
 
 returns-7 : tie.Need-returns-7
 unfolding variableChecks
-returns-7 c = rw (past-6 c)
+returns-7 c = rw (distinct c .past)
 
 pub check-variable-spec : {M : Type 1} → statement M
 check-variable-spec =

@@ -80,12 +80,13 @@ loop-less c = omega arith
 
 loop-again : tie.Need-loop-again Inv-loop μ-loop Inv-scan μ-scan
 loop-again c =
-    let l = c .before .before .before in
-    let a = l .before .before .before .before .before .before .args in (
-      l .loop .inv .0,
+    let at-loop : tie.At-loop Inv-loop μ-loop Inv-scan μ-scan = search in
+    let start : tie.Start Inv-loop μ-loop Inv-scan μ-scan = search in
+    let a = start .args in (
+      at-loop .loop .inv .0,
       omega arith,
-      same-more (a .b .now) (a .at) (l .loop .u) (l .before .before .before .scan .v) (c .before .code2 .result) (l .before .code .result)
-          (l .loop .inv .2) (c .before .code2 .ensures .0) (l .before .code .ensures .0) (c .if1 .left),
+      same-more (a .b .now) (a .at) (at-loop .loop .u) (at-loop .before .before .before .scan .v) (c .before .code2 .result) (at-loop .before .code .result)
+          (at-loop .loop .inv .2) (c .before .code2 .ensures .0) (at-loop .before .code .ensures .0) (c .if1 .left),
     )
 
 add-v : tie.Need-add-v Inv-loop μ-loop Inv-scan μ-scan
@@ -96,11 +97,11 @@ scan-less c = omega arith
 
 scan-again : tie.Need-scan-again Inv-loop μ-loop Inv-scan μ-scan
 scan-again c =
-    let s = c .before .before .before .before in
-    let a = s .before .before .before .args in (
+    let at-scan : tie.At-scan Inv-loop μ-loop Inv-scan μ-scan = search in
+    let a = at-scan .before .before .before .args in (
       c .before .loop .inv .0,
       omega arith,
-      repeats-more (a .b .now) (a .at) (c .before .loop .u) (s .scan .v) (s .scan .inv .2) (c .before .loop .inv .2) (omega arith),
+      repeats-more (a .b .now) (a .at) (c .before .loop .u) (at-scan .scan .v) (at-scan .scan .inv .2) (c .before .loop .inv .2) (omega arith),
     )
 
 returns : tie.Need-returns Inv-loop μ-loop Inv-scan μ-scan
@@ -112,12 +113,12 @@ returns c =
 
 returns-2 : tie.Need-returns-2 Inv-loop μ-loop Inv-scan μ-scan
 returns-2 c =
-    let l = c .before .before .before in
-    let s = l .before .before .before in
-    let a = s .before .before .before .args in
-    code-repeats (a .b .now) (a .at) (s .before .size .result) true (s .before .size .ensures .0)
-    (repeated (a .b .now) (a .at) (s .before .size .result) (l .loop .u) (s .scan .v) (c .before .code2 .result) (l .before .code .result)
-    (omega arith) (omega arith) (c .before .code2 .ensures .0) (l .before .code .ensures .0) (c .if1 .taken))
+    let at-loop : tie.At-loop Inv-loop μ-loop Inv-scan μ-scan = search in
+    let at-scan : tie.At-scan Inv-loop μ-loop Inv-scan μ-scan = search in
+    let a = at-scan .before .before .before .args in
+    code-repeats (a .b .now) (a .at) (at-scan .before .size .result) true (at-scan .before .size .ensures .0)
+    (repeated (a .b .now) (a .at) (at-scan .before .size .result) (at-loop .loop .u) (at-scan .scan .v) (c .before .code2 .result) (at-loop .before .code .result)
+    (omega arith) (omega arith) (c .before .code2 .ensures .0) (at-loop .before .code .ensures .0) (c .if1 .taken))
 
 pub repeats-code-spec : {M : Type 1} → statement M
 repeats-code-spec =

@@ -30,10 +30,10 @@ same-length c = search needs
 returns : tie.Need-returns
 unfolding declineLine declinedWord
 returns c =
-    let at-push = c .before .before in
-    let at-place = at-push .before .before .before .before in
-    let at-number = at-place .before .before .before .before in
-    let at-word = at-number .before .before .before .before .before in
+    let at-push : tie.After-push = search in
+    let at-place : tie.After-push-spaced2 = search in
+    let at-number : tie.After-push-spaced = search in
+    let at-word : tie.After-push-word = search in
     rw (sym (at-number .before .fault-number .ensures))
     (at-word .push-word .ensures
     then at-number .push-spaced .ensures

@@ -29,12 +29,12 @@ same-length c = search needs
 returns : tie.Need-returns
 unfolding reportLine
 returns c =
-    let at-push = c .before .before in
-    let at-empty = at-push .before .before .before .before in
-    let at-polls = at-empty .before .before .before .before in
-    let at-sends = at-polls .before .before .before .before in
-    let at-changes = at-sends .before .before .before .before in
-    let at-status = at-changes .before .before .before .before in
+    let at-push : tie.After-push = search in
+    let at-empty : tie.After-push-spaced4 = search in
+    let at-polls : tie.After-push-spaced3 = search in
+    let at-sends : tie.After-push-spaced2 = search in
+    let at-changes : tie.After-push-spaced = search in
+    let at-status : tie.After-push-status = search in
     at-status .push-status .ensures
     then at-changes .push-spaced .ensures
     then at-sends .push-spaced2 .ensures

@@ -36,21 +36,27 @@ same-length c = search needs
 
 returns : tie.Need-returns
 unfolding statusWord
-returns c = rw (c .before .before .before .before .before .enum-told .given .1) (c .before .before .push-word .ensures)
+returns c =
+    let told : tie.After-enum-told = search in
+    rw (told .enum-told .given .1) (c .before .before .push-word .ensures)
 
 same-length-2 : tie.Need-same-length-2
 same-length-2 c = search needs
 
 returns-2 : tie.Need-returns-2
 unfolding statusWord
-returns-2 c = rw (c .before .before .before .before .before .enum-told2 .given .1) (c .before .before .push-word2 .ensures)
+returns-2 c =
+    let told : tie.After-enum-told2 = search in
+    rw (told .enum-told2 .given .1) (c .before .before .push-word2 .ensures)
 
 same-length-3 : tie.Need-same-length-3
 same-length-3 c = search needs
 
 returns-3 : tie.Need-returns-3
 unfolding statusWord
-returns-3 c = rw (c .before .before .before .before .before .enum-told3 .given .1) (c .before .before .push-word3 .ensures)
+returns-3 c =
+    let told : tie.After-enum-told3 = search in
+    rw (told .enum-told3 .given .1) (c .before .before .push-word3 .ensures)
 
 pub push-status-spec : {M : Type 1} → statement M
 push-status-spec =

@@ -17,7 +17,9 @@ same-length-2 : tie.Need-same-length-2
 same-length-2 c = search needs
 
 returns : tie.Need-returns
-returns c = as-numbers _ _ _ _ (c .answer-numbers .ensures) (c .before .before .before .before .before .run-round .ensures)
+returns c =
+    let ran : tie.After-run-round = search in
+    as-numbers _ _ _ _ (c .answer-numbers .ensures) (ran .run-round .ensures)
 
 pub tinshrew-run-round-spec : {M : Type 1} → statement M
 tinshrew-run-round-spec =

@@ -17,7 +17,9 @@ same-length-2 : tie.Need-same-length-2
 same-length-2 c = search needs
 
 returns : tie.Need-returns
-returns c = as-numbers _ _ _ _ (c .answer-numbers .ensures) (c .before .before .before .before .before .run-turns .ensures)
+returns c =
+    let ran : tie.After-run-turns = search in
+    as-numbers _ _ _ _ (c .answer-numbers .ensures) (ran .run-turns .ensures)
 
 pub tinshrew-run-turns-spec : {M : Type 1} → statement M
 tinshrew-run-turns-spec =
