@@ -18,20 +18,20 @@ use Rattle.cells.specs.Layout.{WANTED, WORKERS, OUT, OUTEND, OUTREAD, OUTROOM, 
 use Rattle.cells.specs.Memory.{Mem, memOf, store}
 use Rattle.cells.specs.View.{LISTMARK}
 use Rattle.controller.proofs.Marks.{mark-small}
-use Rattle.controller.specs.Controller.{askedT, asksT, countedT, withMark, markedT, toldT, hasOut, outReadM, askM, Machine, machine, pollM, hearM}
+use Rattle.controller.specs.Controller.{polledT, mayPollT, countedT, withMark, markedT, toldT, hasOut, outReadM, putPollM, Machine, machine, pollM, controllerReadM}
 
 -- ---- the row of marks
 
-module _ (marks i : ℕ) (small : marks < 256) {held : Bool} (q : held ≡ bit marks i) where
-  pub mark-stays : held ≡ true → (marks ≡ withMark marks i) × (marks < 256)
+module _ (marks i : ℕ) (small : marks < 2 ^ maxWorkers) {held : Bool} (q : held ≡ bit marks i) where
+  pub mark-stays : held ≡ true → (marks ≡ withMark marks i) × (marks < 2 ^ maxWorkers)
   unfolding withMark
   mark-stays h = (rw (← q, h), small)
 
-  pub mark-joins : {r : ℕ} → r ≡ 2 ^ i → i < maxWorkers → held ≡ false → (marks + r ≡ withMark marks i) × (marks + r < 256)
+  pub mark-joins : {r : ℕ} → r ≡ 2 ^ i → i < maxWorkers → held ≡ false → (marks + r ≡ withMark marks i) × (marks + r < 2 ^ maxWorkers)
   unfolding withMark
   mark-joins {r} e l h =
       let joined : marks + r ≡ withMark marks i = rw (← q, h, e) in
-      (joined, omega (arith, joined, mark-small 8 marks small i l))
+      (joined, omega (arith, joined, mark-small maxWorkers marks small i l))
 
 -- ---- the tally
 
@@ -73,19 +73,19 @@ stands cells t s p q i = record { mem = p i; tally = q i }
 -- ---- poll
 
 -- the poll that the tally has open once it is sent: the next number, and the controller's count of lists
-module _ (t : Tally) (u : Tally) (e : u ≡ askedT t) (q : Poll) (f : (q .number ≡ u .timestamp) × (q .wanted ≡ u .lists)) where
+module _ (t : Tally) (u : Tally) (e : u ≡ polledT t) (q : Poll) (f : (q .number ≡ u .timestamp) × (q .wanted ≡ u .lists)) where
   pub next-number : q .number .0 ≡ t .timestamp .0 + 1
-  unfolding askedT
+  unfolding polledT
   next-number = rw (f .0, e)
 
-  pub poll-put : (m m′ : Mem) → m′ ≡ store m WANTED 0 (q .number .0) (q .wanted .0) → m′ ≡ askM t m
-  unfolding askM askedT
+  pub poll-put : (m m′ : Mem) → m′ ≡ store m WANTED 0 (q .number .0) (q .wanted .0) → m′ ≡ putPollM t m
+  unfolding putPollM polledT
   poll-put m m′ p = rw (p, f .0, f .1, e)
 
-module _ (t : Tally) {b : Bool} (q : b ≡ asksT t) where
-  pub asks-room : not b ≡ false → t .timestamp .0 < POLLROOM
-  unfolding asksT
-  asks-room h =
+module _ (t : Tally) {b : Bool} (q : b ≡ mayPollT t) where
+  pub may-poll-room : not b ≡ false → t .timestamp .0 < POLLROOM
+  unfolding mayPollT
+  may-poll-room h =
       ltb-true (t .timestamp .0) POLLROOM
       (and-right (not (t .polling)) (ltb (t .timestamp .0) POLLROOM) (sym q ∙ not-false b h))
 
@@ -95,7 +95,7 @@ module _ (t : Tally) {b : Bool} (q : b ≡ asksT t) where
     poll-idle h = rw (← q, not-true b h)
 
     pub poll-goes : not b ≡ false
-        → pollM (machine cells t) ≡ some (record { mem = askM t (memOf cells); tally = askedT t })
+        → pollM (machine cells t) ≡ some (record { mem = putPollM t (memOf cells); tally = polledT t })
     unfolding pollM
     poll-goes h = rw (← q, not-false b h)
 
@@ -103,8 +103,8 @@ module _ (t : Tally) {b : Bool} (q : b ≡ asksT t) where
 
 module _ (t : Tally) (read end : ℕ) {b : Bool} (q : b ≡ ltb read end && ltb read OUTROOM && ltb (t .lists .0) LISTSMAX) where
   -- where it finds a message, it has room for its place and for the count
-  pub hear-room : not b ≡ false → (read < OUTROOM) × (t .lists .0 < LISTSMAX)
-  hear-room h =
+  pub read-room : not b ≡ false → (read < OUTROOM) × (t .lists .0 < LISTSMAX)
+  read-room h =
       let found = sym q ∙ not-false b h in
       let unread = and-left (ltb read end && ltb read OUTROOM) (ltb (t .lists .0) LISTSMAX) found in (
         ltb-true read OUTROOM (and-right (ltb read end) (ltb read OUTROOM) unread),
@@ -117,12 +117,12 @@ module _ (t : Tally) (read end : ℕ) {b : Bool} (q : b ≡ ltb read end && ltb 
     unfolding hasOut
     finds = rw (← q₁, ← q₂, q)
 
-    pub hear-idle : not b ≡ true → hearM sys i (machine cells t) ≡ none
-    unfolding hearM
-    hear-idle h = rw (finds, not-true b h)
+    pub controller-read-idle : not b ≡ true → controllerReadM sys i (machine cells t) ≡ none
+    unfolding controllerReadM
+    controller-read-idle h = rw (finds, not-true b h)
 
-    pub hear-takes : {p c : ℕ} → not b ≡ false → c ≡ memOf cells OUT i read → sys .workers ≡ p
-        → hearM sys i (machine cells t)
+    pub controller-takes : {p c : ℕ} → not b ≡ false → c ≡ memOf cells OUT i read → sys .workers ≡ p
+        → controllerReadM sys i (machine cells t)
         ≡ some (record { mem = store (memOf cells) WORKERS i OUTREAD (read + 1); tally = toldT p i c t })
-    unfolding hearM outReadM
-    hear-takes h q₃ e = rw (finds, not-false b h, ← q₁, ← q₃, e)
+    unfolding controllerReadM outReadM
+    controller-takes h q₃ e = rw (finds, not-false b h, ← q₁, ← q₃, e)

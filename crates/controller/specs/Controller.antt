@@ -29,8 +29,8 @@ machine cells t = record { mem = memOf cells; tally = t }
 -- ---- Poll
 
 -- the tally after a poll was sent
-unfoldable pub askedT : Tally → Tally
-askedT t = record {
+unfoldable pub polledT : Tally → Tally
+polledT t = record {
   lists = t .lists;
   timestamp = record { 0 = t .timestamp .0 + 1 };
   polling = true;
@@ -39,17 +39,17 @@ askedT t = record {
 }
 
 -- whether a poll is sent
-unfoldable pub asksT : Tally → Bool
-asksT t = not (t .polling) && ltb (t .timestamp .0) POLLROOM
+unfoldable pub mayPollT : Tally → Bool
+mayPollT t = not (t .polling) && ltb (t .timestamp .0) POLLROOM
 
 -- the wanted count of the next poll is put at its number
-unfoldable pub askM : Tally → Mem → Mem
-askM t m = store m WANTED 0 (t .timestamp .0 + 1) (t .lists .0)
+unfoldable pub putPollM : Tally → Mem → Mem
+putPollM t m = store m WANTED 0 (t .timestamp .0 + 1) (t .lists .0)
 
 -- the controller polls
 unfoldable pub pollM : Machine → Option Machine
 pollM s =
-    cond (asksT (s .tally)) (some (record { mem = askM (s .tally) (s .mem); tally = askedT (s .tally) })) none
+    cond (mayPollT (s .tally)) (some (record { mem = putPollM (s .tally) (s .mem); tally = polledT (s .tally) })) none
 
 -- ---- Read, controller
 
@@ -92,8 +92,8 @@ unfoldable pub outReadM : ℕ → Mem → Mem
 outReadM i m = store m WORKERS i OUTREAD (m WORKERS i OUTREAD + 1)
 
 -- the controller reads from row `i`
-unfoldable pub hearM : System → ℕ → Machine → Option Machine
-hearM sys i s =
+unfoldable pub controllerReadM : System → ℕ → Machine → Option Machine
+controllerReadM sys i s =
     cond (hasOut i (s .tally) (s .mem))
     (some (record {
       mem = outReadM i (s .mem);
@@ -102,10 +102,10 @@ hearM sys i s =
     none
 
 -- what the code of that read asks: the needed cells, and a tally, a count of workers and a row of at most eight
-abbrev pub Hearable : List ℕ → Tally → ℕ → ℕ → Type 0
-Hearable cells t p i = (workNeed ≤ length cells) × (t .marks < 256) × (i < maxWorkers) × (p ≤ maxWorkers)
+abbrev pub MayRead : List ℕ → Tally → ℕ → ℕ → Type 0
+MayRead cells t p i = (workNeed ≤ length cells) × (t .marks < 2 ^ maxWorkers) × (i < maxWorkers) × (p ≤ maxWorkers)
 
 -- and what it does to cells and tally, of `p` workers: it gives 1 where something changed
-abbrev pub Heard : List ℕ → Tally → ℕ → ℕ → List ℕ → Tally → ℕ → Type 0
-Heard before t p i after u r =
-    (sys : System) → sys .workers ≡ p → Acts (hearM sys i) (machine before t) (machine after u) r
+abbrev pub HasRead : List ℕ → Tally → ℕ → ℕ → List ℕ → Tally → ℕ → Type 0
+HasRead before t p i after u r =
+    (sys : System) → sys .workers ≡ p → Acts (controllerReadM sys i) (machine before t) (machine after u) r

@@ -18,7 +18,7 @@ use disac4::Tally;
 use disac4::Timestamp;
 ghost use mathlib.Core.Bool.{_&&_};
 ghost use mathlib.Core.Path.{_≡_};
-ghost use Prim.Native.Nat.{_<_, _≤_};
+ghost use Prim.Native.Nat.{_^_, _<_, _≤_};
 ghost use lib.Dec.{ltb, eqb};
 ghost use lib.ListN.{length};
 ghost use Rattle.disac4.specs.Need.{workNeed};
@@ -26,7 +26,7 @@ ghost use Rattle.format.specs.Limits.{maxWorkers};
 ghost use Rattle.cells.specs.Acts.{Acts};
 ghost use Rattle.cells.specs.Layout.{WANTED, OUTROOM, POLLROOM, LISTSMAX};
 ghost use Rattle.cells.specs.Memory.{memOf, store};
-ghost use Rattle.controller.specs.Controller.{askedT, asksT, countedT, withMark, markedT, toldT, machine, pollM, Hearable, Heard};
+ghost use Rattle.controller.specs.Controller.{polledT, mayPollT, countedT, withMark, markedT, toldT, machine, pollM, MayRead, HasRead};
 
 // What an action of the controller gives: 1 where it changed something, and the tally after it.
 pub struct Controlled {
@@ -35,9 +35,9 @@ pub struct Controlled {
 }
 
 // The tally after a poll was sent.
-fn asked(t: Tally) -> Tally
+fn polled(t: Tally) -> Tally
     requires { ⌜ t .timestamp .0 < POLLROOM ⌝ }
-    ensures { λ r. ⌜ r ≡ askedT t ⌝ }
+    ensures { λ r. ⌜ r ≡ polledT t ⌝ }
 {
     let lists = t.lists;
     let at = t.timestamp;
@@ -51,8 +51,8 @@ fn asked(t: Tally) -> Tally
 }
 
 // Whether a poll is sent: none is open, and there is room for its number.
-fn asks(t: Tally) -> bool
-    ensures { λ r. ⌜ r ≡ asksT t ⌝ }
+fn may_poll(t: Tally) -> bool
+    ensures { λ r. ⌜ r ≡ mayPollT t ⌝ }
 {
     let at = t.timestamp;
     let n = at.0 as usize;
@@ -80,8 +80,8 @@ fn counted(t: Tally) -> Tally
 
 // A row of marks with that of row `i`.
 fn with_mark(marks: usize, i: usize) -> usize
-    requires { ⌜ (marks < 256) × (i < maxWorkers) ⌝ }
-    ensures { λ r. ⌜ (r ≡ withMark marks i) × (r < 256) ⌝ }
+    requires { ⌜ (marks < 2 ^ maxWorkers) × (i < maxWorkers) ⌝ }
+    ensures { λ r. ⌜ (r ≡ withMark marks i) × (r < 2 ^ maxWorkers) ⌝ }
 {
     if row_holds(marks, i) {
         marks
@@ -92,7 +92,7 @@ fn with_mark(marks: usize, i: usize) -> usize
 
 // A reply to the open poll marks its worker; with all `p` marked, the plan is closed.
 fn marked(t: Tally, p: usize, i: usize) -> Tally
-    requires { ⌜ (t .marks < 256) × (i < maxWorkers) × (p ≤ maxWorkers) ⌝ }
+    requires { ⌜ (t .marks < 2 ^ maxWorkers) × (i < maxWorkers) × (p ≤ maxWorkers) ⌝ }
     ensures { λ r. ⌜ r ≡ markedT p i t ⌝ }
 {
     let lists = t.lists;
@@ -116,7 +116,7 @@ fn same_number(a: Timestamp, b: Timestamp) -> bool
 
 // The tally after the message `c` from row `i` was read.
 fn told(t: Tally, p: usize, i: usize, c: usize) -> Tally
-    requires { ⌜ (t .lists .0 < LISTSMAX) × (t .marks < 256) × (i < maxWorkers) × (p ≤ maxWorkers) ⌝ }
+    requires { ⌜ (t .lists .0 < LISTSMAX) × (t .marks < 2 ^ maxWorkers) × (i < maxWorkers) × (p ≤ maxWorkers) ⌝ }
     ensures { λ r. ⌜ r ≡ toldT p i c t ⌝ }
 {
     let at = t.timestamp;
@@ -159,13 +159,13 @@ pub fn poll(cells: &mut [u16], t: Tally) -> Controlled
     requires { ⌜ workNeed ≤ length (now cells) ⌝ }
     ensures { λ r. ⌜ Acts pollM (machine (now (cells .entry)) t) (machine (now (cells .exit)) (r .tally)) (r .changed) ⌝ }
 {
-    if !asks(t) {
+    if !may_poll(t) {
         return Controlled {
             changed: 0,
             tally: t,
         };
     }
-    let after = asked(t);
+    let after = polled(t);
     put_poll(cells, open_poll(after));
     Controlled {
         changed: 1,
@@ -184,9 +184,9 @@ fn has_out(read: usize, end: usize, lists: u16) -> bool
 }
 
 // Read: the controller takes the next message of row `i`, of `p` workers.
-pub fn hear(cells: &mut [u16], t: Tally, p: usize, i: usize) -> Controlled
-    requires { ⌜ Hearable (now cells) t p i ⌝ }
-    ensures { λ r. ⌜ Heard (now (cells .entry)) t p i (now (cells .exit)) (r .tally) (r .changed) ⌝ }
+pub fn read_message(cells: &mut [u16], t: Tally, p: usize, i: usize) -> Controlled
+    requires { ⌜ MayRead (now cells) t p i ⌝ }
+    ensures { λ r. ⌜ HasRead (now (cells .entry)) t p i (now (cells .exit)) (r .tally) (r .changed) ⌝ }
 {
     let lists = t.lists;
     let read = get(cells, WORKERS, i, OUTREAD);

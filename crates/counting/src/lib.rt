@@ -46,15 +46,15 @@ fn gather(rows: &mut Rows, row: usize, v: usize)
 
 // The rows of the values of x against y, which shares a constraint with x. On the way the rows of y against x are gathered
 // in `others`: that of a value of y has the values of x whose rows hold it.
-fn support_rows(b: &[u8], cells: &[u16], x: usize, y: usize, others: &mut Rows) -> Rows
-    requires { ⌜ Ready (now b) (now cells) × (shareConstraint (planOf (now b)) x y ≡ true) × FirstRows (λ w. 0) VALUEROOM (now others) ⌝ }
-    ensures { λ r. ⌜ FirstRows (supportRow (networkOf (planOf (now (b .entry)))) x y) (sizeOf (planOf (now (b .entry))) x) r × FirstRows (supportRow (networkOf (planOf (now (b .entry)))) y x) (sizeOf (planOf (now (b .entry))) y) (now (others .exit)) ⌝ }
+fn support_rows(plan: &[u8], cells: &[u16], x: usize, y: usize, others: &mut Rows) -> Rows
+    requires { ⌜ Ready (now plan) (now cells) × (shareConstraint (planOf (now plan)) x y ≡ true) × FirstRows (λ w. 0) VALUEROOM (now others) ⌝ }
+    ensures { λ r. ⌜ FirstRows (supportRow (networkOf (planOf (now (plan .entry)))) x y) (sizeOf (planOf (now (plan .entry))) x) r × FirstRows (supportRow (networkOf (planOf (now (plan .entry)))) y x) (sizeOf (planOf (now (plan .entry))) y) (now (others .exit)) ⌝ }
 {
-    let n = parts::size(b, cells, x);
+    let n = parts::size(plan, cells, x);
     let mut rows = no_rows();
     let mut v = 0;
     while v < n {
-        let row = supports::support_row(b, cells, x, v, y);
+        let row = supports::support_row(plan, cells, x, v, y);
         rows[v] = row as u16;
         gather(others, row, v);
         v += 1;
@@ -63,11 +63,11 @@ fn support_rows(b: &[u8], cells: &[u16], x: usize, y: usize, others: &mut Rows) 
 }
 
 // The counters of the values of x against y, whose rows are given. Every count is made by the function that calls itself.
-fn put_counts(b: &[u8], cells: &mut [u16], x: usize, y: usize, rows: &Rows)
-    requires { ⌜ Ready (now b) (now cells) × (shareConstraint (planOf (now b)) x y ≡ true) × FirstRows (supportRow (networkOf (planOf (now b))) x y) (sizeOf (planOf (now b)) x) (now rows) ⌝ }
-    ensures { λ _. ⌜ memOf (now (cells .exit)) ≡ countPairM (systemAt (now (b .entry))) x y (memOf (now (cells .entry))) ⌝ }
+fn put_counts(plan: &[u8], cells: &mut [u16], x: usize, y: usize, rows: &Rows)
+    requires { ⌜ Ready (now plan) (now cells) × (shareConstraint (planOf (now plan)) x y ≡ true) × FirstRows (supportRow (networkOf (planOf (now plan))) x y) (sizeOf (planOf (now plan)) x) (now rows) ⌝ }
+    ensures { λ _. ⌜ memOf (now (cells .exit)) ≡ countPairM (systemAt (now (plan .entry))) x y (memOf (now (cells .entry))) ⌝ }
 {
-    let n = parts::size(b, cells, x);
+    let n = parts::size(plan, cells, x);
     let at = parts::counter_row(cells, x, y);
     let mut v = 0;
     while v < n {
@@ -77,39 +77,39 @@ fn put_counts(b: &[u8], cells: &mut [u16], x: usize, y: usize, rows: &Rows)
 }
 
 // The counters of x and y against each other, if the two share a constraint.
-fn count_both(b: &[u8], cells: &mut [u16], x: usize, y: usize)
-    requires { ⌜ Ready (now b) (now cells) × (x < variableCount (now b)) × (y < variableCount (now b)) ⌝ }
-    ensures { λ _. ⌜ memOf (now (cells .exit)) ≡ countBothM (systemAt (now (b .entry))) x y (memOf (now (cells .entry))) ⌝ }
+fn count_both(plan: &[u8], cells: &mut [u16], x: usize, y: usize)
+    requires { ⌜ Ready (now plan) (now cells) × (x < variableCount (now plan)) × (y < variableCount (now plan)) ⌝ }
+    ensures { λ _. ⌜ memOf (now (cells .exit)) ≡ countBothM (systemAt (now (plan .entry))) x y (memOf (now (cells .entry))) ⌝ }
 {
     if parts::linked(cells, x, y) {
         let mut others = no_rows();
-        let rows = support_rows(b, cells, x, y, &mut others);
-        put_counts(b, cells, x, y, &rows);
-        put_counts(b, cells, y, x, &others);
+        let rows = support_rows(plan, cells, x, y, &mut others);
+        put_counts(plan, cells, x, y, &rows);
+        put_counts(plan, cells, y, x, &others);
     }
 }
 
 // The counters of x and each variable before it, from the rows of that one: a table has those as they are.
-fn count_variable(b: &[u8], cells: &mut [u16], x: usize)
-    requires { ⌜ Ready (now b) (now cells) × (x < variableCount (now b)) ⌝ }
-    ensures { λ _. ⌜ memOf (now (cells .exit)) ≡ countVariableM (systemAt (now (b .entry))) x (memOf (now (cells .entry))) ⌝ }
+fn count_variable(plan: &[u8], cells: &mut [u16], x: usize)
+    requires { ⌜ Ready (now plan) (now cells) × (x < variableCount (now plan)) ⌝ }
+    ensures { λ _. ⌜ memOf (now (cells .exit)) ≡ countVariableM (systemAt (now (plan .entry))) x (memOf (now (cells .entry))) ⌝ }
 {
     let mut y = 0;
     while y < x {
-        count_both(b, cells, y, x);
+        count_both(plan, cells, y, x);
         y += 1;
     }
 }
 
 // The counters of each two variables.
-pub fn count_supports(b: &[u8], cells: &mut [u16])
-    requires { ⌜ Ready (now b) (now cells) ⌝ }
-    ensures { λ _. ⌜ memOf (now (cells .exit)) ≡ countSupportsM (systemAt (now (b .entry))) (memOf (now (cells .entry))) ⌝ }
+pub fn count_supports(plan: &[u8], cells: &mut [u16])
+    requires { ⌜ Ready (now plan) (now cells) ⌝ }
+    ensures { λ _. ⌜ memOf (now (cells .exit)) ≡ countSupportsM (systemAt (now (plan .entry))) (memOf (now (cells .entry))) ⌝ }
 {
-    let n = read::variable_count(b);
+    let n = read::variable_count(plan);
     let mut x = 0;
     while x < n {
-        count_variable(b, cells, x);
+        count_variable(plan, cells, x);
         x += 1;
     }
 }

@@ -108,9 +108,9 @@ unfolding workerMay
 may-work p k d h b e = worker-allowed p k d h b (or-right (leb d p && not (eqb d k)) e)
 
 -- the controller may read from every worker
-pub may-hear : (p k : ℕ) → 0 < k → k ≤ p → allowed p (turn 0 k) ≡ true
+pub controller-may-read : (p k : ℕ) → 0 < k → k ≤ p → allowed p (turn 0 k) ≡ true
 unfolding allowed controllerMay
-may-hear p k h b = or-left _ (and-intro (le-leb 1 k h) (le-leb k p b))
+controller-may-read p k h b = or-left _ (and-intro (le-leb 1 k h) (le-leb k p b))
 
 -- and poll
 pub may-poll : (p : ℕ) → allowed p (turn 0 pollAction) ≡ true

@@ -1,4 +1,4 @@
--- How many polls and replies are on their way between the controller and a worker: at most the polls asked.
+-- How many polls and replies are on their way between the controller and a worker: at most the polls sent.
 use Prim.Native.Nat.{ℕ, _+_, _≤_}
 use mathlib.Core.List.{List, [], _∷_, _++_}
 use mathlib.Core.Option.{Option, none, some}
@@ -11,10 +11,10 @@ use Rattle.base.specs.Below.{one}
 use Rattle.base.specs.Choice.{update₂}
 use Rattle.disac4.proofs.ByKind.{pollMessage, replyMessage}
 use Rattle.disac4.proofs.Channels.{Channels, broadcast-to, broadcast-self, broadcast-each}
-use Rattle.disac4.proofs.Moves.{Moves, treats, sends, reads, takes-poll, ignores, answers, asks, tallies, marks, drops, discards, kept}
+use Rattle.disac4.proofs.Moves.{Moves, treats, sends, reads, takes-poll, ignores, answers, new-poll, tallies, marks, drops, discards, kept}
 use Rattle.disac4.proofs.RunNumbers.{timestamp-of-run}
 use Rattle.disac4.proofs.Typed.{Typed, typed-move, typed-load, not-controller}
-use Rattle.disac4.specs.Action.{broadcast, nextPoll, afterTreat, afterSend, afterList, afterPoll, afterDrop, afterAnswer, afterAsk, afterCount, afterMark}
+use Rattle.disac4.specs.Action.{broadcast, nextPoll, afterTreat, afterSend, afterList, afterPoll, afterDrop, afterAnswer, afterNewPoll, afterCount, afterMark}
 use Rattle.disac4.specs.Event.{Event}
 use Rattle.disac4.specs.Fold.{isSome}
 use Rattle.disac4.specs.Loading.{load}
@@ -57,10 +57,10 @@ module _ (sys : System) (st : State) (i : ℕ) (v : Worker sys i) where
       )
 
   -- worker `k` takes a poll and holds it
-  hearing : (k : ℕ) (q : Poll) (rest : List Message) → Worker sys k → st .channel 0 k ≡ poll q ∷ rest
+  reads-message : (k : ℕ) (q : Poll) (rest : List Message) → Worker sys k → st .channel 0 k ≡ poll q ∷ rest
       → Bounded (afterPoll 0 k q rest st)
   unfolding afterPoll
-  hearing k q rest w e =
+  reads-message k q rest w e =
       elim (ℕ-discrete i k) [
         | yes same ↦
             rw same
@@ -104,10 +104,10 @@ module _ (sys : System) (st : State) (i : ℕ) (v : Worker sys i) where
             )
       ]
 
-  -- the controller asks a poll
-  asking : Bounded (afterAsk sys st)
-  unfolding afterAsk
-  asking =
+  -- the controller sends a poll
+  new-poll-expected : Bounded (afterNewPoll sys st)
+  unfolding afterNewPoll
+  new-poll-expected =
       let q : Message = poll (nextPoll st) in
       omega (
         arith,
@@ -116,9 +116,9 @@ module _ (sys : System) (st : State) (i : ℕ) (v : Worker sys i) where
         ap (weigh replyMessage) (broadcast-self (sys .workers) 0 q (st .channel) i),
       )
 
-  -- a move adds to them only with a poll that is asked
+  -- a move adds to them only with a new poll
   answerable-move : {s : State} {new : List Event} → Typed sys st → Moves sys st s new → Bounded s
-  unfolding afterTreat afterSend afterList afterPoll afterDrop afterAnswer afterAsk afterCount afterMark
+  unfolding afterTreat afterSend afterList afterPoll afterDrop afterAnswer afterNewPoll afterCount afterMark
   answerable-move t (treats k a rest w e) = omega arith
   answerable-move t (sends k w e) =
       omega (
@@ -129,16 +129,16 @@ module _ (sys : System) (st : State) (i : ℕ) (v : Worker sys i) where
   answerable-move t (reads j k labels rest w b n e) = omega (arith, taking j k (list labels) rest e)
   answerable-move t (takes-poll j k q rest w b n e) =
       let from-controller : j ≡ 0 = (rw e at (t .messages j k)) .0 .kind .0 in
-      rw from-controller (hearing k q rest w (rw from-controller at e))
+      rw from-controller (reads-message k q rest w (rw from-controller at e))
   answerable-move t (ignores j k m rest w b n e) = omega (arith, taking j k (reply m) rest e)
   answerable-move t (answers k q w e r) = answering k q w e
-  answerable-move t (asks e) = asking
+  answerable-move t (new-poll e) = new-poll-expected
   answerable-move t (tallies k labels rest w e) = omega (arith, taking k 0 (list labels) rest e)
   answerable-move t (marks k m rest w e c) = omega (arith, taking k 0 (reply m) rest e)
   answerable-move t (drops k m rest w e c) = omega (arith, taking k 0 (reply m) rest e)
   answerable-move t (discards k q rest w e) = omega (arith, taking k 0 (poll q) rest e)
 
--- the polls on their way to a worker, the one that it holds and its replies on their way are at most the polls asked
+-- the polls on their way to a worker, the one that it holds and its replies on their way are at most the polls sent
 pub answerable-bound : {sys : System} → Sound sys → (ts : List Turn) (k : ℕ) → Worker sys k
     → answerable (play sys (load sys) ts) k ≤ changesWhere sys isPoll (load sys) ts
 answerable-bound {sys} sound ts k w =

@@ -13,16 +13,16 @@ use Rattle.disac4.proofs.ByKind.{listMessage}
 use Rattle.disac4.proofs.Channels.{into}
 use Rattle.disac4.proofs.Closing.{Agreed, AtRest, Closing}
 use Rattle.disac4.proofs.Conservation.{Conserved}
-use Rattle.disac4.proofs.Moves.{Moves, treats, sends, reads, takes-poll, ignores, answers, asks, tallies, marks, drops, discards}
+use Rattle.disac4.proofs.Moves.{Moves, treats, sends, reads, takes-poll, ignores, answers, new-poll, tallies, marks, drops, discards}
 use Rattle.disac4.proofs.Quiet.{Quiet}
-use Rattle.disac4.specs.Action.{current, allMarked, afterTreat, afterSend, afterList, afterPoll, afterDrop, afterAnswer, afterAsk, afterCount, afterMark}
+use Rattle.disac4.specs.Action.{current, allMarked, afterTreat, afterSend, afterList, afterPoll, afterDrop, afterAnswer, afterNewPoll, afterCount, afterMark}
 use Rattle.disac4.specs.Event.{Event}
 use Rattle.disac4.specs.State.{State, Controller}
 use Rattle.disac4.specs.System.{System, Worker}
 
 -- the plan is closed exactly if a poll is open and all workers are marked
 pub record Closure (sys : System) (controller : Controller) : Type 0 where
-  pub asked : controller .closed ≡ true → controller .pollOpen ≡ true
+  pub polling : controller .closed ≡ true → controller .pollOpen ≡ true
   pub exact : controller .pollOpen ≡ true → controller .closed ≡ allMarked sys (controller .marked)
 
 none-marked : (sys : System) → 0 < sys .workers → allMarked sys (λ k. false) ≡ false
@@ -33,16 +33,16 @@ none-marked sys some-worker =
 -- every move in an open plan keeps it
 pub closure-move : {sys : System} {st s : State} {new : List Event} → 0 < sys .workers → st .controller .closed ≡ false
     → Closure sys (st .controller) → Moves sys st s new → Closure sys (s .controller)
-unfolding current afterTreat afterSend afterList afterPoll afterDrop afterAnswer afterAsk afterCount afterMark
+unfolding current afterTreat afterSend afterList afterPoll afterDrop afterAnswer afterNewPoll afterCount afterMark
 closure-move p f g (treats k a rest w e) = g
 closure-move p f g (sends k w e) = g
 closure-move p f g (reads j k labels rest w h d e) = g
 closure-move p f g (takes-poll j k q rest w h d e) = g
 closure-move p f g (ignores j k i rest w h d e) = g
 closure-move p f g (answers k q w e r) = g
-closure-move {sys} p f g (asks e) = record { asked = λ x. refl; exact = λ x. f ∙ sym (none-marked sys p) }
-closure-move p f g (tallies k labels rest w e) = record { asked = λ x. clash x f; exact = λ x. absurd (false≢true x) }
-closure-move p f g (marks k i rest w e r) = record { asked = λ x. and-left _ _ r; exact = λ x. refl }
+closure-move {sys} p f g (new-poll e) = record { polling = λ x. refl; exact = λ x. f ∙ sym (none-marked sys p) }
+closure-move p f g (tallies k labels rest w e) = record { polling = λ x. clash x f; exact = λ x. absurd (false≢true x) }
+closure-move p f g (marks k i rest w e r) = record { polling = λ x. and-left _ _ r; exact = λ x. refl }
 closure-move p f g (drops k i rest w e r) = g
 closure-move p f g (discards k q rest w e) = g
 

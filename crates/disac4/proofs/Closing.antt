@@ -20,10 +20,10 @@ use Rattle.disac4.proofs.ByKind.{listMessage}
 use Rattle.disac4.proofs.Channels.{Channels, into, into-take, into-put, into-same, broadcast-to, broadcast-self, keeps-put, keeps-broadcast}
 use Rattle.disac4.proofs.Conservation.{Conserved}
 use Rattle.disac4.proofs.Empty.{empty}
-use Rattle.disac4.proofs.Moves.{Moves, treats, sends, reads, takes-poll, ignores, answers, asks, tallies, marks, drops, discards}
+use Rattle.disac4.proofs.Moves.{Moves, treats, sends, reads, takes-poll, ignores, answers, new-poll, tallies, marks, drops, discards}
 use Rattle.disac4.proofs.Replies.{isReply, replied, listFirst, first-append, first-some, first-sent, first-pass, replied-append, reply-first, none-replied, not-current}
 use Rattle.disac4.proofs.Typed.{Typed, no-self, not-controller, controller-count}
-use Rattle.disac4.specs.Action.{isEmpty, ready, current, broadcast, afterTreat, afterSend, afterList, afterPoll, afterDrop, afterAnswer, afterAsk, afterCount, afterMark}
+use Rattle.disac4.specs.Action.{isEmpty, ready, current, broadcast, afterTreat, afterSend, afterList, afterPoll, afterDrop, afterAnswer, afterNewPoll, afterCount, afterMark}
 use Rattle.disac4.specs.Event.{Event}
 use Rattle.disac4.specs.State.{State, Message, list, poll, reply}
 use Rattle.disac4.specs.System.{System, Worker}
@@ -286,10 +286,10 @@ module _ (sys : System) (st : State) where
       inr)
       x)
 
-  -- the controller asks a poll: it is doomed exactly if a list message is on its way to the controller
-  asking : Typed sys st → (d : Channels) → ((i : ℕ) → d i 0 ≡ st .channel i 0)
+  -- the controller sends a poll: it is doomed exactly if a list message is on its way to the controller
+  new-poll-expected : Typed sys st → (d : Channels) → ((i : ℕ) → d i 0 ≡ st .channel i 0)
       → Poised sys (suc n) (λ k. false) d (st .listCounter) (st .workList) (st .toSend)
-  asking t d same = go (into listMessage (sys .workers) (st .channel) 0) refl
+  new-poll-expected t d same = go (into listMessage (sys .workers) (st .channel) 0) refl
     where
       none-yet : (i : ℕ) → replied (suc n) (st .channel i 0) ≡ false
       none-yet i = none-replied t (suc n) (omega arith) i 0
@@ -342,7 +342,7 @@ module _ (sys : System) (st : State) where
   -- every move keeps what holds of an open poll
   pub closing-move : {s : State} {new : List Event} (es : List Event) → Typed sys st → Conserved sys st es → Closing sys st
       → Moves sys st s new → Closing sys s
-  unfolding ready current afterTreat afterSend afterList afterPoll afterDrop afterAnswer afterAsk afterCount afterMark
+  unfolding ready current afterTreat afterSend afterList afterPoll afterDrop afterAnswer afterNewPoll afterCount afterMark
   closing-move es t conserved g (treats k a rest w e) o = treating k a rest _ _ e (g o)
   closing-move es t conserved g (sends k w e) o = sending k _ _ w e (g o)
   closing-move es t conserved g (reads j k labels rest w h d e) o = reading es conserved j k _ labels rest _ w h e (g o)
@@ -350,7 +350,7 @@ module _ (sys : System) (st : State) where
   closing-move es t conserved g (ignores j k i rest w h d e) o = still (aside j k rest w) (λ r i v x. x) (g o)
   closing-move es t conserved g (answers k q w e r) o =
       answering k (reply (q .number)) w refl (ready-rests t o k q e r) (g o)
-  closing-move es t conserved g (asks e) o = asking t _ (λ i. broadcast-self (sys .workers) 0 _ (st .channel) i)
+  closing-move es t conserved g (new-poll e) o = new-poll-expected t _ (λ i. broadcast-self (sys .workers) 0 _ (st .channel) i)
   closing-move es t conserved g (tallies k labels rest w e) o = absurd (false≢true o)
   closing-move es t conserved g (marks k i rest w e r) o =
       marking k (reply i) rest w e refl (and-right (st .controller .pollOpen) (eqb (i .0) n) r) (g o)

@@ -10,8 +10,8 @@ use Rattle.base.specs.Choice.{update, update₂}
 use Rattle.network.specs.Network.{Label}
 use Rattle.disac4.proofs.ByKind.{listMessage, sendEvent}
 use Rattle.disac4.proofs.Channels.{Channels, into, into-none, into-take, into-put, into-other, into-broadcast, into-broadcast-self}
-use Rattle.disac4.proofs.Moves.{Moves, treats, sends, reads, takes-poll, ignores, answers, asks, tallies, marks, drops, discards}
-use Rattle.disac4.specs.Action.{broadcast, afterTreat, afterSend, afterList, afterPoll, afterDrop, afterAnswer, afterAsk, afterCount, afterMark}
+use Rattle.disac4.proofs.Moves.{Moves, treats, sends, reads, takes-poll, ignores, answers, new-poll, tallies, marks, drops, discards}
+use Rattle.disac4.specs.Action.{broadcast, afterTreat, afterSend, afterList, afterPoll, afterDrop, afterAnswer, afterNewPoll, afterCount, afterMark}
 use Rattle.disac4.specs.Event.{Event}
 use Rattle.disac4.specs.Loading.{load}
 use Rattle.disac4.specs.State.{State, Message, list, poll, reply}
@@ -73,7 +73,7 @@ module _ (sys : System) (st : State) (i : ℕ) (b : i ≤ sys .workers) where
   -- only a send adds a list message to what an actor has counted or has on its way to it
   conserves : {s : State} {new : List Event} → Moves sys st s new
       → Conserves (s .listCounter) (s .channel) (weigh sendEvent new)
-  unfolding afterTreat afterSend afterList afterPoll afterDrop afterAnswer afterAsk afterCount afterMark
+  unfolding afterTreat afterSend afterList afterPoll afterDrop afterAnswer afterNewPoll afterCount afterMark
   conserves (treats k a rest w e) = omega arith
   conserves (sends k w e) =
       broadcast-conserves (sys .workers) (st .listCounter) (counted k) (st .channel) k (list (st .toSend k))
@@ -88,7 +88,7 @@ module _ (sys : System) (st : State) (i : ℕ) (b : i ≤ sys .workers) where
         | no other ↦
             omega (arith, into-other listMessage (sys .workers) (st .channel) k 0 (st .channel k 0 ++ (reply (q .number) ∷ [])) i other)
       ]
-  conserves (asks e) =
+  conserves (new-poll e) =
       broadcast-conserves (sys .workers) (st .listCounter) (st .listCounter) (st .channel) 0 _
       (omega arith) (λ n d. refl) (omega arith) i b
   conserves (tallies k labels rest w e) = reading k 0 labels rest (w .within) e

@@ -12,10 +12,10 @@ use Rattle.base.proofs.Choice.{update-same, update-other, update₂-same, updat
 use Rattle.base.proofs.Members.{anyOf-left, anyOf-right}
 use Rattle.base.specs.Choice.{update, update₂}
 use Rattle.disac4.proofs.Channels.{Channels, broadcast-to, broadcast-sender, keeps-put, keeps-broadcast}
-use Rattle.disac4.proofs.Moves.{Moves, treats, sends, reads, takes-poll, ignores, answers, asks, tallies, marks, drops, discards}
+use Rattle.disac4.proofs.Moves.{Moves, treats, sends, reads, takes-poll, ignores, answers, new-poll, tallies, marks, drops, discards}
 use Rattle.disac4.proofs.Replies.{isReply, replied, not-current}
 use Rattle.disac4.proofs.Typed.{Typed, not-controller, counts-on}
-use Rattle.disac4.specs.Action.{current, nextPoll, listsRead, broadcast, afterTreat, afterSend, afterList, afterPoll, afterDrop, afterAnswer, afterAsk, afterCount, afterMark}
+use Rattle.disac4.specs.Action.{current, nextPoll, listsRead, broadcast, afterTreat, afterSend, afterList, afterPoll, afterDrop, afterAnswer, afterNewPoll, afterCount, afterMark}
 use Rattle.disac4.specs.Event.{Event}
 use Rattle.disac4.specs.State.{State, Message, list, poll, reply}
 use Rattle.disac4.specs.System.{System, Worker}
@@ -103,9 +103,9 @@ module _ (sys : System) (st : State) where
       (g i v)
 
   -- worker `k` takes a poll
-  hearing : (k : ℕ) (q : Poll) (rest : List Message) → Worker sys k → st .channel 0 k ≡ poll q ∷ rest → Now
+  reads-message : (k : ℕ) (q : Poll) (rest : List Message) → Worker sys k → st .channel 0 k ≡ poll q ∷ rest → Now
       → With (st .controller .marked) (update (st .held) k (some q)) (update₂ (st .channel) 0 k rest)
-  hearing k q rest w e g i v =
+  reads-message k q rest w e g i v =
       accounted-map (λ x. x) (λ x. rw (update₂-second (st .channel) 0 k rest i 0 (not-controller w)) x)
       (λ x.
       elim (ℕ-discrete i k) [
@@ -173,17 +173,17 @@ module _ (sys : System) (st : State) where
       (λ x. will-hold (rw (broadcast-sender (sys .workers) k m (st .channel) 0 i (not-controller w)) x))
       (g i v)
 
-  -- every worker will hold a poll that is asked
-  asking : (q : Poll) (i : ℕ) → Worker sys i
+  -- every worker will hold a new poll
+  new-poll-expected : (q : Poll) (i : ℕ) → Worker sys i
       → Accounted q (λ k. false) (st .held) (broadcast (sys .workers) 0 (poll q) (st .channel)) i
-  asking q i v =
+  new-poll-expected q i v =
       will-hold
       (rw (broadcast-to (sys .workers) 0 (poll q) (st .channel) i (v .within) (λ x. not-controller v (sym x)))
       (held-last (st .held i) (st .channel 0 i) q))
 
   -- every move keeps it
   pub expected-move : {s : State} {new : List Event} → Typed sys st → Expected sys st → Moves sys st s new → Expected sys s
-  unfolding nextPoll current afterTreat afterSend afterList afterPoll afterDrop afterAnswer afterAsk afterCount afterMark
+  unfolding nextPoll current afterTreat afterSend afterList afterPoll afterDrop afterAnswer afterNewPoll afterCount afterMark
   expected-move t g (treats k a rest w e) o = g o
   expected-move t g (sends k w e) o =
       rw (counts-on (st .listCounter) w) (sending k (list (st .toSend k)) w (g o))
@@ -191,10 +191,10 @@ module _ (sys : System) (st : State) where
       rw (counts-on (st .listCounter) w) (worker-takes j k (list labels) rest w e (λ x. refl) (g o))
   expected-move t g (takes-poll j k q rest w h d e) o =
       let from-controller : j ≡ 0 = (rw e at (t .messages j k)) .0 .kind .0 in
-      rw from-controller (hearing k q rest w (rw from-controller at e) (g o))
+      rw from-controller (reads-message k q rest w (rw from-controller at e) (g o))
   expected-move t g (ignores j k i rest w h d e) o = worker-takes j k (reply i) rest w e (λ x. refl) (g o)
   expected-move t g (answers k q w e r) o = answering k q w e (g o)
-  expected-move t g (asks e) o = asking (nextPoll st)
+  expected-move t g (new-poll e) o = new-poll-expected (nextPoll st)
   expected-move t g (tallies k labels rest w e) o = absurd (false≢true o)
   expected-move t g (marks k i rest w e r) o = marking k rest w (g o)
   expected-move t g (drops k i rest w e r) o =

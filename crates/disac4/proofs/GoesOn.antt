@@ -17,15 +17,15 @@ use Rattle.base.proofs.Sums.{sum-zero}
 use Rattle.base.proofs.Weight.{weigh}
 use Rattle.base.specs.Below.{anyBelow}
 use Rattle.base.specs.Choice.{between}
-use Rattle.disac4.proofs.Allowed.{allowed-bounds, may-read, may-work, may-hear, may-poll}
+use Rattle.disac4.proofs.Allowed.{allowed-bounds, may-read, may-work, controller-may-read, may-poll}
 use Rattle.disac4.proofs.ByKind.{listMessage}
 use Rattle.disac4.proofs.Channels.{into}
 use Rattle.disac4.proofs.Empty.{empty}
 use Rattle.disac4.proofs.Expected.{openPoll, Accounted, has-mark, has-replied, will-hold}
-use Rattle.disac4.proofs.IdleAction.{none-chosen, some-refused, none-taken, read-takes, hear-takes}
+use Rattle.disac4.proofs.IdleAction.{none-chosen, some-refused, none-taken, read-takes, controller-takes}
 use Rattle.disac4.proofs.Safety.{Safe, safe-run}
 use Rattle.disac4.proofs.Typed.{no-self, not-controller}
-use Rattle.disac4.specs.Action.{isEmpty, treat, treatFrom, send, readFrom, readWorker, ready, answer, answerTo, ask, allMarked, controllerFrom, readController}
+use Rattle.disac4.specs.Action.{isEmpty, treat, treatFrom, send, readFrom, readWorker, ready, answer, answerTo, newPoll, allMarked, controllerFrom, readController}
 use Rattle.disac4.specs.Event.{Event, events}
 use Rattle.disac4.specs.Fold.{isSome}
 use Rattle.disac4.specs.Loading.{load}
@@ -79,13 +79,13 @@ module _ (sys : System) (st : State) (few : sys .workers ≤ maxWorkers) (runnin
   nothing-to-count : (k : ℕ) → Worker sys k → st .channel k 0 ≡ []
   unfolding controllerStep readController
   nothing-to-count k w =
-      none-taken (controllerFrom sys k st) (hear-takes sys k st) (st .channel k 0)
+      none-taken (controllerFrom sys k st) (controller-takes sys k st) (st .channel k 0)
       (rw (ne-eqb k pollAction (λ e. omega (arith, w .within)))
-      at (controller-idle k (may-hear (sys .workers) k (w .above) (w .within))))
+      at (controller-idle k (controller-may-read (sys .workers) k (w .above) (w .within))))
 
   -- a poll is open
   poll-open : st .controller .pollOpen ≡ true
-  unfolding controllerStep ask
+  unfolding controllerStep newPoll
   poll-open =
       none-chosen (st .controller .pollOpen) _ (controller-idle pollAction (may-poll (sys .workers)))
 

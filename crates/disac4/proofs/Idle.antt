@@ -14,9 +14,9 @@ use Rattle.base.proofs.Choice.{cond-true, cond-false, update₂-first, update�
 use Rattle.base.specs.Choice.{update₂}
 use Rattle.network.specs.Network.{Label}
 use Rattle.disac4.proofs.Channels.{broadcast-sender}
-use Rattle.disac4.proofs.IdleAction.{none-chosen, some-refused, none-taken, read-takes, hear-takes}
-use Rattle.disac4.proofs.Moves.{Moves, treats, sends, reads, takes-poll, ignores, answers, asks, tallies, marks, drops, discards, turnOf, moves}
-use Rattle.disac4.specs.Action.{isEmpty, treatFrom, treat, afterTreat, send, afterSend, readFrom, readWorker, afterList, afterPoll, afterDrop, answerTo, answer, ready, afterAnswer, ask, afterAsk, controllerFrom, readController, afterCount, afterMark}
+use Rattle.disac4.proofs.IdleAction.{none-chosen, some-refused, none-taken, read-takes, controller-takes}
+use Rattle.disac4.proofs.Moves.{Moves, treats, sends, reads, takes-poll, ignores, answers, new-poll, tallies, marks, drops, discards, turnOf, moves}
+use Rattle.disac4.specs.Action.{isEmpty, treatFrom, treat, afterTreat, send, afterSend, readFrom, readWorker, afterList, afterPoll, afterDrop, answerTo, answer, ready, afterAnswer, newPoll, afterNewPoll, controllerFrom, readController, afterCount, afterMark}
 use Rattle.disac4.specs.Event.{Event}
 use Rattle.disac4.specs.Fold.{isSome}
 use Rattle.disac4.specs.State.{State, Message}
@@ -52,7 +52,7 @@ module _ (sys : System) (st : State) where
       (λ g. absurd (g refl refl)) (λ j i n g. refl) j i
 
   move-leaves : {s : State} {es : List Event} (m : Moves sys st s es) → Leaves (turnOf m .actor) (turnOf m .action) st s
-  unfolding afterTreat afterSend afterList afterPoll afterDrop afterAnswer afterAsk afterCount afterMark
+  unfolding afterTreat afterSend afterList afterPoll afterDrop afterAnswer afterNewPoll afterCount afterMark
   move-leaves (treats k a rest w e) = leaves (λ i n. rw (ne-eqb i k n)) (λ j i f g. refl) (λ h. refl)
   move-leaves (sends k w e) =
       leaves (λ i n. rw (ne-eqb i k n))
@@ -62,7 +62,7 @@ module _ (sys : System) (st : State) where
   move-leaves (ignores j k i rest w h n e) = leaves (λ i n. refl) (read-channel j k rest) (λ h. refl)
   move-leaves (answers k q w e r) =
       leaves (λ i n. rw (ne-eqb i k n)) (λ j i f g. update₂-first (st .channel) k 0 _ j i (f (omega arith))) (λ h. refl)
-  move-leaves (asks e) =
+  move-leaves (new-poll e) =
       leaves (λ i n. refl) (λ j i f g. broadcast-sender (sys .workers) 0 _ (st .channel) j i (f (omega arith)))
       (λ h. absurd (omega arith))
   move-leaves (tallies k labels rest w e) =
@@ -113,14 +113,14 @@ module _ (sys : System) (st s : State) where
   -- a turn of the controller: a poll where the controller is as it was, a read where its channel is
   controller-still : (d : ℕ) → (treatAction ≤ d → s .controller ≡ st .controller) → s .channel d 0 ≡ st .channel d 0
       → controllerStep sys d st ≡ none → controllerStep sys d s ≡ none
-  unfolding controllerStep ask readController
+  unfolding controllerStep newPoll readController
   controller-still d same box =
       still-cond (eqb d pollAction)
       (λ p i.
       cond-true none _
       (ap (λ c. c .pollOpen) (same (omega (arith, eqb-true d pollAction p)))
       ∙ none-chosen (st .controller .pollOpen) _ (ap isSome i)))
-      (λ p i. rw (box, none-taken (controllerFrom sys d st) (hear-takes sys d st) (st .channel d 0) (ap isSome i)))
+      (λ p i. rw (box, none-taken (controllerFrom sys d st) (controller-takes sys d st) (st .channel d 0) (ap isSome i)))
 
 -- after a turn `t` an idle turn `u` is idle still, unless both are of one actor and `u` is the same action or no read, or `t`
 -- sent a message and `u` reads from that actor

@@ -33,8 +33,8 @@ read-takes j k st (poll q) l = refl
 read-takes j k st (reply n) l = refl
 
 -- and so does the controller
-pub hear-takes : (sys : System) (k : ℕ) (st : State) (m : Message) (l : List Message)
+pub controller-takes : (sys : System) (k : ℕ) (st : State) (m : Message) (l : List Message)
     → isSome (controllerFrom sys k st (m ∷ l)) ≡ true
-hear-takes sys k st (list labels) l = refl
-hear-takes sys k st (poll q) l = refl
-hear-takes sys k st (reply n) l = refl
+controller-takes sys k st (list labels) l = refl
+controller-takes sys k st (poll q) l = refl
+controller-takes sys k st (reply n) l = refl

@@ -14,7 +14,7 @@ use Rattle.base.proofs.Choice.{none≢some, by-test, if-some, unless-some, some
 use Rattle.network.specs.Network.{Label}
 use Rattle.disac4.proofs.Allowed.{reads-other, reads-worker, worker-does, controller-does}
 use Rattle.disac4.proofs.Fold.{after-idle, after-move, gather-keeps}
-use Rattle.disac4.specs.Action.{isEmpty, afterTreat, treat, treatFrom, afterSend, send, afterList, afterPoll, afterDrop, readFrom, readWorker, afterAnswer, ready, answerTo, answer, afterAsk, ask, afterCount, afterMark, current, controllerFrom, readController}
+use Rattle.disac4.specs.Action.{isEmpty, afterTreat, treat, treatFrom, afterSend, send, afterList, afterPoll, afterDrop, readFrom, readWorker, afterAnswer, ready, answerTo, answer, afterNewPoll, newPoll, afterCount, afterMark, current, controllerFrom, readController}
 use Rattle.disac4.specs.Event.{Event, sent, taken, treated, eventsAt, events, treatEvent, readEvent}
 use Rattle.disac4.specs.Fold.{isSome}
 use Rattle.disac4.specs.State.{State, Message, list, poll, reply}
@@ -37,7 +37,7 @@ pub data Moves (sys : System) (st : State) : State → List Event → Type 0 whe
       → st .channel j k ≡ reply n ∷ rest → Moves sys st (afterDrop j k rest st) []
   answers : (k : ℕ) (q : Poll) → Worker sys k → st .held k ≡ some q → ready k q st ≡ true
       → Moves sys st (afterAnswer k q st) []
-  asks : st .controller .pollOpen ≡ false → Moves sys st (afterAsk sys st) []
+  new-poll : st .controller .pollOpen ≡ false → Moves sys st (afterNewPoll sys st) []
   tallies : (k : ℕ) (labels : List Label) (rest : List Message) → Worker sys k → st .channel k 0 ≡ list labels ∷ rest
       → Moves sys st (afterCount k rest st) (taken 0 k labels ∷ [])
   marks : (k : ℕ) (n : Timestamp) (rest : List Message) → Worker sys k → st .channel k 0 ≡ reply n ∷ rest → current n st ≡ true
@@ -55,7 +55,7 @@ turnOf (reads j k labels rest w h n e) = turn k j
 turnOf (takes-poll j k q rest w h n e) = turn k j
 turnOf (ignores j k i rest w h n e) = turn k j
 turnOf (answers k q w e r) = turn k answerAction
-turnOf (asks e) = turn 0 pollAction
+turnOf (new-poll e) = turn 0 pollAction
 turnOf (tallies k labels rest w e) = turn 0 k
 turnOf (marks k n rest w e c) = turn 0 k
 turnOf (drops k n rest w e c) = turn 0 k
@@ -93,9 +93,9 @@ module _ (sys : System) (st : State) where
   answer-moves k w none p s e = none≢some e
   answer-moves k w (some q) p s e = let c = if-some (ready k q st) e in reached (c .1) (answers k q w p (c .0), refl)
 
-  ask-moves : (s : State) → ask sys st ≡ some s → By (turn 0 pollAction) [] s
-  unfolding ask
-  ask-moves s e = let c = unless-some (st .controller .pollOpen) e in reached (c .1) (asks (c .0), refl)
+  new-poll-moves : (s : State) → newPoll sys st ≡ some s → By (turn 0 pollAction) [] s
+  unfolding newPoll
+  new-poll-moves s e = let c = unless-some (st .controller .pollOpen) e in reached (c .1) (new-poll (c .0), refl)
 
   tally-moves : (k : ℕ) → Worker sys k → (l : List Message) → st .channel k 0 ≡ l
       → (s : State) → controllerFrom sys k st l ≡ some s → By (turn 0 k) (readEvent 0 k l) s
@@ -149,7 +149,7 @@ module _ (sys : System) (st : State) where
     unfolding controllerStep readController
     controller-moves d ok s e =
         by-test (eqb d pollAction) e
-        (λ p f. rw (eqb-true d pollAction p, lt-leb pollAction (sys .workers) (omega arith)) (ask-moves s f))
+        (λ p f. rw (eqb-true d pollAction p, lt-leb pollAction (sys .workers) (omega arith)) (new-poll-moves s f))
         (λ p f.
         let from = reads-worker (sys .workers) d ok p in
         rw (le-leb d (sys .workers) (from .1))

@@ -1,4 +1,4 @@
--- How many polls a run asks: at most one more than the loaded labels, as between two polls the controller reads a list.
+-- How many polls a run sends: at most one more than the loaded labels, as between two polls the controller reads a list.
 use Prim.Native.Nat.{_+_, _≤_}
 use mathlib.Core.List.{List}
 use mathlib.Core.Path.{ap}
@@ -6,11 +6,11 @@ use native.Mathlib.Omega.{arith}
 use Rattle.base.proofs.Sums.{one-le}
 use Rattle.base.specs.Below.{one}
 use Rattle.network.specs.Network.{labelCount}
-use Rattle.disac4.proofs.Moves.{Moves, treats, sends, reads, takes-poll, ignores, answers, asks, tallies, marks, drops, discards, kept}
+use Rattle.disac4.proofs.Moves.{Moves, treats, sends, reads, takes-poll, ignores, answers, new-poll, tallies, marks, drops, discards, kept}
 use Rattle.disac4.proofs.RunNumbers.{list-counter-bound, timestamp-of-run}
 use Rattle.disac4.proofs.SendBound.{sends-bound}
 use Rattle.disac4.proofs.Typed.{counts-on}
-use Rattle.disac4.specs.Action.{afterTreat, afterSend, afterList, afterPoll, afterDrop, afterAnswer, afterAsk, afterCount, afterMark}
+use Rattle.disac4.specs.Action.{afterTreat, afterSend, afterList, afterPoll, afterDrop, afterAnswer, afterNewPoll, afterCount, afterMark}
 use Rattle.disac4.specs.Event.{Event}
 use Rattle.disac4.specs.Loading.{load}
 use Rattle.disac4.specs.Report.{isPoll}
@@ -23,14 +23,14 @@ abbrev Ended : State → Type 0
 Ended st = st .controller .timestamp ≤ st .listCounter 0 + one (st .controller .pollOpen)
 
 ended-move : {sys : System} {st s : State} {new : List Event} → Ended st → Moves sys st s new → Ended s
-unfolding afterTreat afterSend afterList afterPoll afterDrop afterAnswer afterAsk afterCount afterMark
+unfolding afterTreat afterSend afterList afterPoll afterDrop afterAnswer afterNewPoll afterCount afterMark
 ended-move h (treats k a rest w e) = h
 ended-move {sys} {st} h (sends k w e) = omega (arith, counts-on (st .listCounter) w)
 ended-move {sys} {st} h (reads j k labels rest w b n e) = omega (arith, counts-on (st .listCounter) w)
 ended-move h (takes-poll j k q rest w b n e) = h
 ended-move h (ignores j k i rest w b n e) = h
 ended-move h (answers k q w e r) = h
-ended-move h (asks e) = omega (arith, ap one e)
+ended-move h (new-poll e) = omega (arith, ap one e)
 ended-move {sys} {st} h (tallies k labels rest w e) = omega (arith, one-le (st .controller .pollOpen))
 ended-move h (marks k n rest w e c) = h
 ended-move h (drops k n rest w e c) = h
@@ -48,7 +48,7 @@ timestamp-bound {sys} sound ts =
           (unfold load in omega arith),
     )
 
--- a run asks at most one poll more than labels were loaded
+-- a run sends at most one poll more than labels were loaded
 pub polls-bound : {sys : System} → Sound sys → (ts : List Turn)
     → changesWhere sys isPoll (load sys) ts ≤ labelCount (sys .net) + 1
 polls-bound {sys} sound ts =

@@ -12,9 +12,9 @@ use Rattle.base.specs.Choice.{update, update₂}
 use Rattle.network.specs.Network.{Label, domainSize}
 use Rattle.disac4.proofs.Channels.{Channels, into, into-take, into-put, into-other, into-broadcast, into-broadcast-self}
 use Rattle.disac4.proofs.DomainSize.{treat-size}
-use Rattle.disac4.proofs.Moves.{Moves, treats, sends, reads, takes-poll, ignores, answers, asks, tallies, marks, drops, discards}
+use Rattle.disac4.proofs.Moves.{Moves, treats, sends, reads, takes-poll, ignores, answers, new-poll, tallies, marks, drops, discards}
 use Rattle.disac4.proofs.Workers.{overWorkers, over-update, over-append, toWorkers, workers-take, workers-apart, workers-broadcast, workers-poll}
-use Rattle.disac4.specs.Action.{isEmpty, deletes, deletions, afterTreat, afterSend, afterList, afterPoll, afterDrop, afterAnswer, nextPoll, afterAsk, afterCount, afterMark}
+use Rattle.disac4.specs.Action.{isEmpty, deletes, deletions, afterTreat, afterSend, afterList, afterPoll, afterDrop, afterAnswer, nextPoll, afterNewPoll, afterCount, afterMark}
 use Rattle.disac4.specs.Event.{Event}
 use Rattle.disac4.specs.Fold.{isSome}
 use Rattle.disac4.specs.State.{State, Message, list, poll, reply}
@@ -183,9 +183,9 @@ module _ (sys : System) (st : State) where
         into-put (controllerWeight p) p (st .channel) k 0 (reply (q .number)) (w .within),
       )
 
-  ask-falls : st .controller .pollOpen ≡ false → Falls (afterAsk sys st)
-  unfolding potential afterAsk
-  ask-falls e =
+  new-poll-falls : st .controller .pollOpen ≡ false → Falls (afterNewPoll sys st)
+  unfolding potential afterNewPoll
+  new-poll-falls e =
       let q : Message = poll (nextPoll st) in
       omega (
         arith,
@@ -202,7 +202,7 @@ module _ (sys : System) (st : State) where
   potential-falls (takes-poll j k q rest w h n e) = poll-falls j k q rest w h e
   potential-falls (ignores j k i rest w h n e) = drop-falls j k rest (worker-takes j k (reply i) rest w h e)
   potential-falls (answers k q w e r) = answer-falls k q w e
-  potential-falls (asks e) = ask-falls e
+  potential-falls (new-poll e) = new-poll-falls e
   potential-falls (tallies k labels rest w e) = count-falls k labels rest w e
   potential-falls (marks k n rest w e c) = mark-falls k rest (controller-takes k (reply n) rest w e)
   potential-falls (drops k n rest w e c) = drop-falls k 0 rest (controller-takes k (reply n) rest w e)

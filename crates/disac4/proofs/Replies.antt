@@ -82,7 +82,7 @@ module _ (n : ℕ) where
   reply-first (poll q) l r = absurd (false≢true r)
   reply-first (reply k) l r = and-false-left (listFirst n l) (not-of-true r)
 
--- no reply to a poll that is not yet asked is on its way
+-- no reply to a poll that is not yet sent is on its way
 pub none-replied : {sys : System} {st : State} → Typed sys st → (n : ℕ) → st .controller .timestamp < n → (j k : ℕ)
     → replied n (st .channel j k) ≡ false
 none-replied {sys} {st} t n later j k = go (st .channel j k) (t .messages j k)

@@ -13,7 +13,7 @@ use Rattle.base.proofs.Choice.{between-low, between-high}
 use Rattle.base.proofs.Each.{Each, member-gather, each-append, each-gather, each-mono, each-map}
 use Rattle.base.specs.Below.{gatherBelow, listBelow}
 use Rattle.base.specs.Choice.{between}
-use Rattle.disac4.proofs.Allowed.{worker-cases, controller-cases, worker-does, controller-does, may-read, may-work, may-hear, may-poll}
+use Rattle.disac4.proofs.Allowed.{worker-cases, controller-cases, worker-does, controller-does, may-read, may-work, controller-may-read, may-poll}
 use Rattle.disac4.specs.Round.{others, workerRound, round}
 use Rattle.disac4.specs.Turn.{Turn, turn, treatAction, sendAction, answerAction, pollAction, workerMay, controllerMay, allowed}
 
@@ -112,5 +112,5 @@ round-allowed p =
     each-append (Allowed p) (workerTurns p ++ controllerReads p) (turn 0 pollAction ∷ [])
     (each-append (Allowed p) (workerTurns p) (controllerReads p)
     (each-gather (Allowed p) p (λ i. workerRound p (suc i)) (λ i h. worker-round-allowed p (suc i) (omega arith) h))
-    (each-gather (Allowed p) p (λ i. turn 0 (suc i) ∷ []) (λ i h. (may-hear p (suc i) (omega arith) h, tt))))
+    (each-gather (Allowed p) p (λ i. turn 0 (suc i) ∷ []) (λ i h. (controller-may-read p (suc i) (omega arith) h, tt))))
     (may-poll p, tt)

@@ -18,9 +18,9 @@ use Rattle.network.specs.Network.{Label}
 use Rattle.disac4.proofs.ByKind.{listMessage, sendEvent}
 use Rattle.disac4.proofs.Channels.{into}
 use Rattle.disac4.proofs.Fold.{count-keeps}
-use Rattle.disac4.proofs.Moves.{Moves, treats, sends, reads, takes-poll, ignores, answers, asks, tallies, marks, drops, discards, turnOf, Effect, idle, acts, effect}
+use Rattle.disac4.proofs.Moves.{Moves, treats, sends, reads, takes-poll, ignores, answers, new-poll, tallies, marks, drops, discards, turnOf, Effect, idle, acts, effect}
 use Rattle.disac4.proofs.Safety.{safe-run}
-use Rattle.disac4.specs.Action.{afterTreat, afterSend, afterList, afterPoll, afterDrop, afterAnswer, afterAsk, afterCount, afterMark}
+use Rattle.disac4.specs.Action.{afterTreat, afterSend, afterList, afterPoll, afterDrop, afterAnswer, afterNewPoll, afterCount, afterMark}
 use Rattle.disac4.specs.Event.{Event, sent, eventsAt, events, treatEvent, readEvent, isTreat, isRead}
 use Rattle.disac4.specs.Fold.{gatherBy, countBy}
 use Rattle.disac4.specs.Loading.{load}
@@ -98,14 +98,14 @@ module _ (sys : System) (few : sys .workers ≤ maxWorkers) where
   -- a poll adds one to the timestamp, and no other move does
   move-adds : {st s : State} {es : List Event} (m : Moves sys st s es)
       → s .controller .timestamp ≡ st .controller .timestamp + one (isPoll (turnOf m))
-  unfolding afterTreat afterSend afterList afterPoll afterDrop afterAnswer afterAsk afterCount afterMark
+  unfolding afterTreat afterSend afterList afterPoll afterDrop afterAnswer afterNewPoll afterCount afterMark
   move-adds (treats k a rest w e) = omega (arith, of-worker k treatAction w)
   move-adds (sends k w e) = omega (arith, of-worker k sendAction w)
   move-adds (reads j k labels rest w h n e) = omega (arith, of-worker k j w)
   move-adds (takes-poll j k q rest w h n e) = omega (arith, of-worker k j w)
   move-adds (ignores j k i rest w h n e) = omega (arith, of-worker k j w)
   move-adds (answers k q w e r) = omega (arith, of-worker k answerAction w)
-  move-adds (asks e) = omega arith
+  move-adds (new-poll e) = omega arith
   move-adds (tallies k labels rest w e) = omega (arith, from-worker k w)
   move-adds (marks k n rest w e c) = omega (arith, from-worker k w)
   move-adds (drops k n rest w e c) = omega (arith, from-worker k w)

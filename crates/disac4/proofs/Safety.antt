@@ -29,7 +29,7 @@ safe-load sys = record {
   typed = typed-load sys;
   conserved = conserved-load sys;
   closing = λ o. absurd (false≢true o);
-  closure = record { asked = λ x. absurd (false≢true x); exact = λ x. absurd (false≢true x) };
+  closure = record { polling = λ x. absurd (false≢true x); exact = λ x. absurd (false≢true x) };
   expected = λ o. absurd (false≢true o);
 }
 
@@ -52,5 +52,5 @@ pub closed-quiet : {sys : System} → Sound sys → (ts : List Turn) → play sy
     → Quiet sys (play sys (load sys) ts)
 closed-quiet {sys} sound ts e =
     let g = safe-run sound ts in
-    let o = g .closure .asked e in
+    let o = g .closure .polling e in
     all-marked-quiet (events sys (load sys) ts) (g .conserved) (g .closing) o (sym (g .closure .exact o) ∙ e)

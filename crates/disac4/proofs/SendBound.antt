@@ -9,10 +9,10 @@ use Rattle.network.specs.Network.{Label, labelCount, domainSize}
 use Rattle.disac4.proofs.ByKind.{sendEvent}
 use Rattle.disac4.proofs.DomainSize.{treat-size, load-size, deletions-loaded}
 use Rattle.disac4.proofs.Empty.{not-empty}
-use Rattle.disac4.proofs.Moves.{Moves, treats, sends, reads, takes-poll, ignores, answers, asks, tallies, marks, drops, discards, kept}
+use Rattle.disac4.proofs.Moves.{Moves, treats, sends, reads, takes-poll, ignores, answers, new-poll, tallies, marks, drops, discards, kept}
 use Rattle.disac4.proofs.RunNumbers.{sent-count}
 use Rattle.disac4.proofs.Workers.{overWorkers, over-part, over-update, over-append}
-use Rattle.disac4.specs.Action.{deletions, afterTreat, afterSend, afterList, afterPoll, afterDrop, afterAnswer, afterAsk, afterCount, afterMark}
+use Rattle.disac4.specs.Action.{deletions, afterTreat, afterSend, afterList, afterPoll, afterDrop, afterAnswer, afterNewPoll, afterCount, afterMark}
 use Rattle.disac4.specs.Event.{Event}
 use Rattle.disac4.specs.Loading.{load}
 use Rattle.disac4.specs.Report.{isSend}
@@ -53,14 +53,14 @@ load-sendable sys sound = omega (arith, deletions-loaded sys (sound .owned), loa
 -- each send takes one label or more from those that may still be sent, and no other move adds one
 move-sendable : {sys : System} {st s : State} {new : List Event} → Moves sys st s new
     → weigh sendEvent new + sendable sys s ≤ sendable sys st
-unfolding sendable afterTreat afterSend afterList afterPoll afterDrop afterAnswer afterAsk afterCount afterMark
+unfolding sendable afterTreat afterSend afterList afterPoll afterDrop afterAnswer afterNewPoll afterCount afterMark
 move-sendable {sys} {st} (treats k a rest w e) = omega (arith, treat-sendable sys st k w a rest)
 move-sendable {sys} {st} (sends k w e) = omega (arith, send-sendable sys st k w, not-empty (st .toSend k) e)
 move-sendable (reads j k labels rest w h n e) = omega arith
 move-sendable (takes-poll j k q rest w h n e) = omega arith
 move-sendable (ignores j k i rest w h n e) = omega arith
 move-sendable (answers k q w e r) = omega arith
-move-sendable (asks e) = omega arith
+move-sendable (new-poll e) = omega arith
 move-sendable (tallies k labels rest w e) = omega arith
 move-sendable (marks k n rest w e c) = omega arith
 move-sendable (drops k n rest w e c) = omega arith

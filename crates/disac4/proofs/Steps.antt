@@ -15,9 +15,9 @@ use Rattle.base.specs.Choice.{update₂}
 use Rattle.network.specs.Network.{Label, Domains, isLabel, loaded}
 use Rattle.disac4.proofs.Channels.{broadcast-each}
 use Rattle.disac4.proofs.Deleted.{deletedBy, treat-deletes, treat-deletes-own}
-use Rattle.disac4.proofs.Moves.{Moves, treats, sends, reads, takes-poll, ignores, answers, asks, tallies, marks, drops, discards}
+use Rattle.disac4.proofs.Moves.{Moves, treats, sends, reads, takes-poll, ignores, answers, new-poll, tallies, marks, drops, discards}
 use Rattle.disac4.proofs.Occurrences.{occurs, carried, sentBy, readBy, treatedBy}
-use Rattle.disac4.specs.Action.{deletions, afterTreat, afterSend, afterList, afterPoll, afterDrop, afterAnswer, afterAsk, afterCount, afterMark, nextPoll}
+use Rattle.disac4.specs.Action.{deletions, afterTreat, afterSend, afterList, afterPoll, afterDrop, afterAnswer, afterNewPoll, afterCount, afterMark, nextPoll}
 use Rattle.disac4.specs.Event.{Event, sent, taken, treated, deleted}
 use Rattle.disac4.specs.State.{State, Message, list, poll, reply}
 use Rattle.disac4.specs.System.{System, Worker}
@@ -77,10 +77,10 @@ module _ (sys : System) (x v : ℕ) where
     at-drop j k rest z m = one-channel j k rest (omega (arith, ap (weigh (carried x v)) m))
 
     -- every actor but the controller is sent a poll
-    at-ask : Step st (afterAsk sys st) []
-    unfolding afterAsk
-    at-ask =
-        still st (afterAsk sys st) refl refl refl
+    at-poll : Step st (afterNewPoll sys st) []
+    unfolding afterNewPoll
+    at-poll =
+        still st (afterNewPoll sys st) refl refl refl
         (λ j i h n.
         broadcast-each (λ j i l. weigh (carried x v) l ≡ waits (st .channel) j i) (sys .workers) 0 (poll q) (st .channel)
         (λ i h n. weigh-append (carried x v) (st .channel 0 i) (poll q ∷ []) ∙ omega arith)
@@ -240,7 +240,7 @@ module _ (sys : System) (x v : ℕ) where
   step-of st f _ _ (reads j k labels rest w h n m) =
       at-read st j k labels rest m n (f j k labels rest (w .within) n m)
   step-of st f _ _ (tallies k labels rest w m) = at-tally st k labels rest w m
-  step-of st f _ _ (asks o) = at-ask st
+  step-of st f _ _ (new-poll o) = at-poll st
   step-of st f s _ (takes-poll j k q rest w h n m) = at-drop st j k rest refl m s refl refl refl refl
   step-of st f s _ (ignores j k i rest w h n m) = at-drop st j k rest refl m s refl refl refl refl
   step-of st f s _ (marks k n rest w m c) = at-drop st k 0 rest refl m s refl refl refl refl

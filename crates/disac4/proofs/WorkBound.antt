@@ -8,10 +8,10 @@ use lib.ListN.{length, length-append}
 use Rattle.base.proofs.Choice.{update-same, update-other}
 use Rattle.network.specs.Network.{Label, labelCount}
 use Rattle.disac4.proofs.Channels.{into, into-none, into-take, into-other, into-falls, into-broadcast, into-broadcast-self}
-use Rattle.disac4.proofs.Moves.{Moves, treats, sends, reads, takes-poll, ignores, answers, asks, tallies, marks, drops, discards, kept}
+use Rattle.disac4.proofs.Moves.{Moves, treats, sends, reads, takes-poll, ignores, answers, new-poll, tallies, marks, drops, discards, kept}
 use Rattle.disac4.proofs.SendBound.{sendable, treat-sendable, send-sendable, load-sendable, sendable-part, sends-and-sendable}
 use Rattle.disac4.proofs.Typed.{not-controller}
-use Rattle.disac4.specs.Action.{deletions, nextPoll, afterTreat, afterSend, afterList, afterPoll, afterDrop, afterAnswer, afterAsk, afterCount, afterMark}
+use Rattle.disac4.specs.Action.{deletions, nextPoll, afterTreat, afterSend, afterList, afterPoll, afterDrop, afterAnswer, afterNewPoll, afterCount, afterMark}
 use Rattle.disac4.specs.Event.{Event}
 use Rattle.disac4.specs.Loading.{load}
 use Rattle.disac4.specs.State.{State, Message, list, poll, reply}
@@ -109,7 +109,7 @@ module _ (sys : System) where
   -- one more worker's move leaves no more labels to come, but for what it adds to its own to-send list
   coming-move : {st s : State} {new : List Event} (i : ℕ) → Worker sys i → Moves sys st s new
       → coming s i + length (st .toSend i) ≤ coming st i + length (s .toSend i)
-  unfolding sendable afterPoll afterDrop afterAnswer afterAsk afterCount afterMark
+  unfolding sendable afterPoll afterDrop afterAnswer afterNewPoll afterCount afterMark
   coming-move {st} i v (treats k a rest w e) = coming-treat st i k w a rest e
   coming-move {st} i v (sends k w e) = coming-send st i k v w
   coming-move {st} i v (reads j k labels rest w h n e) = coming-read st i j k labels rest h e
@@ -120,7 +120,7 @@ module _ (sys : System) where
         arith,
         into-other labelsIn p (st .channel) k 0 (st .channel k 0 ++ (reply (q .number) ∷ [])) i (λ x. not-controller v (sym x)),
       )
-  coming-move {st} i v (asks e) =
+  coming-move {st} i v (new-poll e) =
       omega (
         arith,
         into-broadcast labelsIn p (st .channel) 0 (poll (nextPoll st)) i

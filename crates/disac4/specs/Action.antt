@@ -139,8 +139,8 @@ unfoldable pub nextPoll : State → Poll
 nextPoll st = record { number = nextNumber st; wanted = listsRead st }
 
 -- the poll number goes up by one, and all marks are cleared
-unfoldable pub afterAsk : System → State → State
-afterAsk sys st =
+unfoldable pub afterNewPoll : System → State → State
+afterNewPoll sys st =
     st
     |> setTimestamp (suc (st .controller .timestamp))
     |> setPollOpen true
@@ -148,8 +148,8 @@ afterAsk sys st =
     |> setChannels (broadcast (sys .workers) 0 (poll (nextPoll st)) (st .channel))
 
 -- the controller polls
-unfoldable pub ask : System → State → Option State
-ask sys st = cond (st .controller .pollOpen) none (some (afterAsk sys st))
+unfoldable pub newPoll : System → State → Option State
+newPoll sys st = cond (st .controller .pollOpen) none (some (afterNewPoll sys st))
 
 -- ---- Read, controller
 

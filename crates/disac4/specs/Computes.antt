@@ -2,7 +2,7 @@
 use Rattle.base.specs.Computes.{base-computes}
 use Rattle.network.specs.Computes.{network-computes}
 use Rattle.plan.specs.Computes.{plan-computes}
-use Rattle.disac4.specs.Action.{broadcast, loses, lowered, deletes, deletions, afterTreat, treat, afterSend, send, afterList, afterPoll, afterDrop, readWorker, afterAnswer, ready, answer, nextPoll, afterAsk, ask, afterCount, allMarked, afterMark, current, readController}
+use Rattle.disac4.specs.Action.{broadcast, loses, lowered, deletes, deletions, afterTreat, treat, afterSend, send, afterList, afterPoll, afterDrop, readWorker, afterAnswer, ready, answer, nextPoll, afterNewPoll, newPoll, afterCount, allMarked, afterMark, current, readController}
 use Rattle.disac4.specs.Event.{eventsAt, holds, unsent, unread, untreated, deleted}
 use Rattle.disac4.specs.Fold.{afterBy, playBy, gatherBy, countBy}
 use Rattle.disac4.specs.Loading.{loadedCounter, unsupported, loadedDeletions, load}
@@ -14,5 +14,5 @@ use Rattle.disac4.specs.Turn.{workerMay, controllerMay, allowed, workerS
 use Rattle.disac4.specs.Worked.{allowedTurns, ran, unsentLabels, findingOf, table}
 
 unfoldable pub disac4-computes : Unit {0}
-unfolding broadcast loses lowered deletes deletions afterTreat treat afterSend send afterList afterPoll afterDrop readWorker afterAnswer ready answer nextPoll afterAsk ask afterCount allMarked afterMark current readController eventsAt holds unsent unread untreated deleted loadedCounter unsupported loadedDeletions load inputFault lowestEmpty statusOf listCells final reportOf others workerRound round roundTurns roundRunTurns systemOf turnBound boundOf workerMay controllerMay allowed workerStep controllerStep afterBy playBy gatherBy countBy step turnAt turnsOf turnListFits turnFault allowedTurns ran unsentLabels findingOf table base-computes network-computes plan-computes
+unfolding broadcast loses lowered deletes deletions afterTreat treat afterSend send afterList afterPoll afterDrop readWorker afterAnswer ready answer nextPoll afterNewPoll newPoll afterCount allMarked afterMark current readController eventsAt holds unsent unread untreated deleted loadedCounter unsupported loadedDeletions load inputFault lowestEmpty statusOf listCells final reportOf others workerRound round roundTurns roundRunTurns systemOf turnBound boundOf workerMay controllerMay allowed workerStep controllerStep afterBy playBy gatherBy countBy step turnAt turnsOf turnListFits turnFault allowedTurns ran unsentLabels findingOf table base-computes network-computes plan-computes
 disac4-computes = tt

@@ -11,7 +11,7 @@ use Rattle.base.specs.Choice.{between}
 use Rattle.faults.specs.Fault.{decline}
 use Rattle.faults.specs.declared.Decline.{Decline}
 use Rattle.faults.specs.declared.Fault.the-variants.{BadTurn}
-use Rattle.disac4.specs.Action.{treat, send, readWorker, answer, ask, readController}
+use Rattle.disac4.specs.Action.{treat, send, readWorker, answer, newPoll, readController}
 use Rattle.disac4.specs.Fold.{isSome, afterBy, playBy, countBy}
 use Rattle.disac4.specs.State.{State}
 use Rattle.disac4.specs.System.{System}
@@ -63,7 +63,7 @@ workerStep sys k d st =
 
 -- what the controller does
 unfoldable pub controllerStep : System → ℕ → State → Option State
-controllerStep sys d st = cond (eqb d pollAction) (ask sys st) (readController sys d st)
+controllerStep sys d st = cond (eqb d pollAction) (newPoll sys st) (readController sys d st)
 
 -- the next state, or nothing where the turn is idle; in a closed plan every turn is
 unfoldable pub step : System → State → Turn → Option State

@@ -21,7 +21,7 @@ use Rattle.sends.specs.Sends.{sendM}
 use Rattle.reads.specs.Reads.{readPollM, readListM}
 use Rattle.answers.specs.Answers.{answerM}
 use Rattle.refinement.specs.Run.{readOn, workerOn, turnOn}
-use Rattle.controller.specs.Controller.{Machine, hearM, pollM}
+use Rattle.controller.specs.Controller.{Machine, controllerReadM, pollM}
 use Rattle.refinement.specs.Step.{withMem, readM, workerM, stepM}
 use Rattle.treating.specs.Treat.{treatM}
 use Rattle.plan.specs.Decode.{planOf}
@@ -80,7 +80,7 @@ module _ (sys : System) (actor action : ℕ) (s : Machine) where
 
   module _ (running : s .tally .closed ≡ false) (ok : allowed (sys .workers) (turn actor action) ≡ true) where
     acts : turnOn sys actor action s
-        ≡ cond (eqb actor 0) (cond (eqb action pollAction) (pollM s) (hearM sys (action - 1) s))
+        ≡ cond (eqb actor 0) (cond (eqb action pollAction) (pollM s) (controllerReadM sys (action - 1) s))
         (withMem (s .tally) (workerM sys (actor - 1) action s))
     unfolding stepM
     acts = cond-false none _ (or-false running (not-of-true ok))
@@ -88,8 +88,8 @@ module _ (sys : System) (actor action : ℕ) (s : Machine) where
     pub turn-polls : actor ≡ 0 → action ≡ pollAction → turnOn sys actor action s ≡ pollM s
     turn-polls e f = acts ∙ (cond-true _ _ (eq-eqb actor 0 e) ∙ cond-true _ _ (eq-eqb action pollAction f))
 
-    pub turn-hears : actor ≡ 0 → (action ≡ pollAction → ⊥) → turnOn sys actor action s ≡ hearM sys (action - 1) s
-    turn-hears e f = acts ∙ (cond-true _ _ (eq-eqb actor 0 e) ∙ cond-false _ _ (ne-eqb action pollAction f))
+    pub controller-turn-reads : actor ≡ 0 → (action ≡ pollAction → ⊥) → turnOn sys actor action s ≡ controllerReadM sys (action - 1) s
+    controller-turn-reads e f = acts ∙ (cond-true _ _ (eq-eqb actor 0 e) ∙ cond-false _ _ (ne-eqb action pollAction f))
 
     pub turn-works : (actor ≡ 0 → ⊥) → turnOn sys actor action s ≡ withMem (s .tally) (workerM sys (actor - 1) action s)
     turn-works e = acts ∙ cond-false _ _ (ne-eqb actor 0 e)

@@ -36,12 +36,12 @@ fn read(cells: &mut [u16], t: Tally, i: usize, d: usize) -> usize
 }
 
 // The action `d` of row `i`.
-fn work(b: &[u8], cells: &mut [u16], t: Tally, i: usize, d: usize) -> usize
-    requires { ⌜ Playable (now b) (now cells) t × (i < workerCount (now b)) × (d < pollAction) ⌝ }
-    ensures { λ r. ⌜ Acts (workerOn (systemAt (now (b .entry))) t i d) (memOf (now (cells .entry))) (memOf (now (cells .exit))) r ⌝ }
+fn work(plan: &[u8], cells: &mut [u16], t: Tally, i: usize, d: usize) -> usize
+    requires { ⌜ Playable (now plan) (now cells) t × (i < workerCount (now plan)) × (d < pollAction) ⌝ }
+    ensures { λ r. ⌜ Acts (workerOn (systemAt (now (plan .entry))) t i d) (memOf (now (cells .entry))) (memOf (now (cells .exit))) r ⌝ }
 {
     if d == TREAT_ACTION {
-        return treating::treat(b, cells, i);
+        return treating::treat(plan, cells, i);
     }
     if d == SEND_ACTION {
         return sends::send(cells, i);
@@ -53,20 +53,20 @@ fn work(b: &[u8], cells: &mut [u16], t: Tally, i: usize, d: usize) -> usize
 }
 
 // One turn of worker k, which is an allowed one of p workers: 1 where it changed something.
-pub fn work_turn(b: &[u8], cells: &mut [u16], t: Tally, p: usize, k: usize, d: usize) -> usize
-    requires { ⌜ Running (now b) (now cells) t × (p ≡ workerCount (now b)) × (0 < k) × (allowed p (turn k d) ≡ true) ⌝ }
-    ensures { λ r. ⌜ Works (now (b .entry)) (turn k d ∷ []) (now (cells .entry)) t (now (cells .exit)) r (cond (eqb d sendAction) r 0) × (r ≤ 1) ⌝ }
+pub fn work_turn(plan: &[u8], cells: &mut [u16], t: Tally, p: usize, k: usize, d: usize) -> usize
+    requires { ⌜ Running (now plan) (now cells) t × (p ≡ workerCount (now plan)) × (0 < k) × (allowed p (turn k d) ≡ true) ⌝ }
+    ensures { λ r. ⌜ Works (now (plan .entry)) (turn k d ∷ []) (now (cells .entry)) t (now (cells .exit)) r (cond (eqb d sendAction) r 0) × (r ≤ 1) ⌝ }
 {
     if t.closed {
         return 0;
     }
-    work(b, cells, t, k - 1, d)
+    work(plan, cells, t, k - 1, d)
 }
 
 // The same for a read alone, without the tests for other actions: most turns of a round are reads.
-pub fn read_turn(b: &[u8], cells: &mut [u16], t: Tally, p: usize, k: usize, j: usize) -> usize
-    requires { ⌜ Running (now b) (now cells) t × (p ≡ workerCount (now b)) × (0 < k) × (j < treatAction) × (allowed p (turn k j) ≡ true) ⌝ }
-    ensures { λ r. ⌜ Works (now (b .entry)) (turn k j ∷ []) (now (cells .entry)) t (now (cells .exit)) r 0 × (r ≤ 1) ⌝ }
+pub fn read_turn(plan: &[u8], cells: &mut [u16], t: Tally, p: usize, k: usize, j: usize) -> usize
+    requires { ⌜ Running (now plan) (now cells) t × (p ≡ workerCount (now plan)) × (0 < k) × (j < treatAction) × (allowed p (turn k j) ≡ true) ⌝ }
+    ensures { λ r. ⌜ Works (now (plan .entry)) (turn k j ∷ []) (now (cells .entry)) t (now (cells .exit)) r 0 × (r ≤ 1) ⌝ }
 {
     if t.closed {
         return 0;
@@ -75,9 +75,9 @@ pub fn read_turn(b: &[u8], cells: &mut [u16], t: Tally, p: usize, k: usize, j: u
 }
 
 // One turn of the controller, which is an allowed one of p workers.
-fn control_turn(b: &[u8], cells: &mut [u16], t: Tally, p: usize, d: usize) -> Controlled
-    requires { ⌜ Playable (now b) (now cells) t × (p ≡ workerCount (now b)) × (allowed p (turn 0 d) ≡ true) ⌝ }
-    ensures { λ r. ⌜ Acts (turnOn (systemAt (now (b .entry))) 0 d) (machine (now (cells .entry)) t) (machine (now (cells .exit)) (r .tally)) (r .changed) ⌝ }
+fn control_turn(plan: &[u8], cells: &mut [u16], t: Tally, p: usize, d: usize) -> Controlled
+    requires { ⌜ Playable (now plan) (now cells) t × (p ≡ workerCount (now plan)) × (allowed p (turn 0 d) ≡ true) ⌝ }
+    ensures { λ r. ⌜ Acts (turnOn (systemAt (now (plan .entry))) 0 d) (machine (now (cells .entry)) t) (machine (now (cells .exit)) (r .tally)) (r .changed) ⌝ }
 {
     if t.closed {
         return Controlled {
@@ -88,16 +88,16 @@ fn control_turn(b: &[u8], cells: &mut [u16], t: Tally, p: usize, d: usize) -> Co
     if d == POLL_ACTION {
         return controller::poll(cells, t);
     }
-    lent::heard(cells, t, p, d - 1)
+    lent::read_by_value(cells, t, p, d - 1)
 }
 
 // One turn more of the controller.
-pub fn control(b: &[u8], cells: &mut [u16], g: Progress, p: usize, d: usize) -> Progress
-    requires { ⌜ Going (now b) (now cells) g × (p ≡ workerCount (now b)) × (allowed p (turn 0 d) ≡ true) ⌝ }
-    ensures { λ r. ⌜ Plays (now (b .entry)) (turn 0 d ∷ []) (now (cells .entry)) g (now (cells .exit)) r ⌝ }
+pub fn control(plan: &[u8], cells: &mut [u16], g: Progress, p: usize, d: usize) -> Progress
+    requires { ⌜ Going (now plan) (now cells) g × (p ≡ workerCount (now plan)) × (allowed p (turn 0 d) ≡ true) ⌝ }
+    ensures { λ r. ⌜ Plays (now (plan .entry)) (turn 0 d ∷ []) (now (cells .entry)) g (now (cells .exit)) r ⌝ }
 {
     let t = g.tally;
-    let h = control_turn(b, cells, t, p, d);
+    let h = control_turn(plan, cells, t, p, d);
     let changed = h.changed;
     let after = h.tally;
     Progress {
@@ -117,21 +117,21 @@ fn if_action(a: usize, d: usize, changed: usize) -> usize
 
 // One turn more, which is an allowed one of p workers.
 pub fn advance(
-    b: &[u8],
+    plan: &[u8],
     cells: &mut [u16],
     g: Progress,
     p: usize,
     actor: usize,
     action: usize,
 ) -> Progress
-    requires { ⌜ Going (now b) (now cells) g × (p ≡ workerCount (now b)) × (allowed p (turn actor action) ≡ true) ⌝ }
-    ensures { λ r. ⌜ Plays (now (b .entry)) (turn actor action ∷ []) (now (cells .entry)) g (now (cells .exit)) r ⌝ }
+    requires { ⌜ Going (now plan) (now cells) g × (p ≡ workerCount (now plan)) × (allowed p (turn actor action) ≡ true) ⌝ }
+    ensures { λ r. ⌜ Plays (now (plan .entry)) (turn actor action ∷ []) (now (cells .entry)) g (now (cells .exit)) r ⌝ }
 {
     if actor == 0 {
-        return control(b, cells, g, p, action);
+        return control(plan, cells, g, p, action);
     }
     let t = g.tally;
-    let changed = work_turn(b, cells, t, p, actor, action);
+    let changed = work_turn(plan, cells, t, p, actor, action);
     Progress {
         tally: t,
         changes: g.changes + changed,

@@ -13,14 +13,14 @@ use Rattle.base.proofs.Choice.{cond-true, cond-false}
 use Rattle.base.proofs.Loops.{loop-same, loop-from}
 use Rattle.base.specs.Below.{loop}
 use Rattle.base.specs.Bytes.{wordAt}
-use Rattle.faults.proofs.Checks.{each-holds}
 use Rattle.plan.proofs.Faults.{sound-section}
 use Rattle.plan.proofs.InOrder.{InOrder, ordered}
 use Rattle.plan.proofs.Parts.{variables-read, constraints-read, size-read}
+use Rattle.plan.proofs.SectionSays.{head-says, variable-says, constraint-says}
 use Rattle.plan.proofs.Sections.{each-section, section-complete}
 use Rattle.plan.proofs.WellFormed.{read-well-formed}
 use Rattle.faults.specs.CheckList.{firstFault}
-use Rattle.plan.specs.Check.{headChecks, variableChecks, constraintChecks, constraintLength}
+use Rattle.plan.specs.Check.{constraintLength}
 use Rattle.plan.specs.Decode.{planFault, planOf}
 use Rattle.format.specs.Format.{sectionStart, variableCount, constraintCount, sectionCount, sizeAt, firstAt, kindAt, numberedSize}
 use Rattle.format.specs.Limits.{maxVariables, maxValues, maxConstraints, rowBytes}
@@ -65,26 +65,25 @@ module _ (b : List ℕ) (none-found : planFault b ≡ none) where
       (decided (eqb (kindAt b at) 0))
 
   section-short : (k : ℕ) → k < sectionCount b → wordAt b (sectionStart b k) ≤ maxSection
-  unfolding headChecks variableChecks constraintChecks
   section-short k h =
       let at = sectionStart b k in
       each-section (λ cs. firstFault cs ≡ none → wordAt b (sectionStart b k) ≤ maxSection) b k
-      (λ e. omega (arith, eqb-true (wordAt b at) 3 (each-holds (headChecks b at) e 1)))
+      (λ e. omega (arith, eqb-true (wordAt b at) 3 (head-says b at e .exact)))
       (λ e.
       omega (
         arith,
-        leb-true (sizeAt b at) maxValues (each-holds (variableChecks b at) e 2),
-        eqb-true (wordAt b at) (2 + 4 * sizeAt b at) (each-holds (variableChecks b at) e 3),
+        leb-true (sizeAt b at) maxValues (variable-says b at e .few-values),
+        eqb-true (wordAt b at) (2 + 4 * sizeAt b at) (variable-says b at e .exact),
       ))
       (λ e.
       omega (
         arith,
-        eqb-true (wordAt b at) (constraintLength b at) (each-holds (constraintChecks b at) e 4),
-        constraint-short at (ordered b at (each-holds (constraintChecks b at) e 3)),
+        eqb-true (wordAt b at) (constraintLength b at) (constraint-says b at e .exact),
+        constraint-short at (ordered b at (constraint-says b at e .in-order)),
       ))
       (sound-section b none-found k h)
 
-  start-low : (k : ℕ) → k ≤ sectionCount b → sectionStart b k ≤ 1 + 68 * k
+  start-low : (k : ℕ) → k ≤ sectionCount b → sectionStart b k ≤ 1 + (2 + maxSection) * k
   unfolding sectionStart
   start-low zero h = omega arith
   start-low (suc k) h = omega (arith, start-low k (omega arith), section-short k h)

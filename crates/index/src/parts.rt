@@ -19,19 +19,19 @@ ghost use Rattle.cells.specs.Layout.{COUNTERMAX};
 ghost use Rattle.cells.specs.View.{Numbered, counterRow};
 
 // Where section k starts.
-pub fn place(b: &[u8], cells: &[u16], k: usize) -> usize
-    requires { ⌜ Located (now b) (now cells) × (k < sectionCount (now b)) ⌝ }
-    ensures { λ r. ⌜ Placed (now (b .entry)) r k ⌝ }
+pub fn place(plan: &[u8], cells: &[u16], k: usize) -> usize
+    requires { ⌜ Located (now plan) (now cells) × (k < sectionCount (now plan)) ⌝ }
+    ensures { λ r. ⌜ Placed (now (plan .entry)) r k ⌝ }
 {
     layout::get(cells, layout::PLACES, 0, k)
 }
 
 // The worker that owns variable x.
-pub fn owner(b: &[u8], cells: &[u16], x: usize) -> usize
-    requires { ⌜ Located (now b) (now cells) × (x < variableCount (now b)) ⌝ }
-    ensures { λ r. ⌜ (r ≡ systemAt (now (b .entry)) .owner x) × (0 < r) × (r ≤ maxWorkers) ⌝ }
+pub fn owner(plan: &[u8], cells: &[u16], x: usize) -> usize
+    requires { ⌜ Located (now plan) (now cells) × (x < variableCount (now plan)) ⌝ }
+    ensures { λ r. ⌜ (r ≡ systemAt (now (plan .entry)) .owner x) × (0 < r) × (r ≤ maxWorkers) ⌝ }
 {
-    read::owner(b, place(b, cells, x + 1))
+    read::owner(plan, place(plan, cells, x + 1))
 }
 
 // The row of the counters of x against y.
@@ -52,9 +52,9 @@ pub fn linked(cells: &[u16], x: usize, y: usize) -> bool
 }
 
 // How many values a variable has.
-pub fn size(b: &[u8], cells: &[u16], x: usize) -> usize
-    requires { ⌜ Ready (now b) (now cells) × (x < variableCount (now b)) ⌝ }
-    ensures { λ r. ⌜ (r ≡ sizeOf (planOf (now (b .entry))) x) × (r ≤ maxValues) ⌝ }
+pub fn size(plan: &[u8], cells: &[u16], x: usize) -> usize
+    requires { ⌜ Ready (now plan) (now cells) × (x < variableCount (now plan)) ⌝ }
+    ensures { λ r. ⌜ (r ≡ sizeOf (planOf (now (plan .entry))) x) × (r ≤ maxValues) ⌝ }
 {
-    read::size(b, place(b, cells, x + 1))
+    read::size(plan, place(plan, cells, x + 1))
 }

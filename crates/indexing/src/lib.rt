@@ -16,16 +16,16 @@ ghost use Rattle.cells.specs.Memory.{memOf};
 ghost use Rattle.plan.specs.Decode.{planFault};
 
 // Where each section starts.
-fn index_places(b: &[u8], cells: &mut [u16])
-    requires { ⌜ (planFault (now b) ≡ none) × (workNeed ≤ length (now cells)) ⌝ }
-    ensures { λ _. ⌜ memOf (now (cells .exit)) ≡ placesM (now (b .entry)) (memOf (now (cells .entry))) ⌝ }
+fn index_places(plan: &[u8], cells: &mut [u16])
+    requires { ⌜ (planFault (now plan) ≡ none) × (workNeed ≤ length (now cells)) ⌝ }
+    ensures { λ _. ⌜ memOf (now (cells .exit)) ≡ placesM (now (plan .entry)) (memOf (now (cells .entry))) ⌝ }
 {
-    let count = read::section_count(b);
+    let count = read::section_count(plan);
     let mut at = 1;
     let mut k = 0;
     while k < count {
         layout::put(cells, layout::PLACES, 0, k, at);
-        at = read::behind(b, at);
+        at = read::behind(plan, at);
         k += 1;
     }
 }
@@ -42,19 +42,19 @@ fn link(cells: &mut [u16], x: usize, y: usize, c: usize)
 }
 
 // The chains, from the first constraint to the last.
-fn index_chains(b: &[u8], cells: &mut [u16])
-    requires { ⌜ Located (now b) (now cells) ⌝ }
-    ensures { λ _. ⌜ memOf (now (cells .exit)) ≡ chainsM (now (b .entry)) (memOf (now (cells .entry))) ⌝ }
+fn index_chains(plan: &[u8], cells: &mut [u16])
+    requires { ⌜ Located (now plan) (now cells) ⌝ }
+    ensures { λ _. ⌜ memOf (now (cells .exit)) ≡ chainsM (now (plan .entry)) (memOf (now (cells .entry))) ⌝ }
 {
-    let variables = read::variable_count(b);
-    let count = read::constraint_count(b);
+    let variables = read::variable_count(plan);
+    let count = read::constraint_count(plan);
     let mut c = 0;
     while c < count {
-        let at = parts::place(b, cells, variables + c + 1);
+        let at = parts::place(plan, cells, variables + c + 1);
         link(
             cells,
-            constraint::first(b, at) - 1,
-            constraint::second(b, at) - 1,
+            constraint::first(plan, at) - 1,
+            constraint::second(plan, at) - 1,
             c,
         );
         c += 1;
@@ -86,24 +86,24 @@ fn leads(cells: &mut [u16], i: usize, x: usize, n: usize)
 }
 
 // The chains of the workers' own variables, from the last variable to the first, so that they ascend.
-fn index_own(b: &[u8], cells: &mut [u16])
-    requires { ⌜ Located (now b) (now cells) ⌝ }
-    ensures { λ _. ⌜ memOf (now (cells .exit)) ≡ ownM (now (b .entry)) (memOf (now (cells .entry))) ⌝ }
+fn index_own(plan: &[u8], cells: &mut [u16])
+    requires { ⌜ Located (now plan) (now cells) ⌝ }
+    ensures { λ _. ⌜ memOf (now (cells .exit)) ≡ ownM (now (plan .entry)) (memOf (now (cells .entry))) ⌝ }
 {
-    let n = read::variable_count(b);
+    let n = read::variable_count(plan);
     let mut x = n;
     while x != 0 {
         x -= 1;
-        leads(cells, parts::owner(b, cells, x) - 1, x, n);
+        leads(cells, parts::owner(plan, cells, x) - 1, x, n);
     }
 }
 
 // Writes the index of an accepted plan. The chains grow from what the cells hold, so a run clears them first.
-pub fn index_plan(b: &[u8], cells: &mut [u16])
-    requires { ⌜ (planFault (now b) ≡ none) × (workNeed ≤ length (now cells)) ⌝ }
-    ensures { λ _. ⌜ memOf (now (cells .exit)) ≡ indexM (now (b .entry)) (memOf (now (cells .entry))) ⌝ }
+pub fn index_plan(plan: &[u8], cells: &mut [u16])
+    requires { ⌜ (planFault (now plan) ≡ none) × (workNeed ≤ length (now cells)) ⌝ }
+    ensures { λ _. ⌜ memOf (now (cells .exit)) ≡ indexM (now (plan .entry)) (memOf (now (cells .entry))) ⌝ }
 {
-    index_places(b, cells);
-    index_chains(b, cells);
-    index_own(b, cells);
+    index_places(plan, cells);
+    index_chains(plan, cells);
+    index_own(plan, cells);
 }

@@ -13,11 +13,11 @@ use Rattle.base.proofs.Below.{below-cases, first-at, first-more}
 use Rattle.base.specs.Below.{firstBelow}
 use Rattle.format.specs.Format.{behind, sectionStart, variableCount, sectionCount, numberedSize}
 use Rattle.format.specs.Limits.{maxVariables, maxValues}
-use Rattle.faults.proofs.Checks.{each-holds}
+use Rattle.plan.proofs.SectionSays.{variable-says}
 use Rattle.plan.proofs.Head.{head-fits}
 use Rattle.plan.proofs.Sections.{passed-before, start-within}
 use Rattle.faults.specs.CheckList.{firstFault, faultAt, verdictOf}
-use Rattle.plan.specs.Check.{variableChecks, sectionChecks, sectionFault}
+use Rattle.plan.specs.Check.{sectionChecks, sectionFault}
 use Rattle.plan.specs.Decode.{trailingFault, sectionsFault}
 use Rattle.faults.specs.Fault.{decline}
 use Rattle.sections.specs.Known.{VariablesKnown, startCount}
@@ -42,11 +42,10 @@ module _ (b starts : List ℕ) (k : ℕ) (known : PassedBefore b starts k) where
   few-variables h = head-fits b (sectionStart b 0) (passes 0 h) .variables-high
 
   few-values : (s : ℕ) → 1 ≤ s → s ≤ variableCount b → s < k → numberedSize b s ≤ maxValues
-  unfolding sectionChecks variableChecks
+  unfolding sectionChecks
   few-values s l h p =
       leb-true (numberedSize b s) maxValues
-      (each-holds (variableChecks b (sectionStart b s))
-      (rw (ne-eqb s 0 (omega arith), le-leb s (variableCount b) h) at (passes s p)) 2)
+      (variable-says b (sectionStart b s) (rw (ne-eqb s 0 (omega arith), le-leb s (variableCount b) h) at (passes s p)) .few-values)
 
   -- behind the variables' sections, the variables are known
   pub variables-known : 0 < length b → variableCount b < k → VariablesKnown b starts

@@ -41,67 +41,67 @@ fn keep_start(starts: &mut Starts, k: usize, at: usize)
 }
 
 // The checks of section k: of the head, a variable or a constraint.
-fn check_section(b: &[u8], k: usize, at: usize, starts: &Starts) -> Verdict
-    requires { ⌜ PassedBefore (now b) (now starts) k × (at ≡ sectionStart (now b) k) × (at ≤ length (now b)) × (1 ≤ length (now b)) ⌝ }
-    ensures { λ r. ⌜ r ≡ verdictOf (firstFault (sectionChecks (now (b .entry)) k)) ⌝ }
+fn check_section(plan: &[u8], k: usize, at: usize, starts: &Starts) -> Verdict
+    requires { ⌜ PassedBefore (now plan) (now starts) k × (at ≡ sectionStart (now plan) k) × (at ≤ length (now plan)) × (1 ≤ length (now plan)) ⌝ }
+    ensures { λ r. ⌜ r ≡ verdictOf (firstFault (sectionChecks (now (plan .entry)) k)) ⌝ }
 {
     if k == 0 {
-        return section::check_head(b, at);
+        return section::check_head(plan, at);
     }
-    if k <= read::variable_count(b) {
-        return variable::check_variable(b, at);
+    if k <= read::variable_count(plan) {
+        return variable::check_variable(plan, at);
     }
-    constraint::check_constraint(b, at, starts)
+    constraint::check_constraint(plan, at, starts)
 }
 
 // L: how many values the variables have together.
-fn count_labels(b: &[u8], starts: &Starts) -> usize
-    requires { ⌜ VariablesKnown (now b) (now starts) ⌝ }
-    ensures { λ r. ⌜ r ≡ labelCount (networkOf (planOf (now (b .entry)))) ⌝ }
+fn count_labels(plan: &[u8], starts: &Starts) -> usize
+    requires { ⌜ VariablesKnown (now plan) (now starts) ⌝ }
+    ensures { λ r. ⌜ r ≡ labelCount (networkOf (planOf (now (plan .entry)))) ⌝ }
 {
-    let count = read::variable_count(b);
+    let count = read::variable_count(plan);
     let mut labels = 0;
     let mut x = 0;
     while x < count {
-        labels += variable::numbered_size(b, starts, x + 1);
+        labels += variable::numbered_size(plan, starts, x + 1);
         x += 1;
     }
     labels
 }
 
 // What is left to check behind the last section, which ends at `at`.
-fn check_end(b: &[u8], at: usize, starts: &Starts) -> Checked
-    requires { ⌜ VariablesKnown (now b) (now starts) × (at ≡ planEnd (now b)) ⌝ }
-    ensures { λ r. ⌜ r ≡ checkOf (now (b .entry)) (trailingFault (now (b .entry))) ⌝ }
+fn check_end(plan: &[u8], at: usize, starts: &Starts) -> Checked
+    requires { ⌜ VariablesKnown (now plan) (now starts) × (at ≡ planEnd (now plan)) ⌝ }
+    ensures { λ r. ⌜ r ≡ checkOf (now (plan .entry)) (trailingFault (now (plan .entry))) ⌝ }
 {
-    if at < b.len() {
+    if at < plan.len() {
         return declined(Fault::TrailingBytes, at);
     }
     Checked::Accepted(Counts {
-        workers: read::worker_count(b),
-        variables: read::variable_count(b),
-        constraints: read::constraint_count(b),
-        labels: count_labels(b, starts),
+        workers: read::worker_count(plan),
+        variables: read::variable_count(plan),
+        constraints: read::constraint_count(plan),
+        labels: count_labels(plan, starts),
     })
 }
 
 // The sections in turn, and what follows them. A head out of range ends the scan at once, so that its counts can be trusted.
-pub fn check_sections(b: &[u8]) -> Checked
-    requires { ⌜ 1 ≤ length (now b) ⌝ }
-    ensures { λ r. ⌜ r ≡ checkOf (now (b .entry)) (sectionsFault (now (b .entry))) ⌝ }
+pub fn check_sections(plan: &[u8]) -> Checked
+    requires { ⌜ 1 ≤ length (now plan) ⌝ }
+    ensures { λ r. ⌜ r ≡ checkOf (now (plan .entry)) (sectionsFault (now (plan .entry))) ⌝ }
 {
-    let count = read::section_count(b);
+    let count = read::section_count(plan);
     let mut starts = no_starts();
     let mut at = 1;
     let mut k = 0;
     while k < count {
-        let verdict = check_section(b, k, at, &starts);
+        let verdict = check_section(plan, k, at, &starts);
         if let Verdict::Fails(fault) = verdict {
             return declined(fault, at);
         }
         keep_start(&mut starts, k, at);
-        at = read::behind(b, at);
+        at = read::behind(plan, at);
         k += 1;
     }
-    check_end(b, at, &starts)
+    check_end(plan, at, &starts)
 }

@@ -12,16 +12,14 @@ use Rattle.base.proofs.Below.{all-below, length-list-below, getD-list-below}
 use Rattle.base.proofs.Choice.{cond-true, by-test}
 use Rattle.base.specs.Below.{allBelow, listBelow}
 use Rattle.format.specs.Format.{constraintStart, constraintCount, firstAt, secondAt, kindAt, tableRowAt, numberedSize}
-use Rattle.faults.proofs.Checks.{each-holds}
 use Rattle.plan.proofs.InOrder.{InOrder, ordered}
 use Rattle.plan.proofs.Parts.{variables-read, constraint-read, size-read}
 use Rattle.plan.proofs.Passed.{constraint-passed}
-use Rattle.faults.specs.CheckList.{_orElse_}
-use Rattle.plan.specs.Check.{tableFits, constraintChecks}
+use Rattle.plan.proofs.SectionSays.{ConstraintSays, constraint-says}
+use Rattle.plan.specs.Check.{tableFits}
 use Rattle.plan.specs.Decode.{planFault, relationAt, constraintAt, planOf}
 use Rattle.plan.specs.Plan.{table, sizeOf, constraintOf}
 use Rattle.plan.specs.WellFormed.{ConstraintFits}
-use Rattle.faults.specs.declared.Fault.the-variants.{Truncated}
 
 -- a relation is a table only where the kind is 0, and then its rows are those of the bytes
 table-read : (b : List ℕ) (at : ℕ) (rows : List ℕ) → relationAt b at ≡ table rows
@@ -38,13 +36,12 @@ module _ (b : List ℕ) (none-found : planFault b ≡ none) (c : ℕ) (h : c < c
   abbrev second : ℕ
   second = secondAt b (constraintStart b c)
 
-  constraint-holds : (i : ℕ) → getD (constraintChecks b (constraintStart b c)) i (true orElse Truncated) .holds ≡ true
-  constraint-holds = each-holds (constraintChecks b (constraintStart b c)) (constraint-passed b none-found c h)
+  says : ConstraintSays b (constraintStart b c)
+  says = constraint-says b (constraintStart b c) (constraint-passed b none-found c h)
 
   -- the numbers of its variables are in order
   pub in-order : InOrder b (constraintStart b c)
-  unfolding constraintChecks
-  in-order = ordered b (constraintStart b c) (constraint-holds 3)
+  in-order = ordered b (constraintStart b c) (says .in-order)
 
   row-each : (rows : List ℕ) → relationAt b (constraintStart b c) ≡ table rows → (x : ℕ) → first ≡ suc x
       → length rows ≡ sizeOf (planOf b) x
@@ -54,7 +51,7 @@ module _ (b : List ℕ) (none-found : planFault b ≡ none) (c : ℕ) (h : c < c
 
   rows-fit : (rows : List ℕ) → relationAt b (constraintStart b c) ≡ table rows → (y : ℕ) → second ≡ suc y
       → (v : ℕ) → v < length rows → getD rows v 0 < 2 ^ sizeOf (planOf b) y
-  unfolding constraintChecks tableFits
+  unfolding tableFits
   rows-fit rows e y p v q =
       let is : rows ≡ listBelow (numberedSize b first) (tableRowAt b (constraintStart b c)) = table-read b (constraintStart b c) rows e .1 in
       let k : v < numberedSize b first =
@@ -63,7 +60,7 @@ module _ (b : List ℕ) (none-found : planFault b ≡ none) (c : ℕ) (h : c < c
       sym
       (cond-true (allBelow (numberedSize b first) (λ v. ltb (tableRowAt b (constraintStart b c) v) (2 ^ numberedSize b second))) true
       (table-read b (constraintStart b c) rows e .0))
-      ∙ constraint-holds 5 in
+      ∙ says .bits-fit in
       let row : getD rows v 0 ≡ tableRowAt b (constraintStart b c) v =
       ap (λ (l : List ℕ). getD l v 0) is ∙ getD-list-below (numberedSize b first) (tableRowAt b (constraintStart b c)) 0 v k in
       let size : sizeOf (planOf b) y ≡ numberedSize b second =

@@ -11,7 +11,7 @@ use Rattle.base.proofs.Choice.{between-low, between-high}
 use Rattle.base.specs.Choice.{between}
 use Rattle.format.specs.Format.{workerCount, variableCount, constraintCount}
 use Rattle.format.specs.Limits.{maxWorkers, maxVariables, maxConstraints}
-use Rattle.faults.proofs.Checks.{each-holds}
+use Rattle.plan.proofs.SectionSays.{head-says}
 use Rattle.faults.specs.CheckList.{firstFault}
 use Rattle.plan.specs.Check.{headInRange, headChecks}
 
@@ -25,12 +25,12 @@ pub record HeadFits (b : List ℕ) : Type 0 where
 
 -- they are so where no check of the head fails
 pub head-fits : (b : List ℕ) (at : ℕ) → firstFault (headChecks b at) ≡ none → HeadFits b
-unfolding headChecks headInRange
+unfolding headInRange
 head-fits b at passed =
     let workers : Bool = between 1 maxWorkers (workerCount b) in
     let variables : Bool = between 1 maxVariables (variableCount b) in
     let constraints : Bool = leb (constraintCount b) maxConstraints in
-    let all : workers && variables && constraints ≡ true = each-holds (headChecks b at) passed 2 in
+    let all : workers && variables && constraints ≡ true = head-says b at passed .in-range in
     let both : workers && variables ≡ true = and-left (workers && variables) constraints all in
     record {
       workers-low = between-low 1 maxWorkers (workerCount b) (and-left workers variables both);

@@ -9,6 +9,7 @@ pub mod Pairs
 pub mod Parts
 pub mod Passed
 pub mod PlanCounts
+pub mod SectionSays
 pub mod Sections
 pub mod Variables
 pub mod WellFormed

@@ -13,8 +13,9 @@ use Rattle.base.proofs.Choice.{none≢some, some-same}
 use Rattle.base.specs.Below.{firstBelow}
 use Rattle.base.specs.Choice.{allOf, between}
 use Rattle.format.specs.Format.{sectionStart, variableCount}
-use Rattle.faults.proofs.Checks.{each-holds, fault-among}
+use Rattle.faults.proofs.Checks.{fault-among}
 use Rattle.faults.specs.CheckList.{Check, firstFault, faultAt}
+use Rattle.plan.proofs.SectionSays.{head-says, variable-says, constraint-says}
 use Rattle.plan.specs.Check.{complete, headChecks, variableChecks, constraintChecks, sectionChecks, sectionFault}
 use Rattle.faults.specs.Fault.{numberOf}
 use Rattle.faults.specs.declared.Decline.{Decline}
@@ -35,12 +36,12 @@ each-section P b k head variable constraint = go (eqb k 0) (leb k (variableCount
 
 -- a section without fault is not cut off
 pub section-complete : (b : List ℕ) (k : ℕ) → firstFault (sectionChecks b k) ≡ none → sectionStart b (suc k) ≤ length b
-unfolding headChecks variableChecks constraintChecks complete sectionStart
+unfolding complete sectionStart
 section-complete b k =
     each-section (λ cs. firstFault cs ≡ none → sectionStart b (suc k) ≤ length b) b k
-    (λ e. leb-true (sectionStart b (suc k)) (length b) (each-holds (headChecks b (sectionStart b k)) e 0))
-    (λ e. leb-true (sectionStart b (suc k)) (length b) (each-holds (variableChecks b (sectionStart b k)) e 0))
-    (λ e. leb-true (sectionStart b (suc k)) (length b) (each-holds (constraintChecks b (sectionStart b k)) e 0))
+    (λ e. leb-true (sectionStart b (suc k)) (length b) (head-says b (sectionStart b k) e .whole))
+    (λ e. leb-true (sectionStart b (suc k)) (length b) (variable-says b (sectionStart b k) e .whole))
+    (λ e. leb-true (sectionStart b (suc k)) (length b) (constraint-says b (sectionStart b k) e .whole))
 
 -- a section's checks give the numbers 1 to 7 alone
 pub section-number : (b : List ℕ) (k : ℕ) (f : Fault) → firstFault (sectionChecks b k) ≡ some f → between 1 7 (numberOf f) ≡ true

@@ -7,49 +7,45 @@ use mathlib.Core.Path.{_≡_, sym, _∙_, ap}
 use native.Mathlib.Omega.{arith}
 use borrow.Author.Tests.{leb-true, eqb-false, not-true}
 use lib.Dec.{eqb}
-use lib.ListN.{getD}
 use Rattle.base.proofs.Below.{none-below}
 use Rattle.base.proofs.Choice.{between-low, between-high}
 use Rattle.base.specs.Below.{anyBelow}
 use Rattle.base.specs.Choice.{between}
 use Rattle.format.specs.Format.{sectionStart, workerCount, variableCount, sizeAt, codeAt, numberedSize}
 use Rattle.format.specs.Limits.{maxValues}
-use Rattle.faults.proofs.Checks.{each-holds}
 use Rattle.plan.proofs.Parts.{variable-read, size-read, value-read}
 use Rattle.plan.proofs.Passed.{variable-passed}
-use Rattle.faults.specs.CheckList.{_orElse_}
-use Rattle.plan.specs.Check.{repeatsCode, variableChecks}
+use Rattle.plan.proofs.SectionSays.{VariableSays, variable-says}
+use Rattle.plan.specs.Check.{repeatsCode}
 use Rattle.plan.specs.Decode.{planFault, variableAt, planOf}
 use Rattle.plan.specs.Plan.{Value, variableOf, valueOf, sizeOf}
 use Rattle.plan.specs.WellFormed.{VariableFits}
-use Rattle.faults.specs.declared.Fault.the-variants.{Truncated}
 
 -- the variable of section x + 1
 module _ (b : List ℕ) (none-found : planFault b ≡ none) (x : ℕ) (h : x < variableCount b) where
   abbrev variable-start : ℕ
   variable-start = sectionStart b (suc x)
 
-  variable-holds : (i : ℕ) → getD (variableChecks b variable-start) i (true orElse Truncated) .holds ≡ true
-  variable-holds = each-holds (variableChecks b variable-start) (variable-passed b none-found x h)
+  says : VariableSays b variable-start
+  says = variable-says b variable-start (variable-passed b none-found x h)
 
   owner-range : between 1 (workerCount b) (variableOf (planOf b) x .owner) ≡ true
-  unfolding variableChecks variableAt
-  owner-range = rw (variable-read b x h) (variable-holds 4)
+  unfolding variableAt
+  owner-range = rw (variable-read b x h) (says .owned)
 
   size-range : sizeOf (planOf b) x ≤ maxValues
-  unfolding variableChecks
-  size-range = rw (size-read b x h) (leb-true (sizeAt b variable-start) maxValues (variable-holds 2))
+  size-range = rw (size-read b x h) (leb-true (sizeAt b variable-start) maxValues (says .few-values))
 
   code-read : (v : ℕ) → v < numberedSize b (suc x) → valueOf (planOf b) x v .code ≡ codeAt b variable-start v
   code-read v k = ap (λ (a : Value). a .code) (value-read b x h v k)
 
   codes-differ : (u v : ℕ) → u < v → v < sizeOf (planOf b) x → valueOf (planOf b) x u .code ≡ valueOf (planOf b) x v .code → ⊥
-  unfolding variableChecks repeatsCode
+  unfolding repeatsCode
   codes-differ u v p q e =
       let k : v < numberedSize b (suc x) = omega (arith, size-read b x h) in
       let t : ℕ → ℕ → Bool = λ w u. eqb (codeAt b variable-start u) (codeAt b variable-start w) in
       let none-repeats : anyBelow v (t v) ≡ false =
-      none-below (numberedSize b (suc x)) (λ w. anyBelow w (t w)) (not-true (repeatsCode b variable-start) (variable-holds 5)) v k in
+      none-below (numberedSize b (suc x)) (λ w. anyBelow w (t w)) (not-true (repeatsCode b variable-start) (says .codes-differ)) v k in
       eqb-false (codeAt b variable-start u) (codeAt b variable-start v) (none-below v (t v) none-repeats u p)
       (sym (code-read u (omega arith)) ∙ e ∙ code-read v k)
 

@@ -18,7 +18,7 @@ mod settle;
 
 // One turn more, which is passed over where it is known to be idle.
 fn next_turn(
-    b: &[u8],
+    plan: &[u8],
     cells: &mut [u16],
     g: Progress,
     p: usize,
@@ -26,13 +26,13 @@ fn next_turn(
     actor: usize,
     action: usize,
 ) -> Progress
-    requires { ⌜ Going (now b) (now cells) g × (p ≡ workerCount (now b)) × (allowed p (turn actor action) ≡ true) × KnownIdle (now b) (now cells) (g .tally) (now table) ⌝ }
-    ensures { λ r. ⌜ Plays (now (b .entry)) (turn actor action ∷ []) (now (cells .entry)) g (now (cells .exit)) r × KnownIdle (now (b .entry)) (now (cells .exit)) (r .tally) (now (table .exit)) ⌝ }
+    requires { ⌜ Going (now plan) (now cells) g × (p ≡ workerCount (now plan)) × (allowed p (turn actor action) ≡ true) × KnownIdle (now plan) (now cells) (g .tally) (now table) ⌝ }
+    ensures { λ r. ⌜ Plays (now (plan .entry)) (turn actor action ∷ []) (now (cells .entry)) g (now (cells .exit)) r × KnownIdle (now (plan .entry)) (now (cells .exit)) (r .tally) (now (table .exit)) ⌝ }
 {
     if is_set(table, actor, action) {
         return g;
     }
-    let after = run::advance(b, cells, g, p, actor, action);
+    let after = run::advance(plan, cells, g, p, actor, action);
     if after.changes == g.changes {
         idle::note(table, actor, action, true);
         return after;
@@ -46,9 +46,9 @@ fn next_turn(
 }
 
 // Plays the turns of the list, which are all allowed.
-pub fn play_turns(b: &[u8], list: &[u8], cells: &mut [u16], g: Progress, p: usize) -> Progress
-    requires { ⌜ Going (now b) (now cells) g × (p ≡ workerCount (now b)) × (turnFault p (now list) ≡ none) ⌝ }
-    ensures { λ r. ⌜ Plays (now (b .entry)) (turnsOf (now (list .entry))) (now (cells .entry)) g (now (cells .exit)) r ⌝ }
+pub fn play_turns(plan: &[u8], list: &[u8], cells: &mut [u16], g: Progress, p: usize) -> Progress
+    requires { ⌜ Going (now plan) (now cells) g × (p ≡ workerCount (now plan)) × (turnFault p (now list) ≡ none) ⌝ }
+    ensures { λ r. ⌜ Plays (now (plan .entry)) (turnsOf (now (list .entry))) (now (cells .entry)) g (now (cells .exit)) r ⌝ }
 {
     let count = list.len() / 2;
     let mut table = idle::none_known();
@@ -56,7 +56,7 @@ pub fn play_turns(b: &[u8], list: &[u8], cells: &mut [u16], g: Progress, p: usiz
     let mut i = 0;
     while i < count {
         at = next_turn(
-            b,
+            plan,
             cells,
             at,
             p,

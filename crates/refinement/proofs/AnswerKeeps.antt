@@ -21,7 +21,7 @@ use Rattle.cells.specs.View.{LISTMARK}
 use Rattle.refinement.proofs.Capacity.{risen}
 use Rattle.refinement.proofs.InvKept.{OnlyRow, only-store, only-same, worker-action}
 use Rattle.refinement.specs.Inv.{Row, Polled, Replied, Totals, Inv, OutCounted}
-use Rattle.refinement.proofs.Outgoing.{Put, put-out, put-lists, put-counted, put-heard}
+use Rattle.refinement.proofs.Outgoing.{Put, put-out, put-lists, put-counted, put-lists-read}
 
 -- wanted counts rise from poll to poll
 wanted-later : (m : Mem) (t : Tally) → Polled m t → (n n′ : ℕ) → 0 < n → n ≤ n′ → n′ ≤ t .timestamp .0
@@ -75,10 +75,10 @@ module _ (sys : System) (m : Mem) (t : Tally) (i : ℕ) (inv : Inv sys (record {
         all-out = λ k p.
             put-counted i (m WORKERS i HELD) m (answeredM i m) (put i m)
             (omega (arith, ap one (lt-leb LISTMARK (m WORKERS i HELD) (omega (arith, may .known))))) (λ k n. refl) k (u .all-out k p);
-        heard =
-            u .heard
+        lists-read =
+            u .lists-read
             ∙ sym
-            (put-heard i (m WORKERS i HELD) m (answeredM i m) (put i m) (sys .workers) (λ k p. inv .rows k p .out-read));
+            (put-lists-read i (m WORKERS i HELD) m (answeredM i m) (put i m) (sys .workers) (λ k p. inv .rows k p .out-read));
       }
 
   -- the poll that was answered was sent

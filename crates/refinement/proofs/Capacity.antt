@@ -145,12 +145,12 @@ module _ (sys : System) (small : Small sys) (s : Machine) (inv : Inv sys s) wher
       )
 
   -- the controller's
-  pub heard-few : s .tally .lists .0 ≤ LABELROOM
-  heard-few =
+  pub lists-read-few : s .tally .lists .0 ≤ LABELROOM
+  lists-read-few =
       omega (
         arith,
         sends-small,
-        inv .totals .heard,
+        inv .totals .lists-read,
         sum-le (sys .workers) (λ i. listsOut m i (m WORKERS i OUTREAD)) (λ i. m WORKERS i SENDS) part,
       )
     where
@@ -175,8 +175,8 @@ module _ (sys : System) (small : Small sys) (s : Machine) (inv : Inv sys s) wher
       elim (ℕ-discrete (s .tally .timestamp .0) 0) [
         | yes e ↦ omega arith
         | no n ↦ ⊎-elim
-            (λ p. omega (arith, wanted-high (omega arith), inv .polled .wanted-open p .1, heard-few))
-            (λ p. omega (arith, wanted-high (omega arith), inv .polled .wanted-ended p (omega arith), heard-few))
+            (λ p. omega (arith, wanted-high (omega arith), inv .polled .wanted-open p .1, lists-read-few))
+            (λ p. omega (arith, wanted-high (omega arith), inv .polled .wanted-ended p (omega arith), lists-read-few))
             (decided (s .tally .polling))
       ]
     where

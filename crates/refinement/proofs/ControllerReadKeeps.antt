@@ -16,7 +16,7 @@ use Rattle.disac4.specs.declared.Tally.{Tally}
 use Rattle.cells.proofs.Stores.{store-same, store-other}
 use Rattle.cells.specs.Layout.{WORKERS, OUT, OUTEND, OUTREAD}
 use Rattle.cells.specs.Memory.{Mem}
-use Rattle.controller.specs.Controller.{countedT, markedT, toldT, hasOut, outReadM, Machine, hearM}
+use Rattle.controller.specs.Controller.{countedT, markedT, toldT, hasOut, outReadM, Machine, controllerReadM}
 use Rattle.cells.specs.View.{LISTMARK}
 use Rattle.refinement.proofs.InvKept.{OnlyRow, only-store, only-same, Follows, row-action, replied-kept, follows-itself, lists-out-kept, lists-out-more}
 use Rattle.controller.proofs.Marks.{mark-small}
@@ -71,14 +71,14 @@ module _ (sys : System) (m : Mem) (t t′ : Tally) (i : ℕ) (inv : Inv sys (rec
 
   totals : Totals sys (outReadM i m) t′
   unfolding outReadM
-  totals = let u = inv .totals in search heard
+  totals = let u = inv .totals in search lists-read
     where
-      heard : t′ .lists .0 ≡ sumBelow (sys .workers) (λ k. listsOut (outReadM i m) k (outReadM i m WORKERS k OUTREAD))
-      heard =
+      lists-read : t′ .lists .0 ≡ sumBelow (sys .workers) (λ k. listsOut (outReadM i m) k (outReadM i m WORKERS k OUTREAD))
+      lists-read =
           omega (
             arith,
             count,
-            inv .totals .heard,
+            inv .totals .lists-read,
             lists-out-more m (outReadM i m) i (m WORKERS i OUTREAD) (outReadM i m WORKERS i OUTREAD) (more-read i m) (λ e l. refl),
             sum-change (sys .workers) (λ k. listsOut m k (m WORKERS k OUTREAD))
                 (λ k. listsOut (outReadM i m) k (outReadM i m WORKERS k OUTREAD)) i h (λ k p n.
@@ -130,9 +130,9 @@ message-keeps sys m t i inv h unread = go (leb LISTMARK c) refl (t .polling) (eq
     go false e false d = reply t e (follows-itself m t (inv .polled)) refl (inv .marks)
 
 -- the controller's reading keeps the invariant
-pub hear-keeps : (sys : System) (s s′ : Machine) (i : ℕ) → Inv sys s → i < sys .workers → hearM sys i s ≡ some s′
+pub controller-read-keeps : (sys : System) (s s′ : Machine) (i : ℕ) → Inv sys s → i < sys .workers → controllerReadM sys i s ≡ some s′
     → Inv sys s′
-unfolding hearM hasOut
-hear-keeps sys s s′ i inv h e =
+unfolding controllerReadM hasOut
+controller-read-keeps sys s s′ i inv h e =
     if-holds (Inv sys) (hasOut i (s .tally) (s .mem)) e (λ has.
     message-keeps sys (s .mem) (s .tally) i inv h (ltb-true _ _ (and-left _ _ (and-left _ _ has))))

@@ -20,10 +20,10 @@ use Rattle.disac4.specs.declared.Tally.{Tally}
 use Rattle.cells.proofs.Queue.{read-queue}
 use Rattle.cells.specs.Layout.{WORKERS, OUT, LISTS, OUTEND, OUTREAD, OUTROOM, LISTSMAX}
 use Rattle.cells.specs.Memory.{Mem}
-use Rattle.controller.specs.Controller.{countedT, markedT, toldT, withMark, hasOut, outReadM, Machine, hearM}
+use Rattle.controller.specs.Controller.{countedT, markedT, toldT, withMark, hasOut, outReadM, Machine, controllerReadM}
 use Rattle.cells.specs.View.{LISTMARK, listAt, messageOf, viewLists, view, contents, outQueue, atActor, rowsOf}
 use Rattle.refinement.proofs.Actors.{at-worker, actors-update}
-use Rattle.refinement.proofs.Capacity.{heard-few, outend-few}
+use Rattle.refinement.proofs.Capacity.{lists-read-few, outend-few}
 use Rattle.refinement.proofs.ChannelRows.{at-out, Stays, Beside, channels-update}
 use Rattle.refinement.proofs.ChannelsKept.{Grown, out-kept, channels-kept}
 use Rattle.refinement.proofs.ControllerReadKeeps.{more-read, others}
@@ -41,9 +41,9 @@ module _ (sys : System) (small : Small sys) (s : Machine) (inv : Inv sys s) (i :
   abbrev m′ : Mem
   m′ = outReadM i m
 
-  heard-grown : Grown sys m t m′
+  read-grown : Grown sys m t m′
   unfolding outReadM
-  heard-grown = search
+  read-grown = search
 
   -- the channel from worker `i + 1` loses its oldest message, whatever the tally makes of that
   other-channels : (t′ : Tally) → t′ .timestamp .0 ≡ t .timestamp .0 → Stays sys (Beside (suc i) 0) (rowsOf m t) (rowsOf m′ t′)
@@ -51,7 +51,7 @@ module _ (sys : System) (small : Small sys) (s : Machine) (inv : Inv sys s) (i :
   other-channels t′ e =
       let read : (j : ℕ) → j < sys .workers → Beside (suc i) 0 (suc j) 0 → m′ WORKERS j OUTREAD ≡ m WORKERS j OUTREAD =
       λ j hj n. others i m j OUTREAD (λ e q. n (ap suc e) refl) in
-      channels-kept sys small s inv m′ heard-grown t′ (Beside (suc i) 0) (search)
+      channels-kept sys small s inv m′ read-grown t′ (Beside (suc i) 0) (search)
 
   -- what the controller makes of the message: its count and the rest of its part
   record Told (t′ : Tally) (lists : ℕ → ℕ) (c : Controller) : Type 0 where
@@ -64,9 +64,9 @@ module _ (sys : System) (small : Small sys) (s : Machine) (inv : Inv sys s) (i :
       let st = setChannel (suc i) 0 (contents (outQueue m′ i)) (viewOf sys s) in
       stateOf (st .domain) (st .counter) (st .workList) (st .toSend) (st .held) lists (st .channel) c
 
-  heard-view : (t′ : Tally) (lists : ℕ → ℕ) (c : Controller) → Told t′ lists c → view sys m′ t′ ≡ after lists c
+  read-view : (t′ : Tally) (lists : ℕ → ℕ) (c : Controller) → Told t′ lists c → view sys m′ t′ ≡ after lists c
   unfolding view-parts outReadM
-  heard-view t′ lists c told = same-state _ _ (record {
+  read-view t′ lists c told = same-state _ _ (record {
     domain = λ x v. refl;
     counter = λ x v y. refl;
     workList = λ k. refl;
@@ -82,7 +82,7 @@ module _ (sys : System) (small : Small sys) (s : Machine) (inv : Inv sys s) (i :
   counted-view : view sys m′ (countedT t) ≡ afterCount (suc i) (contents (outQueue m′ i)) (view sys m t)
   unfolding view viewLists countedT afterCount
   counted-view =
-      heard-view (countedT t) _ _ (record {
+      read-view (countedT t) _ _ (record {
         listCounter = λ k. counter-after (eqb k 0) (atActor sys (λ j. m WORKERS j LISTS) 0 k);
         timestamp = refl;
         controller = refl;
@@ -97,7 +97,7 @@ module _ (sys : System) (small : Small sys) (s : Machine) (inv : Inv sys s) (i :
   dropped-view : view sys m′ t ≡ afterDrop (suc i) 0 (contents (outQueue m′ i)) (view sys m t)
   unfolding view afterDrop
   dropped-view =
-      heard-view t _ _ (record {
+      read-view t _ _ (record {
         listCounter = λ k. refl;
         timestamp = refl;
         controller = refl;
@@ -124,7 +124,7 @@ module _ (sys : System) (small : Small sys) (s : Machine) (inv : Inv sys s) (i :
   marked-view : view sys m′ (markedT (sys .workers) i t) ≡ afterMark sys (suc i) (contents (outQueue m′ i)) (view sys m t)
   unfolding view viewLists markedT afterMark
   marked-view =
-      heard-view (markedT (sys .workers) i t) _ _ (record {
+      read-view (markedT (sys .workers) i t) _ _ (record {
         listCounter = λ k. refl;
         timestamp = refl;
         controller = λ ι. record {
@@ -156,25 +156,25 @@ module _ (sys : System) (small : Small sys) (s : Machine) (inv : Inv sys s) (i :
       go false false d e = ap some (dropped-view ∙ sym (cond-false _ _ e))
 
   -- the room that the read looks for is there
-  hear-room : hasOut i t m ≡ ltb (m WORKERS i OUTREAD) (m WORKERS i OUTEND)
+  read-room : hasOut i t m ≡ ltb (m WORKERS i OUTREAD) (m WORKERS i OUTEND)
   unfolding hasOut
-  hear-room =
-      and-true _ (lt-ltb (t .lists .0) LISTSMAX (omega (arith, heard-few sys small s inv)))
+  read-room =
+      and-true _ (lt-ltb (t .lists .0) LISTSMAX (omega (arith, lists-read-few sys small s inv)))
       ∙ and-true _
       (lt-ltb (m WORKERS i OUTREAD) OUTROOM (omega (arith, inv .rows i h .out-read, outend-few sys small s inv i h)))
 
-  abbrev heard : Machine
-  heard = record { mem = m′; tally = toldT (sys .workers) i oldest t }
+  abbrev has-read : Machine
+  has-read = record { mem = m′; tally = toldT (sys .workers) i oldest t }
 
   -- the controller's read in memory is its read
-  pub hear-refines : Option·map (viewOf sys) (hearM sys i s) ≡ readController sys (suc i) (viewOf sys s)
-  unfolding view hearM readController outReadM
-  hear-refines =
-      ap (λ (b : Bool). Option·map (viewOf sys) (cond b (some heard) none)) hear-room
+  pub controller-read-refines : Option·map (viewOf sys) (controllerReadM sys i s) ≡ readController sys (suc i) (viewOf sys s)
+  unfolding view controllerReadM readController outReadM
+  controller-read-refines =
+      ap (λ (b : Bool). Option·map (viewOf sys) (cond b (some has-read) none)) read-room
       ∙ read-queue (controllerFrom sys (suc i) (viewOf sys s)) (outQueue m i) (outQueue m′ i) _
-      (out-kept sys small s inv m′ heard-grown i h) (more-read i m) refl
+      (out-kept sys small s inv m′ read-grown i h) (more-read i m) refl
       (λ l.
-      ap (Option·map (viewOf sys)) (cond-true (some heard) none (lt-ltb (m WORKERS i OUTREAD) (m WORKERS i OUTEND) l))
+      ap (Option·map (viewOf sys)) (cond-true (some has-read) none (lt-ltb (m WORKERS i OUTREAD) (m WORKERS i OUTEND) l))
       ∙ told-view oldest)
-      (λ l. ap (Option·map (viewOf sys)) (cond-false (some heard) none (le-ltb (m WORKERS i OUTREAD) (m WORKERS i OUTEND) l)))
+      (λ l. ap (Option·map (viewOf sys)) (cond-false (some has-read) none (le-ltb (m WORKERS i OUTREAD) (m WORKERS i OUTEND) l)))
       ∙ ap (controllerFrom sys (suc i) (viewOf sys s)) (sym (at-out sys (rowsOf m t) i h))

@@ -145,10 +145,10 @@ module _ (m m′ : Mem) where
       (ap (domainSize (sys .net)) (fun-ext λ x. fun-ext λ v. ap (λ c. eqb c LISTED) (domain x v)))
 
   -- what the controller has counted depends on the messages that it read
-  pub heard-kept : (p : ℕ) → ((i : ℕ) → i < p → m′ WORKERS i OUTREAD ≡ m WORKERS i OUTREAD)
+  pub lists-read-kept : (p : ℕ) → ((i : ℕ) → i < p → m′ WORKERS i OUTREAD ≡ m WORKERS i OUTREAD)
       → ((i e : ℕ) → i < p → e < m WORKERS i OUTREAD → m′ OUT i e ≡ m OUT i e)
       → sumBelow p (λ i. listsOut m′ i (m′ WORKERS i OUTREAD)) ≡ sumBelow p (λ i. listsOut m i (m WORKERS i OUTREAD))
-  heard-kept p read out =
+  lists-read-kept p read out =
       sum-ext p (λ i. listsOut m′ i (m′ WORKERS i OUTREAD)) (λ i. listsOut m i (m WORKERS i OUTREAD)) (λ i h.
       lists-out-kept i (m WORKERS i OUTREAD) (m′ WORKERS i OUTREAD) (read i h) (λ e l. out i e h l))
 
@@ -191,8 +191,8 @@ totals-kept sys m m′ t t′ s e u = record {
       lists-out-kept m m′ i (m WORKERS i OUTEND) (m′ WORKERS i OUTEND) (s .out-end i) (λ n l. s .out i n)
       ∙ u .all-out i h
       ∙ sym (s .sends i);
-  heard =
-      e ∙ u .heard ∙ sym (heard-kept m m′ (sys .workers) (λ i h. s .out-read i) (λ i n h l. s .out i n));
+  lists-read =
+      e ∙ u .lists-read ∙ sym (lists-read-kept m m′ (sys .workers) (λ i h. s .out-read i) (λ i n h l. s .out i n));
 }
 
 -- of what the invariant mentions row by row, only row `i` is changed, and no label has joined its domain

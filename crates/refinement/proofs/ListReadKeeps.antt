@@ -22,7 +22,7 @@ use Rattle.reads.proofs.ReadLaws.{has-list}
 use Rattle.reads.specs.Reads.{listStart, listEnd, takenM, hasList, readListM}
 use Rattle.controller.specs.Controller.{Machine}
 use Rattle.refinement.proofs.Capacity.{list-room, bound-logged}
-use Rattle.refinement.proofs.InvKept.{OnlyRow, row-grown, lists-out-kept, logged-kept, heard-kept, worker-action}
+use Rattle.refinement.proofs.InvKept.{OnlyRow, row-grown, lists-out-kept, logged-kept, lists-read-kept, worker-action}
 use Rattle.refinement.proofs.LongerLists.{Longer, longer-copy}
 use Rattle.refinement.specs.Inv.{Row, Totals, Inv, OutCounted, Small}
 
@@ -221,10 +221,10 @@ module _ (sys : System) (m : Mem) (t : Tally) (j i : ℕ) (inv : Inv sys (record
             lists-out-kept m (takenM j i m) k (m WORKERS k OUTEND) (takenM j i m WORKERS k OUTEND)
             (column j i m k OUTEND (omega arith) (omega arith)) (λ e l. region j i m OUT (omega arith) k e)
             ∙ u .all-out k p ∙ sym (sends k);
-        heard =
-            u .heard
+        lists-read =
+            u .lists-read
             ∙ sym
-            (heard-kept m (takenM j i m) (sys .workers)
+            (lists-read-kept m (takenM j i m) (sys .workers)
             (λ k p.
             column j i m k OUTREAD (omega arith) (omega arith))
             (λ k e p l. region j i m OUT (omega arith) k e));

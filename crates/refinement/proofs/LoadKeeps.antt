@@ -91,7 +91,7 @@ module _ (sys : System) (small : Small sys) (z : Mem) (paired : Paired sys z) (b
     all-out = λ i h.
         no-lists i (n WORKERS i OUTEND) (column i OUTEND (omega arith))
         ∙ sym (column i SENDS (omega arith));
-    heard = sym (sum-zero (sys .workers) (λ i. listsOut n i (n WORKERS i OUTREAD))
+    lists-read = sym (sum-zero (sys .workers) (λ i. listsOut n i (n WORKERS i OUTREAD))
         (λ i h. no-lists i (n WORKERS i OUTREAD) (column i OUTREAD (omega arith))));
   }
 

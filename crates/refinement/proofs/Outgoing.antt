@@ -10,7 +10,7 @@ use Rattle.cells.proofs.Stores.{store-same, store-other}
 use Rattle.cells.specs.Layout.{WORKERS, OUT, SENDS, OUTEND, OUTREAD}
 use Rattle.cells.specs.Memory.{Mem, store}
 use Rattle.cells.specs.View.{LISTMARK}
-use Rattle.refinement.proofs.InvKept.{lists-out-kept, lists-out-more, heard-kept}
+use Rattle.refinement.proofs.InvKept.{lists-out-kept, lists-out-more, lists-read-kept}
 use Rattle.refinement.specs.Inv.{listsOut}
 
 -- row `i` has put the message `c`
@@ -66,8 +66,8 @@ module _ (i c : ℕ) (m m′ : Mem) (g : Put i c m m′) where
       ∙ sym (same k n))
 
   -- those that were read are the same
-  pub put-heard : (p : ℕ) → ((k : ℕ) → k < p → m WORKERS k OUTREAD ≤ m WORKERS k OUTEND)
+  pub put-lists-read : (p : ℕ) → ((k : ℕ) → k < p → m WORKERS k OUTREAD ≤ m WORKERS k OUTEND)
       → sumBelow p (λ k. listsOut m′ k (m′ WORKERS k OUTREAD)) ≡ sumBelow p (λ k. listsOut m k (m WORKERS k OUTREAD))
-  put-heard p put =
-      heard-kept m m′ p (λ k h. g .read k) (λ k e h l.
+  put-lists-read p put =
+      lists-read-kept m m′ p (λ k h. g .read k) (λ k e h l.
       g .old k e (λ x q. omega (arith, put k h, ap (λ y. m WORKERS y OUTEND) x)))

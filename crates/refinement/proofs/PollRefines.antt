@@ -8,7 +8,7 @@ use native.Mathlib.Numerals.{add-one}
 use native.Mathlib.Omega.{arith}
 use borrow.Author.Tests.{lt-ltb}
 use Rattle.base.proofs.Bools.{and-true}
-use Rattle.disac4.specs.Action.{nextPoll, afterAsk, ask}
+use Rattle.disac4.specs.Action.{nextPoll, afterNewPoll, newPoll}
 use Rattle.disac4.specs.State.{Message, poll}
 use Rattle.disac4.specs.System.{System}
 use Rattle.disac4.specs.declared.Poll.{Poll}
@@ -16,7 +16,7 @@ use Rattle.disac4.specs.declared.Tally.{Tally}
 use Rattle.cells.proofs.Queue.{queue-put}
 use Rattle.cells.specs.Layout.{WORKERS, HELD, POLLROOM}
 use Rattle.cells.specs.Memory.{Mem}
-use Rattle.controller.specs.Controller.{askM, askedT, asksT, Machine, pollM}
+use Rattle.controller.specs.Controller.{putPollM, polledT, mayPollT, Machine, pollM}
 use Rattle.cells.specs.View.{pollAt, viewLists, view, heldOf, pollsQueue, rowsOf, atChannel}
 use Rattle.refinement.proofs.Capacity.{held-few, timestamp-few}
 use Rattle.refinement.proofs.ChannelRows.{at-polls, Stays, channels-broadcast}
@@ -34,25 +34,25 @@ module _ (sys : System) (small : Small sys) (s : Machine) (inv : Inv sys s) wher
   t = s .tally
 
   abbrev m′ : Mem
-  m′ = askM t m
+  m′ = putPollM t m
 
   abbrev t′ : Tally
-  t′ = askedT t
+  t′ = polledT t
 
-  asked-grown : Grown sys m t m′
-  unfolding askM
-  asked-grown = search (old-wanted t m)
+  polled-grown : Grown sys m t m′
+  unfolding putPollM
+  polled-grown = search (old-wanted t m)
 
   -- the new poll
-  asked : pollAt m′ (t .timestamp .0 + 1) ≡ nextPoll (view sys m t)
+  polled : pollAt m′ (t .timestamp .0 + 1) ≡ nextPoll (view sys m t)
   unfolding pollAt nextPoll view viewLists
-  asked =
+  polled =
       ap₂ (λ (n w : ℕ). record { number = record { 0 = n }; wanted = record { 0 = w } }) (add-one (t .timestamp .0))
       (new-wanted t m)
 
-  asked-view : view sys m′ t′ ≡ afterAsk sys (view sys m t)
-  unfolding view-parts askM askedT afterAsk
-  asked-view = same-state _ _ (record {
+  polled-view : view sys m′ t′ ≡ afterNewPoll sys (view sys m t)
+  unfolding view-parts putPollM polledT afterNewPoll
+  polled-view = same-state _ _ (record {
     domain = λ x v. refl;
     counter = λ x v y. refl;
     workList = λ k. refl;
@@ -69,7 +69,7 @@ module _ (sys : System) (small : Small sys) (s : Machine) (inv : Inv sys s) wher
   })
     where
       kept : (i : ℕ) → i < sys .workers → heldOf m′ i ≡ heldOf m i
-      kept i h = held-row m m′ i refl (asked-grown .wanted (m WORKERS i HELD) (held-few sys small s inv i h))
+      kept i h = held-row m m′ i refl (polled-grown .wanted (m WORKERS i HELD) (held-few sys small s inv i h))
 
       to : (k : ℕ) → k ≤ sys .workers → (k ≡ 0 → ⊥)
           → atChannel sys (rowsOf m′ t′) 0 k
@@ -77,12 +77,12 @@ module _ (sys : System) (small : Small sys) (s : Machine) (inv : Inv sys s) wher
       to zero l n = absurd (n refl)
       to (suc i) l n =
           at-polls sys (rowsOf m′ t′) i l
-          ∙ queue-put (pollsQueue m t i) (pollsQueue m′ t′ i) (polls-kept sys small s inv m′ asked-grown t′ i)
+          ∙ queue-put (pollsQueue m t i) (pollsQueue m′ t′ i) (polls-kept sys small s inv m′ polled-grown t′ i)
           (omega (arith, inv .rows i l .polls-read)) refl refl
-          ∙ ap₂ (λ (l : List Message) (q : Poll). l ++ (poll q ∷ [])) (sym (at-polls sys (rowsOf m t) i l)) asked
+          ∙ ap₂ (λ (l : List Message) (q : Poll). l ++ (poll q ∷ [])) (sym (at-polls sys (rowsOf m t) i l)) polled
 
       stays : Stays sys (λ j k. j ≡ 0 → ⊥) (rowsOf m t) (rowsOf m′ t′)
-      stays = channels-kept sys small s inv m′ asked-grown t′ (λ j k. j ≡ 0 → ⊥) (record {
+      stays = channels-kept sys small s inv m′ polled-grown t′ (λ j k. j ≡ 0 → ⊥) (record {
         cursors = λ j k hj hk n. refl;
         sends = λ j k hj hk n. refl;
         out-read = λ j hj n. refl;
@@ -92,11 +92,11 @@ module _ (sys : System) (small : Small sys) (s : Machine) (inv : Inv sys s) wher
       })
 
   -- a poll finds room
-  ask-room : asksT t ≡ not (t .polling)
-  unfolding asksT
-  ask-room = and-true _ (lt-ltb (t .timestamp .0) POLLROOM (omega (arith, timestamp-few sys small s inv)))
+  new-poll-room : mayPollT t ≡ not (t .polling)
+  unfolding mayPollT
+  new-poll-room = and-true _ (lt-ltb (t .timestamp .0) POLLROOM (omega (arith, timestamp-few sys small s inv)))
 
   -- polling in memory is polling
-  pub ask-refines : Option·map (viewOf sys) (pollM s) ≡ ask sys (viewOf sys s)
-  unfolding pollM view ask
-  ask-refines = map-unless (viewOf sys) (t .polling) ask-room asked-view
+  pub new-poll-refines : Option·map (viewOf sys) (pollM s) ≡ newPoll sys (viewOf sys s)
+  unfolding pollM view newPoll
+  new-poll-refines = map-unless (viewOf sys) (t .polling) new-poll-room polled-view

@@ -19,7 +19,7 @@ use Rattle.sends.specs.Sends.{sentM, maySend, sendM}
 use Rattle.cells.specs.View.{LISTMARK}
 use Rattle.refinement.proofs.InvKept.{OnlyRow, only-store, only-same, worker-action}
 use Rattle.refinement.specs.Inv.{Row, Totals, Inv, OutCounted}
-use Rattle.refinement.proofs.Outgoing.{Put, put-out, put-lists, put-counted, put-heard}
+use Rattle.refinement.proofs.Outgoing.{Put, put-out, put-lists, put-counted, put-lists-read}
 
 -- ---- what the stores changed
 
@@ -112,10 +112,10 @@ module _ (sys : System) (m : Mem) (t : Tally) (i : ℕ) (inv : Inv sys (record {
             put-counted i (LISTMARK + m WORKERS i SENDS) m (sentM i m) (put i m)
             (omega (arith, more-sends i m, ap one (le-leb LISTMARK (LISTMARK + m WORKERS i SENDS) (omega arith))))
             (λ k n. only-row i m .others k n .workers SENDS) k (u .all-out k p);
-        heard =
-            u .heard
+        lists-read =
+            u .lists-read
             ∙ sym
-            (put-heard i (LISTMARK + m WORKERS i SENDS) m (sentM i m) (put i m) (sys .workers) (λ k p.
+            (put-lists-read i (LISTMARK + m WORKERS i SENDS) m (sentM i m) (put i m) (sys .workers) (λ k p.
             inv .rows k p .out-read));
       }
 

@@ -18,7 +18,7 @@ use Rattle.index.proofs.Kept.{IndexKept}
 use Rattle.sends.specs.Sends.{sentM, maySend, sendM}
 use Rattle.reads.specs.Reads.{listEnd, listStart, takenM, hasList, readListM, readPollM}
 use Rattle.answers.specs.Answers.{answeredM, mayAnswer, answerM}
-use Rattle.controller.specs.Controller.{askM, asksT, hasOut, outReadM, Machine, hearM, pollM}
+use Rattle.controller.specs.Controller.{putPollM, mayPollT, hasOut, outReadM, Machine, controllerReadM, pollM}
 use Rattle.refinement.specs.Run.{playM}
 use Rattle.refinement.specs.Step.{withMem, readM, workerM, stepM}
 use Rattle.treating.proofs.Kept.{touch-variables-kept}
@@ -100,12 +100,12 @@ with-kept t m none k = idle
 with-kept t m (some n) (keeps p) = keeps p
 
 step-kept : (sys : System) (s : Machine) (t : Turn) → KeptS (s .mem) (stepM sys s t)
-unfolding stepM hearM pollM askM outReadM
+unfolding stepM controllerReadM pollM putPollM outReadM
 step-kept sys s t =
     kept-if (s .tally .closed || not (allowed (sys .workers) t)) idle
     (kept-if (eqb (t .actor) 0)
     (kept-if (eqb (t .action) pollAction)
-    (kept-if (asksT (s .tally)) (keeps (kept-stored WANTED 0 _ _ (omega arith) kept-same)) idle)
+    (kept-if (mayPollT (s .tally)) (keeps (kept-stored WANTED 0 _ _ (omega arith) kept-same)) idle)
     (kept-if (hasOut (t .action - 1) (s .tally) (s .mem))
     (keeps (kept-stored WORKERS _ _ _ (omega arith) kept-same)) idle))
     (with-kept (s .tally) (s .mem) (workerM sys (t .actor - 1) (t .action) s) (worker-kept sys (t .actor - 1) (t .action) s)))

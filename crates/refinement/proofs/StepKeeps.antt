@@ -15,7 +15,7 @@ use Rattle.cells.specs.Memory.{Mem}
 use Rattle.controller.specs.Controller.{Machine}
 use Rattle.refinement.specs.Step.{readM, workerM, stepM}
 use Rattle.refinement.proofs.AnswerKeeps.{answer-keeps}
-use Rattle.refinement.proofs.ControllerReadKeeps.{hear-keeps}
+use Rattle.refinement.proofs.ControllerReadKeeps.{controller-read-keeps}
 use Rattle.refinement.specs.Inv.{Small, Inv}
 use Rattle.refinement.proofs.PollKeeps.{poll-keeps}
 use Rattle.refinement.proofs.PollReadKeeps.{read-poll-keeps}
@@ -50,7 +50,7 @@ module _ (sys : System) (small : Small sys) (s : Machine) (inv : Inv sys s) wher
       by-test (eqb (t .action) pollAction) e₂ (λ p. poll-keeps sys s s′ inv)
       (λ n.
       let may = reads-worker (sys .workers) (t .action) (controller-does (sys .workers) t ok c) n in
-      hear-keeps sys s s′ (t .action - 1) inv (omega arith)))
+      controller-read-keeps sys s s′ (t .action - 1) inv (omega arith)))
       (λ c e₂.
       let may = worker-does (sys .workers) t ok c in
       let some-row : suc (t .actor - 1) ≡ t .actor = omega (arith, eqb-false (t .actor) 0 c) in

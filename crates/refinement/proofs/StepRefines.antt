@@ -15,12 +15,12 @@ use Rattle.disac4.specs.System.{System}
 use Rattle.disac4.specs.Turn.{Turn, treatAction, sendAction, answerAction, pollAction, workerMay, controllerMay, allowed, workerStep, controllerStep, step}
 use Rattle.cells.specs.Memory.{Mem}
 use Rattle.reads.specs.Reads.{readPollM, readListM}
-use Rattle.controller.specs.Controller.{Machine, hearM, pollM}
+use Rattle.controller.specs.Controller.{Machine, controllerReadM, pollM}
 use Rattle.refinement.specs.Step.{withMem, readM, workerM, stepM}
 use Rattle.cells.specs.View.{view}
 use Rattle.refinement.proofs.AnswerRefines.{answer-refines}
-use Rattle.refinement.proofs.PollRefines.{ask-refines}
-use Rattle.refinement.proofs.ControllerReadRefines.{hear-refines}
+use Rattle.refinement.proofs.PollRefines.{new-poll-refines}
+use Rattle.refinement.proofs.ControllerReadRefines.{controller-read-refines}
 use Rattle.refinement.specs.Inv.{Small, Inv}
 use Rattle.refinement.proofs.PollReadRefines.{poll-refines}
 use Rattle.refinement.proofs.TreatRefines.{treat-refines}
@@ -50,18 +50,18 @@ module _ (sys : System) (small : Small sys) (s : Machine) (inv : Inv sys s) wher
 
   -- the controller acts
   controller-refines : (d : ℕ) → controllerMay (sys .workers) d ≡ true
-      → Option·map (viewOf sys) (cond (eqb d pollAction) (pollM s) (hearM sys (d - 1) s)) ≡ controllerStep sys d st
+      → Option·map (viewOf sys) (cond (eqb d pollAction) (pollM s) (controllerReadM sys (d - 1) s)) ≡ controllerStep sys d st
   unfolding controllerStep
   controller-refines d may =
-      map-cond (viewOf sys) (eqb d pollAction) _ _ _ _ (λ p. ask-refines sys small s inv)
+      map-cond (viewOf sys) (eqb d pollAction) _ _ _ _ (λ p. new-poll-refines sys small s inv)
       (λ p.
       let from = reads-worker (sys .workers) d may p in
-      heard (from .0) (from .1))
+      has-read (from .0) (from .1))
     where
-      heard : 0 < d → d ≤ sys .workers → Option·map (viewOf sys) (hearM sys (d - 1) s) ≡ readController sys d st
-      heard low high =
+      has-read : 0 < d → d ≤ sys .workers → Option·map (viewOf sys) (controllerReadM sys (d - 1) s) ≡ readController sys d st
+      has-read low high =
           let e : suc (d - 1) ≡ d = omega arith in
-          hear-refines sys small s inv (d - 1) (omega arith) ∙ ap (λ (k : ℕ). readController sys k st) e
+          controller-read-refines sys small s inv (d - 1) (omega arith) ∙ ap (λ (k : ℕ). readController sys k st) e
 
   -- a worker acts
   worker-refines : (i d : ℕ) → i < sys .workers → workerMay (sys .workers) (suc i) d ≡ true
@@ -94,7 +94,7 @@ module _ (sys : System) (small : Small sys) (s : Machine) (inv : Inv sys s) wher
       acts : allowed (sys .workers) u ≡ true
           → Option·map (viewOf sys)
           (cond (eqb (u .actor) 0)
-          (cond (eqb (u .action) pollAction) (pollM s) (hearM sys (u .action - 1) s))
+          (cond (eqb (u .action) pollAction) (pollM s) (controllerReadM sys (u .action - 1) s))
           (withMem (s .tally) (workerM sys (u .actor - 1) (u .action) s)))
           ≡ cond (eqb (u .actor) 0) (controllerStep sys (u .action) st) (workerStep sys (u .actor) (u .action) st)
       acts ok =

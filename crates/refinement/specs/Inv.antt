@@ -74,7 +74,7 @@ pub record Totals (sys : System) (m : Mem) (t : Tally) : Type 0 where
   -- every list message was put for the controller
   pub all-out : (i : ℕ) → i < sys .workers → listsOut m i (m WORKERS i OUTEND) ≡ m WORKERS i SENDS
   -- the controller has counted those that it read
-  pub heard : t .lists .0 ≡ sumBelow (sys .workers) (λ i. listsOut m i (m WORKERS i OUTREAD))
+  pub lists-read : t .lists .0 ≡ sumBelow (sys .workers) (λ i. listsOut m i (m WORKERS i OUTREAD))
 
 -- ---- polls and replies
 

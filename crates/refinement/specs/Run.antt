@@ -1,5 +1,5 @@
 -- A list of turns in memory: the machine after it, and how many of its turns that pass a test changed something.
-use Prim.Native.Nat.{ℕ, _<_, _≤_}
+use Prim.Native.Nat.{ℕ, _^_, _<_, _≤_}
 use mathlib.Core.Bool.{Bool, true, false}
 use mathlib.Core.List.{List, _++_}
 use mathlib.Core.Option.{Option, none}
@@ -63,7 +63,7 @@ pub record At (b : List ℕ) (m : Mem) (ts : List Turn) (cells : List ℕ) (g : 
 -- labels of the plan
 pub record Playable (b cells : List ℕ) (t : Tally) : Type 0 where
   pub ready : Ready b cells
-  pub marks : t .marks < 256
+  pub marks : t .marks < 2 ^ maxWorkers
   pub workers : workerCount b ≤ maxWorkers
   pub labels : (i : ℕ) → i < workerCount b → HeadLoaded b (memOf cells) i
 

@@ -7,7 +7,7 @@ use Rattle.disac4.specs.Fold.{afterBy}
 use Rattle.disac4.specs.System.{System}
 use Rattle.disac4.specs.Turn.{Turn, treatAction, sendAction, answerAction, pollAction, allowed}
 use Rattle.disac4.specs.declared.Tally.{Tally}
-use Rattle.controller.specs.Controller.{Machine, pollM, hearM}
+use Rattle.controller.specs.Controller.{Machine, pollM, controllerReadM}
 use Rattle.cells.specs.Memory.{Mem}
 use Rattle.sends.specs.Sends.{sendM}
 use Rattle.reads.specs.Reads.{readListM, readPollM}
@@ -33,7 +33,7 @@ unfoldable pub stepM : System → Machine → Turn → Option Machine
 stepM sys s t =
     cond (s .tally .closed || not (allowed (sys .workers) t)) none
     (cond (eqb (t .actor) 0)
-    (cond (eqb (t .action) pollAction) (pollM s) (hearM sys (t .action - 1) s))
+    (cond (eqb (t .action) pollAction) (pollM s) (controllerReadM sys (t .action - 1) s))
     (withMem (s .tally) (workerM sys (t .actor - 1) (t .action) s)))
 
 -- the machine after a turn

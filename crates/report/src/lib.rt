@@ -26,36 +26,36 @@ ghost use Rattle.format.specs.Limits.{maxVariables};
 ghost use Rattle.plan.specs.Plan.{sizeOf};
 
 // The row of the values in a variable's domain.
-fn domain_row(b: &[u8], cells: &[u16], x: usize) -> usize
-    requires { ⌜ Ready (now b) (now cells) × (x < variableCount (now b)) ⌝ }
-    ensures { λ r. ⌜ (r ≡ rowOf (sizeOf (planOf (now (b .entry))) x) (inDomain (memOf (now (cells .entry))) x)) × (r < 65536) ⌝ }
+fn domain_row(plan: &[u8], cells: &[u16], x: usize) -> usize
+    requires { ⌜ Ready (now plan) (now cells) × (x < variableCount (now plan)) ⌝ }
+    ensures { λ r. ⌜ (r ≡ rowOf (sizeOf (planOf (now (plan .entry))) x) (inDomain (memOf (now (cells .entry))) x)) × (r < 65536) ⌝ }
 {
-    let values = parts::size(b, cells, x);
+    let values = parts::size(plan, cells, x);
     layout::row_holding(cells, layout::DOMAIN, x, values, layout::LISTED)
 }
 
 // Puts each variable's row into its list cell; the cells behind keep what they had.
-pub fn write_lists(b: &[u8], cells: &[u16], lists: &mut [u16])
-    requires { ⌜ Ready (now b) (now cells) × (listNeed ≤ length (now lists)) ⌝ }
-    ensures { λ _. ⌜ ((t : Tally) → now (lists .exit) ≡ overwrite (listCells (systemAt (now (b .entry))) (view (systemAt (now (b .entry))) (memOf (now (cells .entry))) t)) (now (lists .entry))) ⌝ }
+pub fn write_lists(plan: &[u8], cells: &[u16], lists: &mut [u16])
+    requires { ⌜ Ready (now plan) (now cells) × (listNeed ≤ length (now lists)) ⌝ }
+    ensures { λ _. ⌜ ((t : Tally) → now (lists .exit) ≡ overwrite (listCells (systemAt (now (plan .entry))) (view (systemAt (now (plan .entry))) (memOf (now (cells .entry))) t)) (now (lists .entry))) ⌝ }
 {
-    let variables = read::variable_count(b);
+    let variables = read::variable_count(plan);
     let mut x = 0;
     while x < variables {
-        lists[x] = domain_row(b, cells, x) as u16;
+        lists[x] = domain_row(plan, cells, x) as u16;
         x += 1;
     }
 }
 
 // One more than the lowest variable whose domain is empty, 0 for none.
-fn lowest_empty(b: &[u8], cells: &[u16]) -> usize
-    requires { ⌜ Ready (now b) (now cells) ⌝ }
-    ensures { λ r. ⌜ ((t : Tally) → r ≡ lowestEmpty (systemAt (now (b .entry))) (view (systemAt (now (b .entry))) (memOf (now (cells .entry))) t)) × (r ≤ maxVariables) ⌝ }
+fn lowest_empty(plan: &[u8], cells: &[u16]) -> usize
+    requires { ⌜ Ready (now plan) (now cells) ⌝ }
+    ensures { λ r. ⌜ ((t : Tally) → r ≡ lowestEmpty (systemAt (now (plan .entry))) (view (systemAt (now (plan .entry))) (memOf (now (cells .entry))) t)) × (r ≤ maxVariables) ⌝ }
 {
-    let variables = read::variable_count(b);
+    let variables = read::variable_count(plan);
     let mut x = 0;
     while x < variables {
-        if domain_row(b, cells, x) == 0 {
+        if domain_row(plan, cells, x) == 0 {
             return x + 1;
         }
         x += 1;
@@ -79,12 +79,12 @@ fn status_of(closed: bool, empty: usize) -> Status
 }
 
 // The report of a run that has come so far.
-pub fn report(b: &[u8], cells: &[u16], g: Progress) -> Report
-    requires { ⌜ Ready (now b) (now cells) ⌝ }
-    ensures { λ r. ⌜ r ≡ reportM (systemAt (now (b .entry))) (memOf (now (cells .entry))) g ⌝ }
+pub fn report(plan: &[u8], cells: &[u16], g: Progress) -> Report
+    requires { ⌜ Ready (now plan) (now cells) ⌝ }
+    ensures { λ r. ⌜ r ≡ reportM (systemAt (now (plan .entry))) (memOf (now (cells .entry))) g ⌝ }
 {
     let tally = g.tally;
-    let empty = lowest_empty(b, cells);
+    let empty = lowest_empty(plan, cells);
     Report {
         status: status_of(tally.closed, empty),
         changes: g.changes,

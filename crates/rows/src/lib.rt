@@ -37,25 +37,25 @@ fn room_beside(limit: usize, f: usize) -> usize
 
 // The row of the values of the variable at `place` whose figures a limit permits with figure f; it has `values` of them.
 // From the last one down the row is doubled: that is quicker than to shift each bit to its place.
-fn limit_row(b: &[u8], limit: usize, f: usize, place: usize, values: usize) -> usize
-    requires { ⌜ (place ≤ length (now b)) × (values ≤ maxValues) × (limit < 65536) ⌝ }
-    ensures { λ r. ⌜ r ≡ rowOf values (limited (now (b .entry)) limit f place) ⌝ }
+fn limit_row(plan: &[u8], limit: usize, f: usize, place: usize, values: usize) -> usize
+    requires { ⌜ (place ≤ length (now plan)) × (values ≤ maxValues) × (limit < 65536) ⌝ }
+    ensures { λ r. ⌜ r ≡ rowOf values (limited (now (plan .entry)) limit f place) ⌝ }
 {
     let room = room_beside(limit, f);
     let mut row = 0;
     let mut w = values;
     while w != 0 {
         w -= 1;
-        row = 2 * row + row_if(read::figure(b, place, w) < room, 0);
+        row = 2 * row + row_if(read::figure(plan, place, w) < room, 0);
     }
     row
 }
 
 // The row of the values of a table's first variable whose rows hold value v of the second; it has `values` of them.
 // It is doubled in the same way. Value v stands in one byte of each row, so the other is not read.
-fn table_column(b: &[u8], at: usize, v: usize, values: usize) -> usize
-    requires { ⌜ (at ≤ length (now b)) × (v < maxValues) × (values ≤ maxValues) ⌝ }
-    ensures { λ r. ⌜ r ≡ rowOf values (inColumn (now (b .entry)) at v) ⌝ }
+fn table_column(plan: &[u8], at: usize, v: usize, values: usize) -> usize
+    requires { ⌜ (at ≤ length (now plan)) × (v < maxValues) × (values ≤ maxValues) ⌝ }
+    ensures { λ r. ⌜ r ≡ rowOf values (inColumn (now (plan .entry)) at v) ⌝ }
 {
     let part = ROW_BYTES - 1 - v / 8;
     let k = v % 8;
@@ -63,7 +63,7 @@ fn table_column(b: &[u8], at: usize, v: usize, values: usize) -> usize
     let mut w = values;
     while w != 0 {
         w -= 1;
-        row = 2 * row + row_if(row_holds(constraint::table_byte(b, at, w, part), k), 0);
+        row = 2 * row + row_if(row_holds(constraint::table_byte(plan, at, w, part), k), 0);
     }
     row
 }
@@ -71,7 +71,7 @@ fn table_column(b: &[u8], at: usize, v: usize, values: usize) -> usize
 // The row of the values that the constraint at `at` permits with value v of the variable at `here`, which is its
 // first where `leads`; the other variable, at `there`, has `values` of them. A table's row for v is read at once.
 pub fn constraint_row(
-    b: &[u8],
+    plan: &[u8],
     at: usize,
     leads: bool,
     here: usize,
@@ -79,20 +79,20 @@ pub fn constraint_row(
     there: usize,
     values: usize,
 ) -> usize
-    requires { ⌜ (at ≤ length (now b)) × (here ≤ length (now b)) × (there ≤ length (now b)) × (v < maxValues) × (values ≤ maxValues) ⌝ }
-    ensures { λ r. ⌜ ((w : ℕ) → w < values → bit r w ≡ permitsFrom (now (b .entry)) at leads here v there w) ⌝ }
+    requires { ⌜ (at ≤ length (now plan)) × (here ≤ length (now plan)) × (there ≤ length (now plan)) × (v < maxValues) × (values ≤ maxValues) ⌝ }
+    ensures { λ r. ⌜ ((w : ℕ) → w < values → bit r w ≡ permitsFrom (now (plan .entry)) at leads here v there w) ⌝ }
 {
-    if constraint::kind(b, at) != 0 {
+    if constraint::kind(plan, at) != 0 {
         return limit_row(
-            b,
-            constraint::limit(b, at),
-            read::figure(b, here, v),
+            plan,
+            constraint::limit(plan, at),
+            read::figure(plan, here, v),
             there,
             values,
         );
     }
     if leads {
-        return constraint::table_row(b, at, v);
+        return constraint::table_row(plan, at, v);
     }
-    table_column(b, at, v, values)
+    table_column(plan, at, v, values)
 }

@@ -31,13 +31,13 @@ fn fresh() -> Tally
 }
 
 // Loads an accepted plan, whatever the cells held.
-fn start(b: &[u8], cells: &mut [u16]) -> Tally
-    requires { ⌜ (planFault (now b) ≡ none) × (workNeed ≤ length (now cells)) ⌝ }
-    ensures { λ r. ⌜ machine (now (cells .exit)) r ≡ startM (now (b .entry)) (memOf (now (cells .entry))) ⌝ }
+fn start(plan: &[u8], cells: &mut [u16]) -> Tally
+    requires { ⌜ (planFault (now plan) ≡ none) × (workNeed ≤ length (now cells)) ⌝ }
+    ensures { λ r. ⌜ machine (now (cells .exit)) r ≡ startM (now (plan .entry)) (memOf (now (cells .entry))) ⌝ }
 {
     clear::clear(cells);
-    indexing::index_plan(b, cells);
-    loading::load_plan(b, cells);
+    indexing::index_plan(plan, cells);
+    loading::load_plan(plan, cells);
     fresh()
 }
 
@@ -56,12 +56,12 @@ pub fn load(plan: &[u8], work: &mut [u16]) -> Progress
 }
 
 // Ends a run that has played its turns.
-pub fn finish(b: &[u8], cells: &mut [u16], lists: &mut [u16], g: Progress) -> Report
-    requires { ⌜ Going (now b) (now cells) g × (listNeed ≤ length (now lists)) ⌝ }
-    ensures { λ r. ⌜ Finishes (now (b .entry)) (now (cells .entry)) (now (lists .entry)) g (now (cells .exit)) (now (lists .exit)) r ⌝ }
+pub fn finish(plan: &[u8], cells: &mut [u16], lists: &mut [u16], g: Progress) -> Report
+    requires { ⌜ Going (now plan) (now cells) g × (listNeed ≤ length (now lists)) ⌝ }
+    ensures { λ r. ⌜ Finishes (now (plan .entry)) (now (cells .entry)) (now (lists .entry)) g (now (cells .exit)) (now (lists .exit)) r ⌝ }
 {
-    report::write_lists(b, cells, lists);
-    let r = report::report(b, cells, g);
+    report::write_lists(plan, cells, lists);
+    let r = report::report(plan, cells, g);
     clear::clear(cells);
     r
 }

@@ -22,42 +22,42 @@ ghost use Rattle.faults.specs.CheckList.{firstFault, verdictOf};
 ghost use Rattle.sections.specs.Known.{VariablesKnown};
 
 // Both variables' numbers are in range, and the first is the smaller.
-fn variables_in_order(b: &[u8], at: usize) -> bool
-    requires { ⌜ at ≤ length (now b) ⌝ }
-    ensures { λ r. ⌜ r ≡ variablesInOrder (now (b .entry)) at ⌝ }
+fn variables_in_order(plan: &[u8], at: usize) -> bool
+    requires { ⌜ at ≤ length (now plan) ⌝ }
+    ensures { λ r. ⌜ r ≡ variablesInOrder (now (plan .entry)) at ⌝ }
 {
-    let first = constraint::first(b, at);
-    let second = constraint::second(b, at);
+    let first = constraint::first(plan, at);
+    let second = constraint::second(plan, at);
     if first < 1 {
         return false;
     }
     if second <= first {
         return false;
     }
-    second <= read::variable_count(b)
+    second <= read::variable_count(plan)
 }
 
 // The length that the constraint's content calls for.
-fn constraint_length(b: &[u8], at: usize, starts: &Starts) -> usize
-    requires { ⌜ VariablesKnown (now b) (now starts) × (at ≤ length (now b)) × (variablesInOrder (now b) at ≡ true) ⌝ }
-    ensures { λ r. ⌜ r ≡ constraintLength (now (b .entry)) at ⌝ }
+fn constraint_length(plan: &[u8], at: usize, starts: &Starts) -> usize
+    requires { ⌜ VariablesKnown (now plan) (now starts) × (at ≤ length (now plan)) × (variablesInOrder (now plan) at ≡ true) ⌝ }
+    ensures { λ r. ⌜ r ≡ constraintLength (now (plan .entry)) at ⌝ }
 {
-    if constraint::kind(b, at) == 0 {
-        3 + ROW_BYTES * numbered_size(b, starts, constraint::first(b, at))
+    if constraint::kind(plan, at) == 0 {
+        3 + ROW_BYTES * numbered_size(plan, starts, constraint::first(plan, at))
     } else {
         5
     }
 }
 
 // No row of a table holds a value from `width` on.
-fn rows_fit(b: &[u8], at: usize, rows: usize, width: usize) -> bool
-    requires { ⌜ (at ≤ length (now b)) × (rows ≤ maxValues) × (width ≤ maxValues) ⌝ }
-    ensures { λ r. ⌜ r ≡ allBelow rows (λ v. ltb (tableRowAt (now (b .entry)) at v) (2 ^ width)) ⌝ }
+fn rows_fit(plan: &[u8], at: usize, rows: usize, width: usize) -> bool
+    requires { ⌜ (at ≤ length (now plan)) × (rows ≤ maxValues) × (width ≤ maxValues) ⌝ }
+    ensures { λ r. ⌜ r ≡ allBelow rows (λ v. ltb (tableRowAt (now (plan .entry)) at v) (2 ^ width)) ⌝ }
 {
     let limit = power(width);
     let mut v = 0;
     while v < rows {
-        if limit <= constraint::table_row(b, at, v) {
+        if limit <= constraint::table_row(plan, at, v) {
             return false;
         }
         v += 1;
@@ -66,26 +66,26 @@ fn rows_fit(b: &[u8], at: usize, rows: usize, width: usize) -> bool
 }
 
 // No bit of a table stands at or past the second variable's count.
-fn table_fits(b: &[u8], at: usize, starts: &Starts) -> bool
-    requires { ⌜ VariablesKnown (now b) (now starts) × (at ≤ length (now b)) × (variablesInOrder (now b) at ≡ true) ⌝ }
-    ensures { λ r. ⌜ r ≡ tableFits (now (b .entry)) at ⌝ }
+fn table_fits(plan: &[u8], at: usize, starts: &Starts) -> bool
+    requires { ⌜ VariablesKnown (now plan) (now starts) × (at ≤ length (now plan)) × (variablesInOrder (now plan) at ≡ true) ⌝ }
+    ensures { λ r. ⌜ r ≡ tableFits (now (plan .entry)) at ⌝ }
 {
-    if constraint::kind(b, at) != 0 {
+    if constraint::kind(plan, at) != 0 {
         return true;
     }
-    let rows = numbered_size(b, starts, constraint::first(b, at));
-    let width = numbered_size(b, starts, constraint::second(b, at));
-    rows_fit(b, at, rows, width)
+    let rows = numbered_size(plan, starts, constraint::first(plan, at));
+    let width = numbered_size(plan, starts, constraint::second(plan, at));
+    rows_fit(plan, at, rows, width)
 }
 
 // A constraint's section: 1, 3 (length under 3), 7 (kind), 5, 3, 7 (bits).
-pub fn check_constraint(b: &[u8], at: usize, starts: &Starts) -> Verdict
-    requires { ⌜ VariablesKnown (now b) (now starts) × (at ≤ length (now b)) ⌝ }
-    ensures { λ r. ⌜ r ≡ verdictOf (firstFault (constraintChecks (now (b .entry)) at)) ⌝ }
+pub fn check_constraint(plan: &[u8], at: usize, starts: &Starts) -> Verdict
+    requires { ⌜ VariablesKnown (now plan) (now starts) × (at ≤ length (now plan)) ⌝ }
+    ensures { λ r. ⌜ r ≡ verdictOf (firstFault (constraintChecks (now (plan .entry)) at)) ⌝ }
 {
-    let length = word_at(b, at);
-    let kind = constraint::kind(b, at);
-    if !section::complete(b, at) {
+    let length = word_at(plan, at);
+    let kind = constraint::kind(plan, at);
+    if !section::complete(plan, at) {
         return Verdict::Fails(Fault::Truncated);
     }
     if length < 3 {
@@ -94,13 +94,13 @@ pub fn check_constraint(b: &[u8], at: usize, starts: &Starts) -> Verdict
     if 1 < kind {
         return Verdict::Fails(Fault::BadConstraint); // no such kind
     }
-    if !variables_in_order(b, at) {
+    if !variables_in_order(plan, at) {
         return Verdict::Fails(Fault::BadNumber);
     }
-    if length != constraint_length(b, at, starts) {
+    if length != constraint_length(plan, at, starts) {
         return Verdict::Fails(Fault::BadLength);
     }
-    if !table_fits(b, at, starts) {
+    if !table_fits(plan, at, starts) {
         return Verdict::Fails(Fault::BadConstraint);
     }
     Verdict::Passes

@@ -20,38 +20,38 @@ pub const STARTS: usize = 1 + MAX_VARIABLES;
 pub type Starts = [usize; STARTS];
 
 // Neither the section nor its length is cut off.
-pub fn complete(b: &[u8], at: usize) -> bool
-    requires { ⌜ at ≤ length (now b) ⌝ }
-    ensures { λ r. ⌜ r ≡ completeOf (now (b .entry)) at ⌝ }
+pub fn complete(plan: &[u8], at: usize) -> bool
+    requires { ⌜ at ≤ length (now plan) ⌝ }
+    ensures { λ r. ⌜ r ≡ completeOf (now (plan .entry)) at ⌝ }
 {
-    read::behind(b, at) <= b.len()
+    read::behind(plan, at) <= plan.len()
 }
 
 // p, n and the number of rules are in range.
-fn head_in_range(b: &[u8]) -> bool
-    ensures { λ r. ⌜ r ≡ headInRange (now (b .entry)) ⌝ }
+fn head_in_range(plan: &[u8]) -> bool
+    ensures { λ r. ⌜ r ≡ headInRange (now (plan .entry)) ⌝ }
 {
-    if !between(1, MAX_WORKERS, read::worker_count(b)) {
+    if !between(1, MAX_WORKERS, read::worker_count(plan)) {
         return false;
     }
-    if !between(1, MAX_VARIABLES, read::variable_count(b)) {
+    if !between(1, MAX_VARIABLES, read::variable_count(plan)) {
         return false;
     }
-    read::constraint_count(b) <= MAX_CONSTRAINTS
+    read::constraint_count(plan) <= MAX_CONSTRAINTS
 }
 
 // The head: 1, 3, 4.
-pub fn check_head(b: &[u8], at: usize) -> Verdict
-    requires { ⌜ at ≤ length (now b) ⌝ }
-    ensures { λ r. ⌜ r ≡ verdictOf (firstFault (headChecks (now (b .entry)) at)) ⌝ }
+pub fn check_head(plan: &[u8], at: usize) -> Verdict
+    requires { ⌜ at ≤ length (now plan) ⌝ }
+    ensures { λ r. ⌜ r ≡ verdictOf (firstFault (headChecks (now (plan .entry)) at)) ⌝ }
 {
-    if !complete(b, at) {
+    if !complete(plan, at) {
         return Verdict::Fails(Fault::Truncated);
     }
-    if word_at(b, at) != 3 {
+    if word_at(plan, at) != 3 {
         return Verdict::Fails(Fault::BadLength);
     }
-    if !head_in_range(b) {
+    if !head_in_range(plan) {
         return Verdict::Fails(Fault::BadCount);
     }
     Verdict::Passes

@@ -17,18 +17,18 @@ ghost use Rattle.format.specs.Limits.{maxValues};
 ghost use Rattle.sections.specs.Known.{VariablesKnown};
 
 // Some value's code stands earlier in the section: the scan ends at the first such value.
-fn repeats_code(b: &[u8], at: usize) -> bool
-    requires { ⌜ at ≤ length (now b) ⌝ }
-    ensures { λ r. ⌜ r ≡ repeatsCode (now (b .entry)) at ⌝ }
+fn repeats_code(plan: &[u8], at: usize) -> bool
+    requires { ⌜ at ≤ length (now plan) ⌝ }
+    ensures { λ r. ⌜ r ≡ repeatsCode (now (plan .entry)) at ⌝ }
 {
-    let size = read::size(b, at);
+    let size = read::size(plan, at);
     let mut found = false;
     let mut v = 0;
     'scan: while v < size {
-        let code = read::code(b, at, v);
+        let code = read::code(plan, at, v);
         let mut u = 0;
         while u < v {
-            if read::code(b, at, u) == code {
+            if read::code(plan, at, u) == code {
                 found = true;
                 break 'scan;
             }
@@ -40,13 +40,13 @@ fn repeats_code(b: &[u8], at: usize) -> bool
 }
 
 // A variable's section: 1, 3 (length under 2), 4, 3, 5, 6.
-pub fn check_variable(b: &[u8], at: usize) -> Verdict
-    requires { ⌜ at ≤ length (now b) ⌝ }
-    ensures { λ r. ⌜ r ≡ verdictOf (firstFault (variableChecks (now (b .entry)) at)) ⌝ }
+pub fn check_variable(plan: &[u8], at: usize) -> Verdict
+    requires { ⌜ at ≤ length (now plan) ⌝ }
+    ensures { λ r. ⌜ r ≡ verdictOf (firstFault (variableChecks (now (plan .entry)) at)) ⌝ }
 {
-    let length = word_at(b, at);
-    let size = read::size(b, at);
-    if !section::complete(b, at) {
+    let length = word_at(plan, at);
+    let size = read::size(plan, at);
+    if !section::complete(plan, at) {
         return Verdict::Fails(Fault::Truncated);
     }
     if length < 2 {
@@ -58,19 +58,19 @@ pub fn check_variable(b: &[u8], at: usize) -> Verdict
     if length != 2 + 4 * size {
         return Verdict::Fails(Fault::BadLength);
     }
-    if !between(1, read::worker_count(b), read::owner(b, at)) {
+    if !between(1, read::worker_count(plan), read::owner(plan, at)) {
         return Verdict::Fails(Fault::BadNumber);
     }
-    if repeats_code(b, at) {
+    if repeats_code(plan, at) {
         return Verdict::Fails(Fault::RepeatedCode);
     }
     Verdict::Passes
 }
 
 // How many values the variable with number s has, from 1; `starts` has the places of the sections.
-pub fn numbered_size(b: &[u8], starts: &Starts, s: usize) -> usize
-    requires { ⌜ VariablesKnown (now b) (now starts) × (1 ≤ s) × (s ≤ variableCount (now b)) ⌝ }
-    ensures { λ r. ⌜ (r ≡ numberedSize (now (b .entry)) s) × (r ≤ maxValues) ⌝ }
+pub fn numbered_size(plan: &[u8], starts: &Starts, s: usize) -> usize
+    requires { ⌜ VariablesKnown (now plan) (now starts) × (1 ≤ s) × (s ≤ variableCount (now plan)) ⌝ }
+    ensures { λ r. ⌜ (r ≡ numberedSize (now (plan .entry)) s) × (r ≤ maxValues) ⌝ }
 {
-    read::size(b, starts[s])
+    read::size(plan, starts[s])
 }

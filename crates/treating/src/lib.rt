@@ -59,32 +59,32 @@ fn touch_values(cells: &mut [u16], i: usize, x: usize, n: usize, supported: usiz
 }
 
 // Variable x of row i, which shares a constraint with y.
-fn touch_variable(b: &[u8], cells: &mut [u16], i: usize, y: usize, w: usize, x: usize)
-    requires { ⌜ Ready (now b) (now cells) × (i < maxWorkers) × Loaded (now b) y w × (ownLinked (now b) i y x ≡ true) ⌝ }
-    ensures { λ _. ⌜ memOf (now (cells .exit)) ≡ touchVariableM (systemAt (now (b .entry))) i y w x (memOf (now (cells .entry))) ⌝ }
+fn touch_variable(plan: &[u8], cells: &mut [u16], i: usize, y: usize, w: usize, x: usize)
+    requires { ⌜ Ready (now plan) (now cells) × (i < maxWorkers) × Loaded (now plan) y w × (ownLinked (now plan) i y x ≡ true) ⌝ }
+    ensures { λ _. ⌜ memOf (now (cells .exit)) ≡ touchVariableM (systemAt (now (plan .entry))) i y w x (memOf (now (cells .entry))) ⌝ }
 {
-    let n = parts::size(b, cells, x);
-    let supported = supports::support_row(b, cells, y, w, x);
+    let n = parts::size(plan, cells, x);
+    let supported = supports::support_row(plan, cells, y, w, x);
     let row = parts::counter_row(cells, x, y);
     touch_values(cells, i, x, n, supported, row);
 }
 
 // Every variable: only those of the row that share a constraint with y are touched, so following their chain is enough.
-fn touch_variables(b: &[u8], cells: &mut [u16], i: usize, y: usize, w: usize)
-    requires { ⌜ Ready (now b) (now cells) × (i < maxWorkers) × Loaded (now b) y w ⌝ }
-    ensures { λ _. ⌜ memOf (now (cells .exit)) ≡ touchVariablesM (systemAt (now (b .entry))) i y w (memOf (now (cells .entry))) ⌝ }
+fn touch_variables(plan: &[u8], cells: &mut [u16], i: usize, y: usize, w: usize)
+    requires { ⌜ Ready (now plan) (now cells) × (i < maxWorkers) × Loaded (now plan) y w ⌝ }
+    ensures { λ _. ⌜ memOf (now (cells .exit)) ≡ touchVariablesM (systemAt (now (plan .entry))) i y w (memOf (now (cells .entry))) ⌝ }
 {
     let mut next = layout::get(cells, layout::FIRST, i, y);
     while next != 0 {
-        touch_variable(b, cells, i, y, w, next - 1);
+        touch_variable(plan, cells, i, y, w, next - 1);
         next = layout::get(cells, layout::FOLLOW, next - 1, y);
     }
 }
 
 // Row i takes the oldest label from its work list: 1 if there is one, and 0 if not.
-pub fn treat(b: &[u8], cells: &mut [u16], i: usize) -> usize
-    requires { ⌜ Ready (now b) (now cells) × (i < maxWorkers) × HeadLoaded (now b) (memOf (now cells)) i ⌝ }
-    ensures { λ r. ⌜ Acts (treatM (systemAt (now (b .entry))) i) (memOf (now (cells .entry))) (memOf (now (cells .exit))) r ⌝ }
+pub fn treat(plan: &[u8], cells: &mut [u16], i: usize) -> usize
+    requires { ⌜ Ready (now plan) (now cells) × (i < maxWorkers) × HeadLoaded (now plan) (memOf (now cells)) i ⌝ }
+    ensures { λ r. ⌜ Acts (treatM (systemAt (now (plan .entry))) i) (memOf (now (cells .entry))) (memOf (now (cells .exit))) r ⌝ }
 {
     let head = layout::get(cells, layout::WORKERS, i, layout::HEAD);
     if head >= layout::get(cells, layout::WORKERS, i, layout::TAIL) {
@@ -95,6 +95,6 @@ pub fn treat(b: &[u8], cells: &mut [u16], i: usize) -> usize
     }
     let c = layout::get(cells, layout::WORK, i, head);
     layout::put(cells, layout::WORKERS, i, layout::HEAD, head + 1);
-    touch_variables(b, cells, i, c / VALUEROOM, c % VALUEROOM);
+    touch_variables(plan, cells, i, c / VALUEROOM, c % VALUEROOM);
     1
 }

@@ -18,7 +18,7 @@ use Rattle.plan.specs.Network.{shareConstraint, networkOf}
 linked-requires : tie.Need-linked-requires
 linked-requires c κs =
     let start : tie.Start = search in
-    omega (arith, start .pre .0 .long, start .pre .1, start .pre .2, few-sections (now (start .args .b)) (start .pre .0 .sound))
+    omega (arith, start .pre .0 .long, start .pre .1, start .pre .2, few-sections (now (start .args .plan)) (start .pre .0 .sound))
 
 -- the test of the index says whether the two are linked, in either order
 module _ (c : tie.After-linked) where
@@ -26,11 +26,11 @@ module _ (c : tie.After-linked) where
   s = c .before .before .before .before
 
   found : (t : Bool) → c .linked .result ≡ t
-      → (shareConstraint (planOf (now (s .args .b))) (s .args .x) (s .args .y) ≡ t)
-      × (shareConstraint (planOf (now (s .args .b))) (s .args .y) (s .args .x) ≡ t)
+      → (shareConstraint (planOf (now (s .args .plan))) (s .args .x) (s .args .y) ≡ t)
+      × (shareConstraint (planOf (now (s .args .plan))) (s .args .y) (s .args .x) ≡ t)
   found t e =
-      let p = sym (c .linked .ensures (now (s .args .b)) (s .pre .0 .index)) ∙ e in
-      (p, sym (linked-symmetric (planOf (now (s .args .b))) (s .args .x) (s .args .y)) ∙ p)
+      let p = sym (c .linked .ensures (now (s .args .plan)) (s .pre .0 .index)) ∙ e in
+      (p, sym (linked-symmetric (planOf (now (s .args .plan))) (s .args .x) (s .args .y)) ∙ p)
 
 no-rows-requires : tie.Need-no-rows-requires
 no-rows-requires c κs = tt
@@ -57,8 +57,8 @@ put-counts-requires-2 c κs =
     let rows-read : tie.After-support-rows = search in
     let t = branch rows-read in
     let a = s (t .before) in (
-      ready-kept (now (a .args .b)) (now (a .args .cells)) _ (a .pre .0) (one-put .put-counts .kept .1 .0) (one-put .put-counts .ensures)
-          (counters-alone (pair-else (systemAt (now (a .args .b))) (a .args .x) (a .args .y) _)),
+      ready-kept (now (a .args .plan)) (now (a .args .cells)) _ (a .pre .0) (one-put .put-counts .kept .1 .0) (one-put .put-counts .ensures)
+          (counters-alone (pair-else (systemAt (now (a .args .plan))) (a .args .x) (a .args .y) _)),
       found (t .before) _ (t .if1 .taken) .1,
       rows-read .support-rows .ensures .1,
     )
@@ -74,7 +74,7 @@ returns c =
     let t = branch (one-put .before .before .before) in
     let a = s (t .before) .args in
     let f = found (t .before) _ (t .if1 .taken) in
-    both-linked (systemAt (now (a .b))) (a .x) (a .y) _ _ _ (f .0) (f .1) (one-put .put-counts .ensures) (both-put .put-counts2 .ensures)
+    both-linked (systemAt (now (a .plan))) (a .x) (a .y) _ _ _ (f .0) (f .1) (one-put .put-counts .ensures) (both-put .put-counts2 .ensures)
 
 same-length-2 : tie.Need-same-length-2
 same-length-2 c = search needs
@@ -84,7 +84,7 @@ unfolding systemOf networkOf
 returns-2 c =
     let a = s (c .before) .args in
     let f = found (c .before) _ (c .if1 .left) in
-    both-apart (systemAt (now (a .b))) (a .x) (a .y) _ (f .0) (f .1)
+    both-apart (systemAt (now (a .plan))) (a .x) (a .y) _ (f .0) (f .1)
 
 pub count-both-spec : {M : Type 1} → statement M
 count-both-spec =

@@ -24,7 +24,7 @@ count-both-requires : tie.Need-count-both-requires Inv-loop μ-loop
 count-both-requires c κs =
     let l = c .before .before in
     let s = l .before .before .before in (
-      ready-done (now (s .args .b)) (s .pre .0) (l .loop .inv) (λ y m. counters-alone (both-else _ y (s .args .x) m)),
+      ready-done (now (s .args .plan)) (s .pre .0) (l .loop .inv) (λ y m. counters-alone (both-else _ y (s .args .x) m)),
       omega (arith, c .before .loop-test .taken, s .pre .1),
       s .pre .1,
     )

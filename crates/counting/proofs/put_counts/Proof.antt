@@ -32,12 +32,12 @@ abbrev μ-loop : tie.MeasureT-loop
 size-requires : tie.Need-size-requires Inv-loop μ-loop
 size-requires c κs =
     let start : tie.Start Inv-loop μ-loop = search in
-    (start .pre .0, linked-inside (now (start .args .b)) (start .pre .0 .sound) (start .args .x) (start .args .y) (start .pre .1) .0)
+    (start .pre .0, linked-inside (now (start .args .plan)) (start .pre .0 .sound) (start .args .x) (start .args .y) (start .pre .1) .0)
 
 counter-row-requires : tie.Need-counter-row-requires Inv-loop μ-loop
 counter-row-requires c κs =
     let start : tie.Start Inv-loop μ-loop = search in
-    linked-row (now (start .args .b)) (now (start .args .cells)) (start .pre .0) (start .args .x) (start .args .y) (start .pre .1)
+    linked-row (now (start .args .plan)) (now (start .args .cells)) (start .pre .0) (start .args .x) (start .args .y) (start .pre .1)
 
 loop-holds : tie.Need-loop-holds Inv-loop μ-loop
 loop-holds c = done-none
@@ -55,7 +55,7 @@ module _ (t : tie.In-loop Inv-loop μ-loop) where
 
   -- its row
   given : getD (now (s .args .rows)) (l .loop .v) 0
-      ≡ supportRow (networkOf (planOf (now (s .args .b)))) (s .args .x) (s .args .y) (l .loop .v)
+      ≡ supportRow (networkOf (planOf (now (s .args .plan)))) (s .args .x) (s .args .y) (l .loop .v)
   given = s .pre .2 .each (l .loop .v) (omega (arith, t .loop-test .taken, sized .size .ensures))
 
 mul-row-count : tie.Need-mul-row-count Inv-loop μ-loop
@@ -69,7 +69,7 @@ cast-row-count : tie.Need-cast-row-count Inv-loop μ-loop
 cast-row-count c =
     let t = c .before .before in
     let a = s t .args in
-    omega (arith, supports-fit (now (a .b)) (s t .pre .0 .sound) (a .x) (a .y) (s t .pre .1) (l t .loop .v) _ (given t))
+    omega (arith, supports-fit (now (a .plan)) (s t .pre .0 .sound) (a .x) (a .y) (s t .pre .1) (l t .loop .v) _ (given t))
 
 row-count-requires : tie.Need-row-count-requires Inv-loop μ-loop
 row-count-requires c κs = tt
@@ -79,13 +79,13 @@ module _ (c : tie.After-row-count Inv-loop μ-loop) where
   abbrev t : tie.In-loop Inv-loop μ-loop
   t = c .before .before .before
 
-  counted : (c .row-count .result ≡ supportCount (networkOf (planOf (now (s t .args .b)))) (s t .args .x) (l t .loop .v) (s t .args .y))
+  counted : (c .row-count .result ≡ supportCount (networkOf (planOf (now (s t .args .plan)))) (s t .args .x) (l t .loop .v) (s t .args .y))
       × (c .row-count .result ≤ VALUEROOM)
   unfolding networkOf
   counted =
       let a = s t .args in
-      supports-counted (now (a .b)) (s t .pre .0 .sound) (a .x) (l t .loop .v) (a .y) _ (c .row-count .result)
-      (linked-inside (now (a .b)) (s t .pre .0 .sound) (a .x) (a .y) (s t .pre .1) .1) (given t) (c .row-count .ensures)
+      supports-counted (now (a .plan)) (s t .pre .0 .sound) (a .x) (l t .loop .v) (a .y) _ (c .row-count .result)
+      (linked-inside (now (a .plan)) (s t .pre .0 .sound) (a .x) (a .y) (s t .pre .1) .1) (given t) (c .row-count .ensures)
 
 put-requires : tie.Need-put-requires Inv-loop μ-loop
 put-requires c κs =

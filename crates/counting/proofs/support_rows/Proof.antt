@@ -26,7 +26,7 @@ abbrev μ-loop : tie.MeasureT-loop
 size-requires : tie.Need-size-requires Inv-loop μ-loop
 size-requires c κs =
     let s = c .before .before in
-    (s .pre .0, linked-inside (now (s .args .b)) (s .pre .0 .sound) (s .args .x) (s .args .y) (s .pre .1) .0)
+    (s .pre .0, linked-inside (now (s .args .plan)) (s .pre .0 .sound) (s .args .x) (s .args .y) (s .pre .1) .0)
 
 no-rows-requires : tie.Need-no-rows-requires Inv-loop μ-loop
 no-rows-requires c κs = tt
@@ -52,7 +52,7 @@ module _ (t : tie.In-loop Inv-loop μ-loop) where
   s = sized .before .before .before
 
   abbrev b : List ℕ
-  b = now (s .args .b)
+  b = now (s .args .plan)
 
   abbrev row : ℕ
   row = supportRow (networkOf (planOf b)) (s .args .x) (s .args .y) (l .loop .v)
@@ -117,7 +117,7 @@ returns c =
     let at-loop = c .before in
     let at-size : tie.After-size Inv-loop μ-loop = search in
     let start : tie.Start Inv-loop μ-loop = search in
-    let b = now (start .args .b) in
+    let b = now (start .args .plan) in
     let e : at-loop .loop .v ≡ at-size .size .result = omega (arith, c .loop-test .left, at-loop .loop .inv .0) in
     let all = e ∙ at-size .size .ensures .0 in (
       rw all at (at-loop .loop .inv .1),

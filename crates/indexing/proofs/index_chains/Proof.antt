@@ -33,10 +33,10 @@ abbrev start-of : tie.At-loop Inv-loop μ-loop → tie.Start Inv-loop μ-loop
 start-of l = let counted = l .before .before in counted .before .before .before
 
 -- while the chains grow, the sections' places are known
-places-known : (l : tie.At-loop Inv-loop μ-loop) → Located (now (start-of l .args .b)) (l .loop .cells)
+places-known : (l : tie.At-loop Inv-loop μ-loop) → Located (now (start-of l .args .plan)) (l .loop .cells)
 places-known l =
     let s = start-of l in
-    located-done (now (s .args .b)) (s .pre) (l .loop .inv .2)
+    located-done (now (s .args .plan)) (s .pre) (l .loop .inv .2)
     (λ c m k. link-keeps _ _ c m PLACES 0 k (λ e. omega arith) (λ e. omega arith))
 
 -- the constraint's place, and that the numbers of its variables are in order
@@ -47,15 +47,15 @@ module _ (c : tie.After-place Inv-loop μ-loop) where
   abbrev s : tie.Start Inv-loop μ-loop
   s = start-of l
 
-  listed : l .loop .c < constraintCount (now (s .args .b))
+  listed : l .loop .c < constraintCount (now (s .args .plan))
   listed = omega (arith, l .loop .inv, c .before .before .loop-test .taken)
 
-  found : c .place .result ≡ constraintStart (now (s .args .b)) (l .loop .c)
-  found = c .place .ensures .start ∙ ap (sectionStart (now (s .args .b))) (omega (arith, l .loop .inv .0))
+  found : c .place .result ≡ constraintStart (now (s .args .plan)) (l .loop .c)
+  found = c .place .ensures .start ∙ ap (sectionStart (now (s .args .plan))) (omega (arith, l .loop .inv .0))
 
-  numbers : InOrder (now (s .args .b)) (c .place .result)
+  numbers : InOrder (now (s .args .plan)) (c .place .result)
   numbers =
-      subst (InOrder (now (s .args .b))) (sym found) (in-order (now (s .args .b)) (s .pre .sound) (l .loop .c) listed)
+      subst (InOrder (now (s .args .plan))) (sym found) (in-order (now (s .args .plan)) (s .pre .sound) (l .loop .c) listed)
 
 loop-holds : tie.Need-loop-holds Inv-loop μ-loop
 loop-holds c = (c .before .variable-count .ensures .0, c .constraint-count .ensures .0, done-none)
@@ -64,14 +64,14 @@ add-place : tie.Need-add-place Inv-loop μ-loop
 add-place c =
     let at-loop : tie.At-loop Inv-loop μ-loop = search in
     let start : tie.Start Inv-loop μ-loop = search in
-    let few = few-sections (now (start .args .b)) (start .pre .sound) in
+    let few = few-sections (now (start .args .plan)) (start .pre .sound) in
     omega (arith, at-loop .loop .inv)
 
 add-place-2 : tie.Need-add-place-2 Inv-loop μ-loop
 add-place-2 c =
     let at-loop : tie.At-loop Inv-loop μ-loop = search in
     let start : tie.Start Inv-loop μ-loop = search in
-    let few = few-sections (now (start .args .b)) (start .pre .sound) in
+    let few = few-sections (now (start .args .plan)) (start .pre .sound) in
     omega (arith, at-loop .loop .inv)
 
 place-requires : tie.Need-place-requires Inv-loop μ-loop
@@ -95,7 +95,7 @@ link-requires : tie.Need-link-requires Inv-loop μ-loop
 link-requires c κs =
     let at-loop : tie.At-loop Inv-loop μ-loop = search in
     let start : tie.Start Inv-loop μ-loop = search in
-    let few = few-sections (now (start .args .b)) (start .pre .sound) in
+    let few = few-sections (now (start .args .plan)) (start .pre .sound) in
     let order = numbers (c .before .before .before) in (
       omega (arith, c .before .first .ensures),
       omega (arith, c .second .ensures),
@@ -114,7 +114,7 @@ loop-again c =
     let first-read : tie.After-first Inv-loop μ-loop = search in
     let placed : tie.After-place Inv-loop μ-loop = search in
     let inv = l placed .loop .inv in
-    let b = now (s placed .args .b) in
+    let b = now (s placed .args .plan) in
     let link = c .before .before .link in (
       inv .0,
       inv .1,

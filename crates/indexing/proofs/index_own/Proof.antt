@@ -28,11 +28,11 @@ variable-count-requires c κs = tt
 loop-holds : tie.Need-loop-holds Inv-loop μ-loop
 loop-holds c =
     let count = c .variable-count .ensures .0 in
-    let start : variableCount (now (c .before .before .before .args .b)) - c .variable-count .result ≡ 0 = omega (arith, count) in
+    let start : variableCount (now (c .before .before .before .args .plan)) - c .variable-count .result ≡ 0 = omega (arith, count) in
     (omega (arith, count), count, rw start done-none)
 
 -- while the chains grow, the sections' places are known
-places-known : (l : tie.At-loop Inv-loop μ-loop) → Located (now (l .before .before .before .before .args .b)) (l .loop .cells)
+places-known : (l : tie.At-loop Inv-loop μ-loop) → Located (now (l .before .before .before .before .args .plan)) (l .loop .cells)
 places-known l =
     located-done _ (l .before .before .before .before .pre) (l .loop .inv .2)
     (λ j m k. leads-same _ _ _ m PLACES 0 k (λ r e h. omega arith) (λ r e h. omega arith))
@@ -57,7 +57,7 @@ module _ (c : tie.After-owner Inv-loop μ-loop) where
   s = l .before .before .before .before
 
   abbrev b : List ℕ
-  b = now (s .args .b)
+  b = now (s .args .plan)
 
   listed : l .loop .x - 1 < variableCount b
   listed = omega (arith, l .loop .inv .0, c .before .before .before .loop-test .taken)

@@ -34,7 +34,7 @@ put-requires : tie.Need-put-requires Inv-loop μ-loop
 put-requires c κs =
     let at-loop : tie.At-loop Inv-loop μ-loop = search in
     let start : tie.Start Inv-loop μ-loop = search in
-    let b = now (start .args .b) in
+    let b = now (start .args .plan) in
     may-put _ _ _ refl _ _
     (omega (
       arith,
@@ -48,7 +48,7 @@ behind-requires : tie.Need-behind-requires Inv-loop μ-loop
 behind-requires c κs =
     let at-loop : tie.At-loop Inv-loop μ-loop = search in
     let start : tie.Start Inv-loop μ-loop = search in
-    omega (arith, start-inside (now (start .args .b)) (start .pre .0) (at-loop .loop .k) (omega (arith, at-loop .loop .inv)), at-loop .loop .inv)
+    omega (arith, start-inside (now (start .args .plan)) (start .pre .0) (at-loop .loop .k) (omega (arith, at-loop .loop .inv)), at-loop .loop .inv)
 
 add-k : tie.Need-add-k Inv-loop μ-loop
 add-k c = search needs
@@ -63,7 +63,7 @@ loop-again c =
     let start : tie.Start Inv-loop μ-loop = search in
     let put = c .before .before .before .put in (
       at-loop .loop .inv .0,
-      rw add-one (c .behind .ensures ∙ ap (behind (now (start .args .b))) (at-loop .loop .inv .1)),
+      rw add-one (c .behind .ensures ∙ ap (behind (now (start .args .plan))) (at-loop .loop .inv .1)),
       done-more (at-loop .loop .inv .2) (omega arith) (put .kept .0)
           (put .ensures ∙ ap (store (memOf (at-loop .loop .cells)) PLACES 0 (at-loop .loop .k)) (at-loop .loop .inv .1)),
     )

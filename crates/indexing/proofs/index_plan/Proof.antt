@@ -22,7 +22,7 @@ module _ (p : tie.After-index-places) where
   s = p .before .before .before .before
 
   abbrev b : List ℕ
-  b = now (s .args .b)
+  b = now (s .args .plan)
 
   written : Located b (p .index-places .last .1 .0)
   written = record {

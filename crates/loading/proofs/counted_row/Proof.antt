@@ -18,12 +18,12 @@ use Rattle.loading.proofs.counted_row.Tie as tie
 size-requires : tie.Need-size-requires
 size-requires c κs =
     let s = c .before .before in
-    (s .pre .0, linked-inside (now (s .args .b)) (s .pre .0 .sound) (s .args .x) (s .args .y) (s .pre .1) .0)
+    (s .pre .0, linked-inside (now (s .args .plan)) (s .pre .0 .sound) (s .args .x) (s .args .y) (s .pre .1) .0)
 
 counter-row-requires : tie.Need-counter-row-requires
 counter-row-requires c κs =
     let s = c .before .before .before in
-    linked-row (now (s .args .b)) (now (s .args .cells)) (s .pre .0) (s .args .x) (s .args .y) (s .pre .1)
+    linked-row (now (s .args .plan)) (now (s .args .cells)) (s .pre .0) (s .args .x) (s .args .y) (s .pre .1)
 
 power-requires : tie.Need-power-requires
 power-requires c κs = search needs

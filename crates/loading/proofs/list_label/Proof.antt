@@ -19,14 +19,14 @@ put-requires : tie.Need-put-requires
 put-requires c κs =
     let start : tie.Start = search in
     may-put _ _ _ refl _ _
-    (omega (arith, start .pre .0 .long, label-small (now (start .args .b)) (start .pre .0 .sound) (start .args .x) (start .args .v) (start .pre .1)))
+    (omega (arith, start .pre .0 .long, label-small (now (start .args .plan)) (start .pre .0 .sound) (start .args .x) (start .args .v) (start .pre .1)))
 
 owner-requires : tie.Need-owner-requires
 owner-requires c κs =
     let at-put : tie.After-put = search in
     let start : tie.Start = search in (
-      located (now (start .args .b)) _
-          (ready-kept (now (start .args .b)) (now (start .args .cells)) _ (start .pre .0) (at-put .put .kept .0) (at-put .put .ensures)
+      located (now (start .args .plan)) _
+          (ready-kept (now (start .args .plan)) (now (start .args .cells)) _ (start .pre .0) (at-put .put .kept .0) (at-put .put .ensures)
           (kept-stored DOMAIN (start .args .x) (start .args .v) LISTED (omega arith) kept-same)),
       start .pre .1 .variable,
     )
@@ -42,7 +42,7 @@ delete-requires c κs =
       arith,
       start .pre .0 .long,
       at-put .put .kept .0,
-      label-small (now (start .args .b)) (start .pre .0 .sound) (start .args .x) (start .args .v) (start .pre .1),
+      label-small (now (start .args .plan)) (start .pre .0 .sound) (start .args .x) (start .args .v) (start .pre .1),
       c .before .owner .ensures,
     )
 
@@ -56,7 +56,7 @@ returns c =
     let at-put : tie.After-put = search in
     let start : tie.Start = search in
     let a = start .args in
-    label-deleted (systemAt (now (a .b))) (a .x) (a .v) _ _ (at-put .put .ensures) (a .supported) _ _
+    label-deleted (systemAt (now (a .plan))) (a .x) (a .v) _ _ (at-put .put .ensures) (a .supported) _ _
     (not-true _ (unsupported .if1 .taken))
     (owner-read .owner .ensures .0) (c .before .before .delete .ensures)
 
@@ -68,7 +68,7 @@ returns-2 c =
     let at-put : tie.After-put = search in
     let start : tie.Start = search in
     let a = start .args in
-    label-kept (systemAt (now (a .b))) (a .x) (a .v) _ _ (at-put .put .ensures) (a .supported)
+    label-kept (systemAt (now (a .plan))) (a .x) (a .v) _ _ (at-put .put .ensures) (a .supported)
     (not-false _ (c .if1 .left))
 
 pub list-label-spec : {M : Type 1} → statement M

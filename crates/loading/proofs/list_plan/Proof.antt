@@ -27,7 +27,7 @@ list-variable-requires : tie.Need-list-variable-requires Inv-loop μ-loop
 list-variable-requires c κs =
     let at-loop : tie.At-loop Inv-loop μ-loop = search in
     let start : tie.Start Inv-loop μ-loop = search in (
-      ready-done (now (start .args .b)) (start .pre) (at-loop .loop .inv) (λ x m. index-behind (list-variable-kept _ x m)),
+      ready-done (now (start .args .plan)) (start .pre) (at-loop .loop .inv) (λ x m. index-behind (list-variable-kept _ x m)),
       omega (arith, at-loop .before .variable-count .ensures .0),
     )
 
@@ -49,7 +49,7 @@ returns : tie.Need-returns Inv-loop μ-loop
 unfolding listM
 returns c =
     let v = c .before .before in
-    done-all _ (c .before .loop .inv) (omega (arith, v .variable-count .ensures .0, variables-are (now (v .before .before .before .args .b))))
+    done-all _ (c .before .loop .inv) (omega (arith, v .variable-count .ensures .0, variables-are (now (v .before .before .before .args .plan))))
 
 pub list-plan-spec : {M : Type 1} → statement M
 list-plan-spec =

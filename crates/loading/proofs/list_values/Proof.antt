@@ -35,7 +35,7 @@ list-label-requires c κs =
     let at-loop : tie.At-loop Inv-loop μ-loop = search in
     let sized : tie.After-size Inv-loop μ-loop = search in
     let start : tie.Start Inv-loop μ-loop = search in (
-      ready-done (now (start .args .b)) (start .pre .0) (at-loop .loop .inv) (λ v m. index-behind (list-label-kept _ (start .args .x) v _ m)),
+      ready-done (now (start .args .plan)) (start .pre .0) (at-loop .loop .inv) (λ v m. index-behind (list-label-kept _ (start .args .x) v _ m)),
       record { variable = start .pre .1; value = omega (arith, in-loop .loop-test .taken, sized .size .ensures .0) },
     )
 
@@ -54,7 +54,7 @@ loop-again c =
     let a = start .args in
     done-more (at-loop .loop .inv) (omega arith) (listed .list-label .kept .1 .0)
     (listed .list-label .ensures
-    ∙ ap (λ (t : Bool). listLabelM (systemAt (now (a .b))) (a .x) (at-loop .loop .v) t (memOf (at-loop .loop .cells)))
+    ∙ ap (λ (t : Bool). listLabelM (systemAt (now (a .plan))) (a .x) (at-loop .loop .v) t (memOf (at-loop .loop .cells)))
     (row-read .row-holds .ensures))
 
 same-length : tie.Need-same-length Inv-loop μ-loop
@@ -66,7 +66,7 @@ returns c =
     let sized : tie.After-size Inv-loop μ-loop = search in
     let start : tie.Start Inv-loop μ-loop = search in
     let a = start .args in
-    done-all _ (c .before .loop .inv) (omega (arith, c .loop-test .left, sized .size .ensures .0, size-is (now (a .b)) (a .x)))
+    done-all _ (c .before .loop .inv) (omega (arith, c .loop-test .left, sized .size .ensures .0, size-is (now (a .plan)) (a .x)))
 
 pub list-values-spec : {M : Type 1} → statement M
 list-values-spec =

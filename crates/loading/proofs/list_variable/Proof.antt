@@ -26,7 +26,7 @@ returns c =
     let start : tie.Start = search in
     let a = start .args in
     listed .list-values .ensures
-    ∙ ap (λ (row : ℕ). listValuesM (systemAt (now (a .b))) (a .x) row (memOf (now (a .cells)))) (row-found .supported-row .ensures)
+    ∙ ap (λ (row : ℕ). listValuesM (systemAt (now (a .plan))) (a .x) row (memOf (now (a .cells)))) (row-found .supported-row .ensures)
 
 pub list-variable-spec : {M : Type 1} → statement M
 list-variable-spec = tie.close (tie.spec supported-row-requires list-values-requires same-length returns)

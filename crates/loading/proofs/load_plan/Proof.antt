@@ -16,7 +16,7 @@ list-plan-requires : tie.Need-list-plan-requires
 list-plan-requires c κs =
     let counted : tie.After-count-supports = search in
     let start : tie.Start = search in
-    ready-kept (now (start .args .b)) (now (start .args .cells)) _ (start .pre) (counted .count-supports .kept .1 .0)
+    ready-kept (now (start .args .plan)) (now (start .args .cells)) _ (start .pre) (counted .count-supports .kept .1 .0)
     (counted .count-supports .ensures)
     (counters-alone (count-else _ _))
 
@@ -30,7 +30,7 @@ returns c =
     let counted : tie.After-count-supports = search in
     let start : tie.Start = search in
     let a = start .args in
-    listed .list-plan .ensures ∙ ap (listM (systemAt (now (a .b)))) (counted .count-supports .ensures)
+    listed .list-plan .ensures ∙ ap (listM (systemAt (now (a .plan)))) (counted .count-supports .ensures)
 
 pub load-plan-spec : {M : Type 1} → statement M
 load-plan-spec = tie.close (tie.spec count-supports-requires list-plan-requires same-length returns)

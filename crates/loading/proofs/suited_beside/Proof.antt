@@ -14,21 +14,21 @@ use Rattle.plan.specs.Network.{networkOf}
 linked-requires : tie.Need-linked-requires
 linked-requires c κs =
     let s = c .before .before in
-    omega (arith, s .pre .0 .long, s .pre .1, s .pre .2, few-sections (now (s .args .b)) (s .pre .0 .sound))
+    omega (arith, s .pre .0 .long, s .pre .1, s .pre .2, few-sections (now (s .args .plan)) (s .pre .0 .sound))
 
 returns : tie.Need-returns
 unfolding systemOf networkOf
 returns c =
     let start : tie.Start = search in
     let a = start .args in
-    suited-apart (systemAt (now (a .b))) (memOf (now (a .cells))) (a .x) (a .y) (a .row)
-    (sym (c .before .linked .ensures (now (a .b)) (start .pre .0 .index)) ∙ not-true _ (c .if1 .taken))
+    suited-apart (systemAt (now (a .plan))) (memOf (now (a .cells))) (a .x) (a .y) (a .row)
+    (sym (c .before .linked .ensures (now (a .plan)) (start .pre .0 .index)) ∙ not-true _ (c .if1 .taken))
     (start .pre .3)
 
 counted-row-requires : tie.Need-counted-row-requires
 counted-row-requires c κs =
     let start : tie.Start = search in
-    (start .pre .0, sym (c .before .linked .ensures (now (start .args .b)) (start .pre .0 .index)) ∙ not-false _ (c .if1 .left))
+    (start .pre .0, sym (c .before .linked .ensures (now (start .args .plan)) (start .pre .0 .index)) ∙ not-false _ (c .if1 .left))
 
 returns-2 : tie.Need-returns-2
 unfolding systemOf networkOf
@@ -36,8 +36,8 @@ returns-2 c =
     let are-linked = c .before in
     let start : tie.Start = search in
     let a = start .args in
-    suited-linked (systemAt (now (a .b))) (memOf (now (a .cells))) (a .x) (a .y) (a .row) (c .counted-row .result)
-    (sym (are-linked .before .linked .ensures (now (a .b)) (start .pre .0 .index)) ∙ not-false _ (are-linked .if1 .left))
+    suited-linked (systemAt (now (a .plan))) (memOf (now (a .cells))) (a .x) (a .y) (a .row) (c .counted-row .result)
+    (sym (are-linked .before .linked .ensures (now (a .plan)) (start .pre .0 .index)) ∙ not-false _ (are-linked .if1 .left))
     (start .pre .3) (c .counted-row .ensures)
 
 pub suited-beside-spec : {M : Type 1} → statement M

@@ -37,8 +37,8 @@ loop-holds c =
     let start : tie.Start Inv-loop μ-loop = search in
     let a = start .args in (
       omega arith,
-      suited-all (systemAt (now (a .b))) (memOf (now (a .cells))) (a .x) (c .power .result) (sized .size .result)
-          (sized .size .ensures .0 ∙ size-is (now (a .b)) (a .x)) (c .power .ensures),
+      suited-all (systemAt (now (a .plan))) (memOf (now (a .cells))) (a .x) (c .power .result) (sized .size .result)
+          (sized .size .ensures .0 ∙ size-is (now (a .plan)) (a .x)) (c .power .ensures),
     )
 
 suited-beside-requires : tie.Need-suited-beside-requires Inv-loop μ-loop
@@ -60,7 +60,7 @@ loop-again c = (omega arith, c .suited-beside .ensures)
 returns : tie.Need-returns Inv-loop μ-loop
 returns c =
     let counted : tie.After-variable-count Inv-loop μ-loop = search in
-    let b = now (counted .before .before .before .args .b) in
+    let b = now (counted .before .before .before .args .plan) in
     let e : c .before .loop .y ≡ systemAt b .net .variables =
     omega (arith, c .loop-test .left, c .before .loop .inv .0, counted .variable-count .ensures .0, variables-are b) in
     rw e at (c .before .loop .inv .1)

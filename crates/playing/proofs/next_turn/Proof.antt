@@ -28,7 +28,7 @@ played c = c .before .before .before .before
 inside : (s : tie.Start) → (s .args .actor < actors) × (s .args .action < actions)
 inside s =
     let few : s .args .p ≤ maxWorkers =
-    omega (arith, s .pre .1, playable (now (s .args .b)) (now (s .args .cells)) (s .args .g) (s .pre .0) .workers) in
+    omega (arith, s .pre .1, playable (now (s .args .plan)) (now (s .args .cells)) (s .args .g) (s .pre .0) .workers) in
     let h = allowed-bounds (s .args .p) (turn (s .args .actor) (s .args .action)) few (s .pre .2) in
     (omega (arith, h .0), h .1)
 
@@ -41,7 +41,7 @@ returns c =
     let looked-up = c .before in
     let s : tie.Start = search in
     let a = s .args in (
-      passed-over (now (a .b)) (now (a .cells)) (a .g) (now (a .table)) (s .pre .0) (s .pre .3) (a .actor) (a .action)
+      passed-over (now (a .plan)) (now (a .cells)) (a .g) (now (a .table)) (s .pre .0) (s .pre .3) (a .actor) (a .action)
           (inside s .0) (inside s .1) (eqb-true _ 1 (sym (looked-up .is-set .ensures) ∙ c .if1 .taken)),
       s .pre .3,
     )
@@ -73,7 +73,7 @@ forget-requires c κs =
 
 -- what is known after a changing turn
 known-after : (c : tie.After-forget) → let v = played (c .before .before .before) in
-    KnownIdle (now (start v .args .b)) (v .advance .last .1 .0) (v .advance .result .tally) (c .forget .last .0)
+    KnownIdle (now (start v .args .plan)) (v .advance .last .1 .0) (v .advance .result .tally) (c .forget .last .0)
 known-after c =
     let v = played (c .before .before .before) in
     let a = start v .args in

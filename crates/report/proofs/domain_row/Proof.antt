@@ -16,7 +16,7 @@ size-requires c κs = c .before .before .pre
 row-holding-requires : tie.Need-row-holding-requires
 row-holding-requires c κs =
     let s = c .before .before .before in
-    (may-get _ _ _ refl _ (omega (arith, few-sections (now (s .args .b)) (s .pre .0 .sound), s .pre .0 .long, s .pre .1)), c .size .ensures .1)
+    (may-get _ _ _ refl _ (omega (arith, few-sections (now (s .args .plan)) (s .pre .0 .sound), s .pre .0 .long, s .pre .1)), c .size .ensures .1)
 
 returns : tie.Need-returns
 returns c =

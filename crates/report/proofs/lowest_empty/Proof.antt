@@ -38,7 +38,7 @@ returns : tie.Need-returns Inv-loop μ-loop
 returns c =
     let at-loop : tie.At-loop Inv-loop μ-loop = search in
     let start : tie.Start Inv-loop μ-loop = search in
-    let b = now (start .args .b) in (
+    let b = now (start .args .plan) in (
       empty-here b (memOf (now (start .args .cells))) (at-loop .loop .x) (at-loop .loop .inv .1)
           (omega (arith, at-loop .before .variable-count .ensures))
           (sym (c .before .domain-row .ensures .0) ∙ c .if1 .taken),
@@ -56,7 +56,7 @@ loop-again c =
     let at-loop : tie.At-loop Inv-loop μ-loop = search in
     let start : tie.Start Inv-loop μ-loop = search in (
       omega arith,
-      empty-next (now (start .args .b)) (memOf (now (start .args .cells))) (at-loop .loop .x) (at-loop .loop .inv .1)
+      empty-next (now (start .args .plan)) (memOf (now (start .args .cells))) (at-loop .loop .x) (at-loop .loop .inv .1)
           (λ e. c .if1 .left (c .before .domain-row .ensures .0 ∙ e)),
     )
 
@@ -64,7 +64,7 @@ returns-2 : tie.Need-returns-2 Inv-loop μ-loop
 returns-2 c =
     let at-loop = c .before in
     let start : tie.Start Inv-loop μ-loop = search in (
-      empty-nowhere (now (start .args .b)) (memOf (now (start .args .cells))) (at-loop .loop .x) (at-loop .loop .inv .1)
+      empty-nowhere (now (start .args .plan)) (memOf (now (start .args .cells))) (at-loop .loop .x) (at-loop .loop .inv .1)
           (omega (arith, at-loop .before .variable-count .ensures)),
       omega arith,
     )

@@ -15,7 +15,7 @@ status-of-requires c κs = search needs
 returns : tie.Need-returns
 returns c =
     let start : tie.Start = search in
-    report-law (now (start .args .b)) (memOf (now (start .args .cells))) (start .args .g) (c .status-of .result)
+    report-law (now (start .args .plan)) (memOf (now (start .args .cells))) (start .args .g) (c .status-of .result)
     (c .before .lowest-empty .result) (c .status-of .ensures) (c .before .lowest-empty .ensures .0 (start .args .g .tally))
 
 pub report-spec : {M : Type 1} → statement M

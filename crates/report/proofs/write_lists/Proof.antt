@@ -36,9 +36,9 @@ unfolding listNeed
 long c =
     let s = start-of c in
     let room : c .before .variable-count .result ≤ length (now (s .args .lists)) =
-    omega (arith, few-sections (now (s .args .b)) (s .pre .0 .sound), c .before .variable-count .ensures, s .pre .1) in (
+    omega (arith, few-sections (now (s .args .plan)) (s .pre .0 .sound), c .before .variable-count .ensures, s .pre .1) in (
       ap length (c .loop .inv .1)
-          ∙ rows-length (now (s .args .b)) (memOf (now (s .args .cells))) (c .loop .x) (now (s .args .lists))
+          ∙ rows-length (now (s .args .plan)) (memOf (now (s .args .cells))) (c .loop .x) (now (s .args .lists))
           (omega (arith, c .loop .inv .0)),
       room,
     )
@@ -70,7 +70,7 @@ loop-again c =
     let start : tie.Start Inv-loop μ-loop = search in (
       omega arith,
       ap₂ (λ (a : List ℕ) (v : ℕ). set a (at-loop .loop .x) v) (at-loop .loop .inv .1) (c .domain-row .ensures .0)
-          ∙ rows-next (now (start .args .b)) (memOf (now (start .args .cells))) (at-loop .loop .x) (now (start .args .lists))
+          ∙ rows-next (now (start .args .plan)) (memOf (now (start .args .cells))) (at-loop .loop .x) (now (start .args .lists))
           (omega (arith, long at-loop)),
     )
 
@@ -82,7 +82,7 @@ returns c t =
     let at-loop = c .before in
     let start : tie.Start Inv-loop μ-loop = search in
     at-loop .loop .inv .1
-    ∙ rows-all (now (start .args .b)) (memOf (now (start .args .cells))) (at-loop .loop .x) (now (start .args .lists))
+    ∙ rows-all (now (start .args .plan)) (memOf (now (start .args .cells))) (at-loop .loop .x) (now (start .args .lists))
     (omega (arith, at-loop .before .variable-count .ensures)) t
 
 pub write-lists-spec : {M : Type 1} → statement M

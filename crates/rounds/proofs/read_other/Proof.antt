@@ -11,12 +11,12 @@ use Rattle.rounds.proofs.read_other.Tie as tie
 returns : tie.Need-returns
 returns c =
     let a = c .before .before .before .args in
-    (rw (eq-eqb (a .j) (a .k) (c .if1 .taken)) (works-none (now (a .b)) (now (a .cells)) (a .t)), omega arith)
+    (rw (eq-eqb (a .j) (a .k) (c .if1 .taken)) (works-none (now (a .plan)) (now (a .cells)) (a .t)), omega arith)
 
 read-turn-requires : tie.Need-read-turn-requires
 read-turn-requires c κs =
     let start : tie.Start = search in
-    let can = running-playable (now (start .args .b)) (now (start .args .cells)) (start .args .t) (start .pre .0) in (
+    let can = running-playable (now (start .args .plan)) (now (start .args .cells)) (start .args .t) (start .pre .0) in (
       start .pre .0,
       start .pre .1,
       start .pre .2,

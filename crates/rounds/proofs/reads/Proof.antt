@@ -23,7 +23,7 @@ abbrev μ-loop : tie.MeasureT-loop
 
 few-at : (s : tie.Start Inv-loop μ-loop) → s .args .p ≤ maxWorkers
 few-at s =
-    omega (arith, s .pre .1, running-playable (now (s .args .b)) (now (s .args .cells)) (s .args .t) (s .pre .0) .workers)
+    omega (arith, s .pre .1, running-playable (now (s .args .plan)) (now (s .args .cells)) (s .args .t) (s .pre .0) .workers)
 
 loop-holds : tie.Need-loop-holds Inv-loop μ-loop
 loop-holds c = none-worked _ _ _ _ _

@@ -30,16 +30,16 @@ start r = let told = r .before .before in told .before .before .before
 reads-requires : tie.Need-reads-requires
 reads-requires c κs =
     let s = c .before .before .before .before in
-    (running-by (now (s .args .b)) (now (s .args .cells)) (s .args .g) (s .pre .0), s .pre .1, s .pre .2, s .pre .3)
+    (running-by (now (s .args .plan)) (now (s .args .cells)) (s .args .g) (s .pre .0), s .pre .1, s .pre .2, s .pre .3)
 
 -- the run goes on after the reads and after treating
-has-read : (r : tie.After-reads) → Running (now (start r .args .b)) (r .reads .last .1 .0) (start r .args .g .tally)
+has-read : (r : tie.After-reads) → Running (now (start r .args .plan)) (r .reads .last .1 .0) (start r .args .g .tally)
 has-read r =
     let a = start r .args in
-    running-after _ _ _ _ _ _ _ (running-by (now (a .b)) (now (a .cells)) (a .g) (start r .pre .0)) (r .reads .kept .1 .0) (r .reads .ensures .0)
+    running-after _ _ _ _ _ _ _ (running-by (now (a .plan)) (now (a .cells)) (a .g) (start r .pre .0)) (r .reads .kept .1 .0) (r .reads .ensures .0)
 
 has-treated : (t : tie.After-work-turn)
-    → Running (now (start (read t) .args .b)) (t .work-turn .last .1 .0) (start (read t) .args .g .tally)
+    → Running (now (start (read t) .args .plan)) (t .work-turn .last .1 .0) (start (read t) .args .g .tally)
 has-treated t = running-after _ _ _ _ _ _ _ (has-read (read t)) (t .work-turn .kept .1 .0) (t .work-turn .ensures .0)
 
 work-turn-requires : tie.Need-work-turn-requires
@@ -75,7 +75,7 @@ room e =
     let d = sent e in
     let t = treated d in
     let s = start (read t) in
-    let c = going-small (now (s .args .b)) (now (s .args .cells)) (s .args .g) (s .pre .0) in
+    let c = going-small (now (s .args .plan)) (now (s .args .cells)) (s .args .g) (s .pre .0) in
     omega (arith, c .0, c .1, read t .reads .ensures .1, t .work-turn .ensures .1, d .work-turn2 .ensures .1, e .work-turn3 .ensures .1)
 
 add-t19 : tie.Need-add-t19
@@ -104,7 +104,7 @@ returns c =
     let t = treated d in
     let r = read t in
     let a = start r .args in
-    let b = now (a .b) in
+    let b = now (a .plan) in
     let k = a .k in
     worked-plays b (workerRound (a .p) k) _ _ _ _ (a .g) _
     (works-then b (map (turn k) (others (a .p) k)) (turn k treatAction ∷ turn k sendAction ∷ turn k answerAction ∷ []) _ _ _ _ _ _ _ _ (r .reads .ensures .0)

@@ -28,7 +28,7 @@ returns : tie.Need-returns
 returns c w h =
     let kind-read : tie.After-kind = search in
     let start : tie.Start = search in
-    let b = now (start .args .b) in
+    let b = now (start .args .plan) in
     limit-bits b (start .args .at) (start .args .here) (start .args .v) (start .args .there)
     (ne-eqb (kindAt b (start .args .at)) 0 (λ e. c .before .before .before .if1 .taken (kind-read .kind .ensures .0 ∙ e))) (start .args .leads)
     (c .before .before .limit .result) (c .before .figure .result) (start .args .values) (c .limit-row .result)
@@ -45,7 +45,7 @@ returns-2 : tie.Need-returns-2
 returns-2 c w h =
     let kind-read : tie.After-kind = search in
     let start : tie.Start = search in
-    let b = now (start .args .b) in
+    let b = now (start .args .plan) in
     rw (c .before .if2 .taken)
     (table-bits b (start .args .at) (start .args .here) (start .args .v) (start .args .there)
     (is-table b (start .args .at) (kind-read .kind .result) (kind-read .kind .ensures .0) (c .before .before .if1 .left))
@@ -58,7 +58,7 @@ returns-3 : tie.Need-returns-3
 returns-3 c w h =
     let kind-read : tie.After-kind = search in
     let start : tie.Start = search in
-    let b = now (start .args .b) in
+    let b = now (start .args .plan) in
     rw (c .before .if2 .left)
     (column-bits b (start .args .at) (start .args .here) (start .args .v) (start .args .there)
     (is-table b (start .args .at) (kind-read .kind .result) (kind-read .kind .ensures .0) (c .before .before .if1 .left))

@@ -24,7 +24,7 @@ room-beside-requires c κs = c .before .pre .2
 loop-holds : tie.Need-loop-holds Inv-loop μ-loop
 loop-holds c =
     let a = c .before .before .args in
-    upper-start (limited (now (a .b)) (a .limit) (a .f) (a .place)) (a .values)
+    upper-start (limited (now (a .plan)) (a .limit) (a .f) (a .place)) (a .values)
 
 sub-w : tie.Need-sub-w Inv-loop μ-loop
 sub-w c = omega (arith, c .loop-test .taken)
@@ -36,7 +36,7 @@ mul-row c =
     let a = start .args in
     omega (
       arith,
-      upper-small (limited (now (a .b)) (a .limit) (a .f) (a .place)) (a .values) (at-loop .loop .row) (at-loop .loop .w) (start .pre .1)
+      upper-small (limited (now (a .plan)) (a .limit) (a .f) (a .place)) (a .values) (at-loop .loop .row) (at-loop .loop .w) (start .pre .1)
           (at-loop .loop .inv),
     )
 
@@ -56,11 +56,11 @@ module _ (c : tie.After-row-if Inv-loop μ-loop) where
   abbrev s : tie.Start Inv-loop μ-loop
   s = l .before .before .before
 
-  more : Upper (limited (now (s .args .b)) (s .args .limit) (s .args .f) (s .args .place)) (s .args .values)
+  more : Upper (limited (now (s .args .plan)) (s .args .limit) (s .args .f) (s .args .place)) (s .args .values)
       (2 * l .loop .row + c .row-if .result) (l .loop .w - 1)
   unfolding limited
   more =
-      let t = limited (now (s .args .b)) (s .args .limit) (s .args .f) (s .args .place) in
+      let t = limited (now (s .args .plan)) (s .args .limit) (s .args .f) (s .args .place) in
       upper-next t (s .args .values) (l .loop .row) (l .loop .w - 1)
       (at-suc (Upper t (s .args .values) (l .loop .row)) (l .loop .w) (c .before .before .loop-test .taken) (l .loop .inv))
       (c .row-if .result)
@@ -74,7 +74,7 @@ add-row c =
     let a = s c .args in
     omega (
       arith,
-      upper-small (limited (now (a .b)) (a .limit) (a .f) (a .place)) (a .values) (2 * l c .loop .row + c .row-if .result)
+      upper-small (limited (now (a .plan)) (a .limit) (a .f) (a .place)) (a .values) (2 * l c .loop .row + c .row-if .result)
           (l c .loop .w - 1) (s c .pre .1) (more c),
     )
 
@@ -88,7 +88,7 @@ returns : tie.Need-returns Inv-loop μ-loop
 returns c =
     let l = c .before in
     let a = l .before .before .before .args in
-    upper-all (limited (now (a .b)) (a .limit) (a .f) (a .place)) (a .values) (l .loop .row) (l .loop .w)
+    upper-all (limited (now (a .plan)) (a .limit) (a .f) (a .place)) (a .values) (l .loop .row) (l .loop .w)
     (omega (arith, c .loop-test .left)) (l .loop .inv)
 
 pub limit-row-spec : {M : Type 1} → statement M

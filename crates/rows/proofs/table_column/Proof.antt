@@ -29,7 +29,7 @@ sub-part-2 c = omega (arith, c .before .pre .1)
 loop-holds : tie.Need-loop-holds Inv-loop μ-loop
 loop-holds c =
     let a = c .before .args in
-    upper-start (inColumn (now (a .b)) (a .at) (a .v)) (a .values)
+    upper-start (inColumn (now (a .plan)) (a .at) (a .v)) (a .values)
 
 sub-w : tie.Need-sub-w Inv-loop μ-loop
 sub-w c = omega (arith, c .loop-test .taken)
@@ -41,7 +41,7 @@ mul-row c =
     let a = s .args in
     omega (
       arith,
-      upper-small (inColumn (now (a .b)) (a .at) (a .v)) (a .values) (l .loop .row) (l .loop .w) (s .pre .2)
+      upper-small (inColumn (now (a .plan)) (a .at) (a .v)) (a .values) (l .loop .row) (l .loop .w) (s .pre .2)
           (l .loop .inv),
     )
 
@@ -64,11 +64,11 @@ module _ (c : tie.After-row-if Inv-loop μ-loop) where
   abbrev s : tie.Start Inv-loop μ-loop
   s = l .before .before
 
-  more : Upper (inColumn (now (s .args .b)) (s .args .at) (s .args .v)) (s .args .values)
+  more : Upper (inColumn (now (s .args .plan)) (s .args .at) (s .args .v)) (s .args .values)
       (2 * l .loop .row + c .row-if .result) (l .loop .w - 1)
   unfolding byteAt
   more =
-      let t = inColumn (now (s .args .b)) (s .args .at) (s .args .v) in
+      let t = inColumn (now (s .args .plan)) (s .args .at) (s .args .v) in
       upper-next t (s .args .values) (l .loop .row) (l .loop .w - 1)
       (at-suc (Upper t (s .args .values) (l .loop .row)) (l .loop .w) (c .before .before .before .loop-test .taken) (l .loop .inv))
       (c .row-if .result)
@@ -76,7 +76,7 @@ module _ (c : tie.After-row-if Inv-loop μ-loop) where
       ∙ ap one
       (c .before .row-holds .ensures
       ∙ ap (λ (r : ℕ). bit r (s .args .v % 8)) (c .before .before .table-byte .ensures .0)
-      ∙ column-byte (now (s .args .b)) (λ i. l .before .shared-slice-known .given i .fits) (s .args .at) (s .args .v)
+      ∙ column-byte (now (s .args .plan)) (λ i. l .before .shared-slice-known .given i .fits) (s .args .at) (s .args .v)
       (s .pre .1) (l .loop .w - 1)))
 
 add-row : tie.Need-add-row Inv-loop μ-loop
@@ -84,7 +84,7 @@ add-row c =
     let a = s c .args in
     omega (
       arith,
-      upper-small (inColumn (now (a .b)) (a .at) (a .v)) (a .values) (2 * l c .loop .row + c .row-if .result)
+      upper-small (inColumn (now (a .plan)) (a .at) (a .v)) (a .values) (2 * l c .loop .row + c .row-if .result)
           (l c .loop .w - 1) (s c .pre .2) (more c),
     )
 
@@ -98,7 +98,7 @@ returns : tie.Need-returns Inv-loop μ-loop
 returns c =
     let l = c .before in
     let a = l .before .before .args in
-    upper-all (inColumn (now (a .b)) (a .at) (a .v)) (a .values) (l .loop .row) (l .loop .w)
+    upper-all (inColumn (now (a .plan)) (a .at) (a .v)) (a .values) (l .loop .row) (l .loop .w)
     (omega (arith, c .loop-test .left)) (l .loop .inv)
 
 pub table-column-spec : {M : Type 1} → statement M

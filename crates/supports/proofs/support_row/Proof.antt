@@ -38,11 +38,11 @@ abbrev μ-loop : tie.MeasureT-loop
 μ-loop b cells x v y variables here there values row₀ next₀ row next = next
 
 module _ (s : tie.Start Inv-loop μ-loop) where
-  few : (variableCount (now (s .args .b)) ≤ maxVariables) × (constraintCount (now (s .args .b)) ≤ maxConstraints)
-  few = few-sections (now (s .args .b)) (s .pre .0 .sound)
+  few : (variableCount (now (s .args .plan)) ≤ maxVariables) × (constraintCount (now (s .args .plan)) ≤ maxConstraints)
+  few = few-sections (now (s .args .plan)) (s .pre .0 .sound)
 
-  inside : s .args .y < variableCount (now (s .args .b))
-  inside = linked-inside (now (s .args .b)) (s .pre .0 .sound) (s .args .x) (s .args .y) (s .pre .2) .1
+  inside : s .args .y < variableCount (now (s .args .plan))
+  inside = linked-inside (now (s .args .plan)) (s .pre .0 .sound) (s .args .x) (s .args .y) (s .pre .2) .1
 
 variable-count-requires : tie.Need-variable-count-requires Inv-loop μ-loop
 variable-count-requires c κs = search needs
@@ -53,7 +53,7 @@ add-place c = omega (arith, few (c .before .before .before))
 place-requires : tie.Need-place-requires Inv-loop μ-loop
 place-requires c κs =
     let start : tie.Start Inv-loop μ-loop = search in
-    (located (now (start .args .b)) (now (start .args .cells)) (start .pre .0), omega (arith, start .pre .1 .variable))
+    (located (now (start .args .plan)) (now (start .args .cells)) (start .pre .0), omega (arith, start .pre .1 .variable))
 
 add-place-2 : tie.Need-add-place-2 Inv-loop μ-loop
 add-place-2 c =
@@ -63,7 +63,7 @@ add-place-2 c =
 place-requires-2 : tie.Need-place-requires-2 Inv-loop μ-loop
 place-requires-2 c κs =
     let start : tie.Start Inv-loop μ-loop = search in
-    (located (now (start .args .b)) (now (start .args .cells)) (start .pre .0), omega (arith, inside start))
+    (located (now (start .args .plan)) (now (start .args .cells)) (start .pre .0), omega (arith, inside start))
 
 size-requires : tie.Need-size-requires Inv-loop μ-loop
 size-requires c κs =
@@ -84,7 +84,7 @@ get-requires c κs =
 loop-holds : tie.Need-loop-holds Inv-loop μ-loop
 loop-holds c =
     let start : tie.Start Inv-loop μ-loop = search in
-    left-start (now (start .args .b)) (start .args .x) (start .args .v) (start .args .y) (c .before .before .size .result) (c .before .power .result)
+    left-start (now (start .args .plan)) (start .args .x) (start .args .v) (start .args .y) (c .before .before .size .result) (c .before .power .result)
     (c .before .power .ensures) (c .get .result) (c .get .ensures .0 ∙ start .pre .0 .index .heads (start .args .x) (start .args .y))
 
 -- the walk before a constraint, and what was read before the walk
@@ -98,11 +98,11 @@ module _ (l : tie.At-loop Inv-loop μ-loop) where
   abbrev s : tie.Start Inv-loop μ-loop
   s = counted .before .before .before
 
-  here-placed : Placed (now (s .args .b)) (sized .before .before .place .result) (suc (s .args .x))
-  here-placed = subst (Placed (now (s .args .b)) _) (add-one (s .args .x)) (sized .before .before .place .ensures)
+  here-placed : Placed (now (s .args .plan)) (sized .before .before .place .result) (suc (s .args .x))
+  here-placed = subst (Placed (now (s .args .plan)) _) (add-one (s .args .x)) (sized .before .before .place .ensures)
 
-  there-placed : Placed (now (s .args .b)) (sized .before .place2 .result) (suc (s .args .y))
-  there-placed = subst (Placed (now (s .args .b)) _) (add-one (s .args .y)) (sized .before .place2 .ensures)
+  there-placed : Placed (now (s .args .plan)) (sized .before .place2 .result) (suc (s .args .y))
+  there-placed = subst (Placed (now (s .args .plan)) _) (add-one (s .args .y)) (sized .before .place2 .ensures)
 
 add-place-3 : tie.Need-add-place-3 Inv-loop μ-loop
 add-place-3 c =
@@ -113,7 +113,7 @@ place-requires-3 : tie.Need-place-requires-3 Inv-loop μ-loop
 place-requires-3 c κs =
     let l = c .before in
     let st = s l in (
-      located (now (st .args .b)) (now (st .args .cells)) (st .pre .0),
+      located (now (st .args .plan)) (now (st .args .cells)) (st .pre .0),
       omega (arith, l .loop .inv .along .low, counted l .variable-count .ensures),
     )
 
@@ -123,7 +123,7 @@ module _ (c : tie.After-place3 Inv-loop μ-loop) where
   l = c .before .before
 
   abbrev b : List ℕ
-  b = now (s l .args .b)
+  b = now (s l .args .plan)
 
   abbrev x : ℕ
   x = s l .args .x
@@ -195,7 +195,7 @@ returns : tie.Need-returns Inv-loop μ-loop
 returns c =
     let l = c .before in
     let a = s l .args in
-    let b = now (a .b) in
+    let b = now (a .plan) in
     let n : l .loop .next ≡ 0 = omega (arith, c .loop-test .left) in
     left-all b (a .x) (a .v) (a .y) (sized l .size .result) (l .loop .row) (rw n at (l .loop .inv))
     ∙ ap (λ (k : ℕ). rowOf k (pairAllowed (planOf b) (a .x) (a .v) (a .y))) (sized l .size .ensures .0)

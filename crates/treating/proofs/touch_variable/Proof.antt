@@ -24,7 +24,7 @@ use Rattle.treating.proofs.touch_variable.Tie as tie
 -- what is known of the two variables
 module _ (s : tie.Start) where
   abbrev b : List ℕ
-  b = now (s .args .b)
+  b = now (s .args .plan)
 
   both : owns b (s .args .i) (s .args .x) && shareConstraint (planOf b) (s .args .x) (s .args .y) ≡ true
   both = sym (own-linked b (s .args .i) (s .args .y) (s .args .x)) ∙ s .pre .3

@@ -33,7 +33,7 @@ get-requires : tie.Need-get-requires Inv-loop μ-loop
 get-requires c κs =
     let start : tie.Start Inv-loop μ-loop = search in
     may-get _ _ _ refl _
-    (omega (arith, start .pre .0 .long, start .pre .1, start .pre .2 .variable, few-sections (now (start .args .b)) (start .pre .0 .sound)))
+    (omega (arith, start .pre .0 .long, start .pre .1, start .pre .2 .variable, few-sections (now (start .args .plan)) (start .pre .0 .sound)))
 
 loop-holds : tie.Need-loop-holds Inv-loop μ-loop
 loop-holds c =
@@ -41,7 +41,7 @@ loop-holds c =
     let a = start .args in (
       start .pre .0,
       refl,
-      reached-start (now (a .b)) (a .i) (a .y) (a .w) (memOf (now (a .cells))) (c .get .result)
+      reached-start (now (a .plan)) (a .i) (a .y) (a .w) (memOf (now (a .cells))) (c .get .result)
           (c .get .ensures .0 ∙ start .pre .0 .index .first (a .i) (start .pre .1) (a .y) (start .pre .2 .variable)),
     )
 
@@ -54,7 +54,7 @@ module _ (t : tie.In-loop Inv-loop μ-loop) where
   s = let led = l .before in led .before .before .before .before
 
   abbrev b : List ℕ
-  b = now (s .args .b)
+  b = now (s .args .plan)
 
   abbrev x : ℕ
   x = l .loop .next - 1
@@ -100,7 +100,7 @@ get-requires-2 c κs =
     let v : tie.After-touch-variable Inv-loop μ-loop = search in
     let s = s (t v) in
     may-get _ _ _ refl _
-    (omega (arith, ready v .long, inside (t v), s .pre .2 .variable, few-sections (now (s .args .b)) (s .pre .0 .sound)))
+    (omega (arith, ready v .long, inside (t v), s .pre .2 .variable, few-sections (now (s .args .plan)) (s .pre .0 .sound)))
 
 -- what the chain goes on with
 abbrev touched : tie.After-get2 Inv-loop μ-loop → tie.After-touch-variable Inv-loop μ-loop
@@ -145,7 +145,7 @@ returns c =
     let at-loop = c .before in
     let start : tie.Start Inv-loop μ-loop = search in
     let a = start .args in
-    let b = now (a .b) in
+    let b = now (a .plan) in
     at-loop .loop .inv .2 .done (omega (arith, c .loop-test .left))
     ∙ ap (λ (n : ℕ). loop n (touchVariableM (systemAt b) (a .i) (a .y) (a .w)) (memOf (now (a .cells)))) (sym (variables-are b))
 

@@ -49,10 +49,10 @@ touch-variables-requires c κs =
     let at-get2 : tie.After-get2 = search in
     let at-get : tie.After-get = search in
     let start : tie.Start = search in (
-      ready-kept (now (start .args .b)) (now (start .args .cells)) _ (start .pre .0) (at-put .put .kept .0) (at-put .put .ensures)
+      ready-kept (now (start .args .plan)) (now (start .args .cells)) _ (start .pre .0) (at-put .put .kept .0) (at-put .put .ensures)
           (kept-stored WORKERS (start .args .i) HEAD _ (omega arith) kept-same),
       start .pre .1,
-      head-loaded (now (start .args .b)) (start .args .i) (memOf (now (start .args .cells))) (at-get .get .ensures .0) (at-get2 .get2 .ensures .0)
+      head-loaded (now (start .args .plan)) (start .args .i) (memOf (now (start .args .cells))) (at-get .get .ensures .0) (at-get2 .get2 .ensures .0)
           (untreated .if1 .left) (at-get3 .get3 .ensures .0) (start .pre .2),
     )
 
@@ -69,7 +69,7 @@ returns-3 c =
     let at-get : tie.After-get = search in
     let start : tie.Start = search in
     let a = start .args in
-    let sys = systemAt (now (a .b)) in
+    let sys = systemAt (now (a .plan)) in
     acts _ _ _ _
     (treat-goes sys (a .i) _ (at-get .get .ensures .0) (at-get3 .get3 .ensures .0) (record {
       untreated = omega (arith, at-get .get .ensures .0, at-get2 .get2 .ensures .0, untreated .if1 .left);

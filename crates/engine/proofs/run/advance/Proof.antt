@@ -31,7 +31,7 @@ work-turn-requires : tie.Need-work-turn-requires
 work-turn-requires c κs =
     let by-worker : tie.Else1 = search in
     let start : tie.Start = search in (
-      running-by (now (start .args .b)) (now (start .args .cells)) (start .args .g) (start .pre .0),
+      running-by (now (start .args .plan)) (now (start .args .cells)) (start .args .g) (start .pre .0),
       start .pre .1,
       omega (arith, by-worker .if1 .left),
       start .pre .2,
@@ -41,7 +41,7 @@ add-t14 : tie.Need-add-t14
 add-t14 c =
     let worked : tie.After-work-turn = search in
     let start : tie.Start = search in
-    let room = going-small (now (start .args .b)) (now (start .args .cells)) (start .args .g) (start .pre .0) in
+    let room = going-small (now (start .args .plan)) (now (start .args .cells)) (start .args .g) (start .pre .0) in
     omega (arith, room .0, worked .work-turn .ensures .1)
 
 if-action-requires : tie.Need-if-action-requires
@@ -52,7 +52,7 @@ add-t16 c =
     let counted = c .before in
     let worked : tie.After-work-turn = search in
     let start : tie.Start = search in
-    let room = going-small (now (start .args .b)) (now (start .args .cells)) (start .args .g) (start .pre .0) in
+    let room = going-small (now (start .args .plan)) (now (start .args .cells)) (start .args .g) (start .pre .0) in
     omega (
       arith,
       room .1,
@@ -69,7 +69,7 @@ returns-2 c =
     let worked : tie.After-work-turn = search in
     let start : tie.Start = search in
     let a = start .args in
-    worked-plays (now (a .b)) _ _ _ _ _ (a .g) _ (worked .work-turn .ensures .0)
+    worked-plays (now (a .plan)) _ _ _ _ _ (a .g) _ (worked .work-turn .ensures .0)
     (record {
       before = refl;
       after = refl;

@@ -15,13 +15,13 @@ use Rattle.engine.proofs.run.control.Tie as tie
 control-turn-requires : tie.Need-control-turn-requires
 control-turn-requires c κs =
     let start : tie.Start = search in
-    (playable (now (start .args .b)) (now (start .args .cells)) (start .args .g) (start .pre .0), start .pre .1, start .pre .2)
+    (playable (now (start .args .plan)) (now (start .args .cells)) (start .args .g) (start .pre .0), start .pre .1, start .pre .2)
 
 add-t12 : tie.Need-add-t12
 add-t12 c =
     let played : tie.After-control-turn = search in
     let start : tie.Start = search in
-    let room = going-small (now (start .args .b)) (now (start .args .cells)) (start .args .g) (start .pre .0) in
+    let room = going-small (now (start .args .plan)) (now (start .args .cells)) (start .args .g) (start .pre .0) in
     omega (arith, room .0, acts-few (played .control-turn .ensures))
 
 if-action-requires : tie.Need-if-action-requires
@@ -32,7 +32,7 @@ add-t14 c =
     let counted = c .before in
     let played : tie.After-control-turn = search in
     let start : tie.Start = search in
-    let room = going-small (now (start .args .b)) (now (start .args .cells)) (start .args .g) (start .pre .0) in
+    let room = going-small (now (start .args .plan)) (now (start .args .cells)) (start .args .g) (start .pre .0) in
     omega (
       arith,
       room .2,
@@ -51,7 +51,7 @@ returns c =
     let start : tie.Start = search in
     let a = start .args in
     let p = played .control-turn in
-    advanced (now (a .b)) (now (a .cells)) (p .last .1 .0) (a .g) _ 0 (a .d) (p .result .changed) (start .pre .0 .sound)
+    advanced (now (a .plan)) (now (a .cells)) (p .last .1 .0) (a .g) _ 0 (a .d) (p .result .changed) (start .pre .0 .sound)
     (p .ensures) refl (omega arith) (ap (λ (n : ℕ). a .g .polls + n) (counted .if-action .ensures))
 
 pub control-spec : {M : Type 1} → statement M

@@ -13,7 +13,7 @@ returns c =
     let start : tie.Start = search in
     let a = start .args in (
       rw (no-send (a .j) 0 (start .pre .3)) at
-          (worked-closed (now (a .b)) (now (a .cells)) (a .t) (a .k) (a .j) (start .pre .0) (omega (arith, start .pre .2)) (c .if1 .taken)),
+          (worked-closed (now (a .plan)) (now (a .cells)) (a .t) (a .k) (a .j) (start .pre .0) (omega (arith, start .pre .2)) (c .if1 .taken)),
       omega arith,
     )
 
@@ -24,7 +24,7 @@ read-requires : tie.Need-read-requires
 read-requires c κs =
     let start : tie.Start = search in
     let a = start .args in
-    let w = may-act (now (a .b)) (now (a .cells)) (a .t) (a .k) (a .j) (start .pre .0) (omega (arith, start .pre .2)) (start .pre .1)
+    let w = may-act (now (a .plan)) (now (a .cells)) (a .t) (a .k) (a .j) (start .pre .0) (omega (arith, start .pre .2)) (start .pre .1)
     (start .pre .4) in
     (w .0 .ready .long, omega (arith, w .0 .workers, w .1), start .pre .3)
 
@@ -38,7 +38,7 @@ returns-2 c =
     let start : tie.Start = search in
     let a = start .args in (
       rw (no-send (a .j) (read .read .result) (start .pre .3)) at
-          (worked-open (now (a .b)) (now (a .cells)) (a .t) (a .k) (a .j) (start .pre .0) (omega (arith, start .pre .2)) (start .pre .1) (start .pre .4)
+          (worked-open (now (a .plan)) (now (a .cells)) (a .t) (a .k) (a .j) (start .pre .0) (omega (arith, start .pre .2)) (start .pre .1) (start .pre .4)
           _ _ (not-closed .if1 .left)
           (acts-as (worker-reads _ _ _ _ _ (omega (arith, start .pre .3)) (omega (arith, start .pre .3)) (omega (arith, start .pre .3)))
           (read .read .ensures))),

@@ -16,8 +16,8 @@ same-length c = search needs
 
 returns : tie.Need-returns
 returns c =
-    let treat-asked : tie.Then1 = search in
-    acts-as (worker-treats _ _ _ _ _ (treat-asked .if1 .taken)) (c .before .before .treat .ensures)
+    let if-treat : tie.Then1 = search in
+    acts-as (worker-treats _ _ _ _ _ (if-treat .if1 .taken)) (c .before .before .treat .ensures)
 
 send-requires : tie.Need-send-requires
 send-requires c κs = search needs
@@ -27,9 +27,9 @@ same-length-2 c = search needs
 
 returns-2 : tie.Need-returns-2
 returns-2 c =
-    let send-asked : tie.Then2 = search in
+    let if-send : tie.Then2 = search in
     let not-treat : tie.Else1 = search in
-    acts-as (worker-sends _ _ _ _ _ (not-treat .if1 .left) (send-asked .if2 .taken))
+    acts-as (worker-sends _ _ _ _ _ (not-treat .if1 .left) (if-send .if2 .taken))
     (c .before .before .send .ensures)
 
 answer-requires : tie.Need-answer-requires
@@ -40,11 +40,11 @@ same-length-3 c = search needs
 
 returns-3 : tie.Need-returns-3
 returns-3 c =
-    let answer-asked : tie.Then3 = search in
+    let if-answer : tie.Then3 = search in
     let not-send : tie.Else2 = search in
     let not-treat : tie.Else1 = search in
     acts-as (worker-answers _ _ _ _ _ (not-treat .if1 .left) (not-send .if2 .left)
-    (answer-asked .if3 .taken)) (c .before .before .answer .ensures)
+    (if-answer .if3 .taken)) (c .before .before .answer .ensures)
 
 read-requires : tie.Need-read-requires
 read-requires c κs =

@@ -11,7 +11,7 @@ returns : tie.Need-returns
 returns c =
     let start : tie.Start = search in
     let a = start .args in
-    (worked-closed (now (a .b)) (now (a .cells)) (a .t) (a .k) (a .d) (start .pre .0) (omega (arith, start .pre .2)) (c .if1 .taken), omega arith)
+    (worked-closed (now (a .plan)) (now (a .cells)) (a .t) (a .k) (a .d) (start .pre .0) (omega (arith, start .pre .2)) (c .if1 .taken), omega arith)
 
 sub-work : tie.Need-sub-work
 sub-work c = search needs
@@ -20,7 +20,7 @@ work-requires : tie.Need-work-requires
 work-requires c κs =
     let start : tie.Start = search in
     let a = start .args in
-    may-act (now (a .b)) (now (a .cells)) (a .t) (a .k) (a .d) (start .pre .0) (omega (arith, start .pre .2)) (start .pre .1) (start .pre .3)
+    may-act (now (a .plan)) (now (a .cells)) (a .t) (a .k) (a .d) (start .pre .0) (omega (arith, start .pre .2)) (start .pre .1) (start .pre .3)
 
 same-length : tie.Need-same-length
 same-length c = search needs
@@ -31,7 +31,7 @@ returns-2 c =
     let not-closed : tie.Else1 = search in
     let start : tie.Start = search in
     let a = start .args in (
-      worked-open (now (a .b)) (now (a .cells)) (a .t) (a .k) (a .d) (start .pre .0) (omega (arith, start .pre .2)) (start .pre .1) (start .pre .3)
+      worked-open (now (a .plan)) (now (a .cells)) (a .t) (a .k) (a .d) (start .pre .0) (omega (arith, start .pre .2)) (start .pre .1) (start .pre .3)
           _ _ (not-closed .if1 .left) (worked .work .ensures),
       acts-few (worked .work .ensures),
     )

@@ -10,7 +10,7 @@ use Rattle.index.proofs.parts.owner.Statement.{statement}
 use Rattle.index.proofs.parts.owner.Tie as tie
 
 add-place : tie.Need-add-place
-add-place c = omega (arith, few-sections (now (c .before .before .args .b)) (c .before .before .pre .0 .sound))
+add-place c = omega (arith, few-sections (now (c .before .before .args .plan)) (c .before .before .pre .0 .sound))
 
 place-requires : tie.Need-place-requires
 place-requires c κs = (c .before .before .pre .0, omega (arith, c .before .before .pre .1))
@@ -22,7 +22,7 @@ returns : tie.Need-returns
 returns c =
     let p = c .before in
     let s = p .before .before .before in
-    let b = now (s .args .b) in
+    let b = now (s .args .plan) in
     owner-there b (s .pre .0 .sound) (s .args .x) _ _ (s .pre .1)
     (p .place .ensures .start ∙ ap (sectionStart b) (add-one (s .args .x))) (c .owner .ensures .0)
 

@@ -10,12 +10,12 @@ use Rattle.index.proofs.parts.place.Tie as tie
 get-requires : tie.Need-get-requires
 get-requires c κs =
     let s = c .before .before in
-    may-get _ _ _ refl _ (omega (arith, s .pre .0 .long, s .pre .1, few-sections (now (s .args .b)) (s .pre .0 .sound)))
+    may-get _ _ _ refl _ (omega (arith, s .pre .0 .long, s .pre .1, few-sections (now (s .args .plan)) (s .pre .0 .sound)))
 
 returns : tie.Need-returns
 returns c =
     let s = c .before .before .before in
-    let b = now (s .args .b) in
+    let b = now (s .args .plan) in
     let start = c .get .ensures .0 ∙ s .pre .0 .places (s .args .k) (omega (arith, s .pre .1)) in
     record {
       start = start;

@@ -12,12 +12,12 @@ use Rattle.plan.proofs.Parts.{size-read}
 use Rattle.format.specs.Format.{sizeAt, numberedSize}
 
 add-place : tie.Need-add-place
-add-place c = omega (arith, few-sections (now (c .before .before .args .b)) (c .before .before .pre .0 .sound))
+add-place c = omega (arith, few-sections (now (c .before .before .args .plan)) (c .before .before .pre .0 .sound))
 
 place-requires : tie.Need-place-requires
 place-requires c κs =
     let s = c .before .before in
-    (located (now (s .args .b)) (now (s .args .cells)) (s .pre .0), omega (arith, s .pre .1))
+    (located (now (s .args .plan)) (now (s .args .cells)) (s .pre .0), omega (arith, s .pre .1))
 
 size-requires : tie.Need-size-requires
 size-requires c κs = c .place .ensures .within
@@ -26,7 +26,7 @@ returns : tie.Need-returns
 returns c =
     let p = c .before in
     let s = p .before .before .before in
-    let b = now (s .args .b) in
+    let b = now (s .args .plan) in
     let e : c .size .result ≡ numberedSize b (suc (s .args .x)) =
     c .size .ensures .0 ∙ ap (sizeAt b) (p .place .ensures .start) ∙ ap (numberedSize b) (add-one (s .args .x)) in (
       e ∙ sym (size-read b (s .args .x) (s .pre .1)),

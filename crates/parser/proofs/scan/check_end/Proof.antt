@@ -17,7 +17,7 @@ returns : tie.Need-returns
 unfolding checkOf trailingFault
 returns c =
     let start : tie.Start = search in
-    rw (← start .pre .1, lt-ltb (start .args .at) (length (start .args .b .now)) (c .before .if1 .taken)) (c .declined .ensures)
+    rw (← start .pre .1, lt-ltb (start .args .at) (length (start .args .plan .now)) (c .before .if1 .taken)) (c .declined .ensures)
 
 worker-count-requires : tie.Need-worker-count-requires
 worker-count-requires c κs = search needs
@@ -36,7 +36,7 @@ unfolding checkOf trailingFault
 returns-2 c =
     let ended : tie.Else1 = search in
     let start : tie.Start = search in
-    let b = start .args .b .now in
+    let b = start .args .plan .now in
     rw (← start .pre .1, le-ltb (start .args .at) (length b) (ended .if1 .left))
     (ap Accepted
     (counts-built b _ (c .before .before .before .worker-count .ensures .0)

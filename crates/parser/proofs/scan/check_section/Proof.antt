@@ -39,7 +39,7 @@ check-constraint-requires : tie.Need-check-constraint-requires
 check-constraint-requires c κs =
     let start : tie.Start = search in
     let a = start .args in (
-      variables-known (a .b .now) (a .starts .now) (a .k) (start .pre .0) (start .pre .3) (omega (arith, c .before .variable-count .ensures .0)),
+      variables-known (a .plan .now) (a .starts .now) (a .k) (start .pre .0) (start .pre .3) (omega (arith, c .before .variable-count .ensures .0)),
       start .pre .2,
     )
 

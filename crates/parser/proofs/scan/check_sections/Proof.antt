@@ -25,7 +25,7 @@ abbrev μ-loop : tie.MeasureT-loop
 
 -- the loop goes over as many sections as the head calls for
 ended : (l : tie.At-loop Inv-loop μ-loop) → l .before .before .section-count .result ≤ l .loop .k
-    → l .loop .k ≡ sectionCount (l .before .before .before .before .args .b .now)
+    → l .loop .k ≡ sectionCount (l .before .before .before .before .args .plan .now)
 ended l h = omega (arith, l .before .before .section-count .ensures .0)
 
 section-count-requires : tie.Need-section-count-requires Inv-loop μ-loop
@@ -58,7 +58,7 @@ returns c =
     let at-loop : tie.At-loop Inv-loop μ-loop = search in
     let start : tie.Start Inv-loop μ-loop = search in
     let l = at-loop .loop in
-    let b = start .args .b .now in
+    let b = start .args .plan .now in
     let fails = verdict-fails (firstFault (sectionChecks b (l .k))) (checked .check-section .result) _ (checked .check-section .ensures)
     (fault-told .verdict .given .1) in
     c .declined .ensures
@@ -87,7 +87,7 @@ loop-again c =
     let at-loop : tie.At-loop Inv-loop μ-loop = search in
     let start : tie.Start Inv-loop μ-loop = search in
     let l = at-loop .loop in
-    let b = start .args .b .now in
+    let b = start .args .plan .now in
     let passes = verdict-passes (firstFault (sectionChecks b (l .k))) (checked .check-section .result) (checked .check-section .ensures)
     (pass-told .enum-told .given .1) in
     let more = passed-more b (l .starts) (l .k) (l .inv .0) (l .at) (l .inv .1) (l .inv .2) passes in
@@ -105,7 +105,7 @@ check-end-requires c κs =
     let at-loop : tie.At-loop Inv-loop μ-loop = search in
     let start : tie.Start Inv-loop μ-loop = search in
     let l = at-loop .loop in
-    let b = start .args .b .now in (
+    let b = start .args .plan .now in (
       variables-known b (l .starts) (l .k) (l .inv .0) (start .pre) (omega (arith, at-loop .before .before .section-count .ensures .0)),
       l .inv .2 ∙ ap (sectionStart b) (ended at-loop (c .before .loop-test .left)),
     )
@@ -116,7 +116,7 @@ returns-2 c =
     let start : tie.Start Inv-loop μ-loop = search in
     let l = at-loop .loop in
     c .check-end .ensures
-    ∙ end-answer (start .args .b .now) (l .starts) (l .k) (l .inv .0) (ended at-loop (c .before .before .loop-test .left))
+    ∙ end-answer (start .args .plan .now) (l .starts) (l .k) (l .inv .0) (ended at-loop (c .before .before .loop-test .left))
 
 pub check-sections-spec : {M : Type 1} → statement M
 check-sections-spec =

@@ -45,7 +45,7 @@ loop-less c = omega arith
 loop-again : tie.Need-loop-again Inv-loop μ-loop
 loop-again c =
     let l = c .before .before in
-    let b = l .before .before .before .args .b .now in (
+    let b = l .before .before .before .args .plan .now in (
       omega arith,
       sum-more (l .loop .labels) (c .numbered-size .result) (l .loop .x) (λ y. numberedSize b (suc y)) (l .loop .inv .1)
           (c .numbered-size .ensures .0 ∙ ap (numberedSize b) (add-one (l .loop .x))),
@@ -55,7 +55,7 @@ loop-again c =
 returns : tie.Need-returns Inv-loop μ-loop
 returns c =
     let l = c .before in
-    let b = l .before .before .before .args .b .now in
+    let b = l .before .before .before .args .plan .now in
     let n : l .loop .x ≡ variableCount b = omega (arith, l .before .variable-count .ensures .0) in
     l .loop .inv .1 ∙ ap (λ (k : ℕ). sumBelow k (λ y. numberedSize b (suc y))) n ∙ sym (labels-read b)
 

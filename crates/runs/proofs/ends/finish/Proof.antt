@@ -9,12 +9,12 @@ use Rattle.runs.proofs.ends.finish.Tie as tie
 write-lists-requires : tie.Need-write-lists-requires
 write-lists-requires c κs =
     let start : tie.Start = search in
-    (going-ready (now (start .args .b)) (now (start .args .cells)) (start .args .g) (start .pre .0), start .pre .1)
+    (going-ready (now (start .args .plan)) (now (start .args .cells)) (start .args .g) (start .pre .0), start .pre .1)
 
 report-requires : tie.Need-report-requires
 report-requires c κs =
     let start : tie.Start = search in
-    going-ready (now (start .args .b)) (now (start .args .cells)) (start .args .g) (start .pre .0)
+    going-ready (now (start .args .plan)) (now (start .args .cells)) (start .args .g) (start .pre .0)
 
 clear-requires : tie.Need-clear-requires
 clear-requires c κs = search needs
@@ -31,7 +31,7 @@ returns c =
     let written : tie.After-write-lists = search in
     let start : tie.Start = search in
     let a = start .args in
-    finishes (now (a .b)) (now (a .cells)) (now (a .lists)) (a .g) _ _ _ (start .pre .0 .sound) (c .before .before .clear .ensures)
+    finishes (now (a .plan)) (now (a .cells)) (now (a .lists)) (a .g) _ _ _ (start .pre .0 .sound) (c .before .before .clear .ensures)
     (reported .report .ensures) (written .write-lists .ensures (a .g .tally))
 
 pub finish-spec : {M : Type 1} → statement M

@@ -19,7 +19,7 @@ load-plan-requires c κs =
     let start : tie.Start = search in
     let i = indexed .index-plan in
     let k = cleared .clear in
-    start-ready (now (start .args .b)) (now (start .args .cells)) (k .last .0) (i .last .1 .0) (start .pre .0) (k .ensures) (i .ensures)
+    start-ready (now (start .args .plan)) (now (start .args .cells)) (k .last .0) (i .last .1 .0) (start .pre .0) (k .ensures) (i .ensures)
     (omega (arith, start .pre .1, k .kept .0, i .kept .1 .0))
 
 fresh-requires : tie.Need-fresh-requires
@@ -37,7 +37,7 @@ returns c =
     let l = loaded .load-plan in
     let i = indexed .index-plan in
     let k = cleared .clear in
-    start-made (now (start .args .b)) (now (start .args .cells)) (k .last .0) (i .last .1 .0) (start .pre .0) (k .ensures) (i .ensures)
+    start-made (now (start .args .plan)) (now (start .args .cells)) (k .last .0) (i .last .1 .0) (start .pre .0) (k .ensures) (i .ensures)
     (l .last .1 .0) (c .fresh .result) (l .ensures) (c .fresh .ensures)
 
 pub start-spec : {M : Type 1} → statement M

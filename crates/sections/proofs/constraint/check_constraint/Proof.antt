@@ -17,7 +17,7 @@ start r = r .before .before .before
 
 -- the checks, from where the two reads are done
 abbrev checks : tie.After-kind → List Check
-checks r = let a = start r .args in constraintChecks (a .b .now) (a .at)
+checks r = let a = start r .args in constraintChecks (a .plan .now) (a .at)
 
 abbrev whole : tie.Else1 → Stage checks
 unfolding constraintChecks
@@ -31,7 +31,7 @@ abbrev known : tie.Else3 → Stage checks
 unfolding constraintChecks
 known c = let s = roomy (c .before) in next s (rw (← s .place .kind .ensures .0, le-leb _ 1 (c .if3 .left)))
 
-in-order : (c : tie.Else4) → let a = start (known (c .before .before) .place) .args in variablesInOrder (a .b .now) (a .at) ≡ true
+in-order : (c : tie.Else4) → let a = start (known (c .before .before) .place) .args in variablesInOrder (a .plan .now) (a .at) ≡ true
 unfolding known
 in-order c = holds (c .before .variables-in-order .ensures) (c .if4 .left)
 

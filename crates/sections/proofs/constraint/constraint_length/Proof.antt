@@ -16,7 +16,7 @@ first-requires c κs = search needs
 numbered-size-requires : tie.Need-numbered-size-requires
 numbered-size-requires c κs =
     let start : tie.Start = search in
-    let o = ordered (start .args .b .now) (start .args .at) (start .pre .2) in
+    let o = ordered (start .args .plan .now) (start .args .at) (start .pre .2) in
     (start .pre .0, omega (arith, o, c .first .ensures .0), omega (arith, o, c .first .ensures .0))
 
 mul-result : tie.Need-mul-result

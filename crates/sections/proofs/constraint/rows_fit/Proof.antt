@@ -54,8 +54,8 @@ returns : tie.Need-returns Inv-loop μ-loop
 returns c =
     let l = c .before .before .before in
     let s = l .before .before .before in
-    rows-fit (s .args .b .now) (s .args .at) (l .before .power .result) (s .args .width) (s .args .rows) false (l .before .power .ensures)
-    (row-past (s .args .b .now) (s .args .at) (l .before .power .result) (c .before .table-row .result) (l .loop .v)
+    rows-fit (s .args .plan .now) (s .args .at) (l .before .power .result) (s .args .width) (s .args .rows) false (l .before .power .ensures)
+    (row-past (s .args .plan .now) (s .args .at) (l .before .power .result) (c .before .table-row .result) (l .loop .v)
     (c .before .table-row .ensures .0) (s .args .rows) (omega arith) (c .if1 .taken))
 
 add-v : tie.Need-add-v Inv-loop μ-loop
@@ -69,7 +69,7 @@ loop-again c =
     let l = c .before .before .before in
     let s = l .before .before .before in (
       omega arith,
-      fits-more (s .args .b .now) (s .args .at) (l .before .power .result) (c .before .table-row .result) (l .loop .v)
+      fits-more (s .args .plan .now) (s .args .at) (l .before .power .result) (c .before .table-row .result) (l .loop .v)
           (c .before .table-row .ensures .0) (l .loop .inv .1) (c .if1 .left),
     )
 
@@ -78,7 +78,7 @@ returns-2 c =
     let l = c .before in
     let s = l .before .before .before in
     let n : l .loop .v ≡ s .args .rows = omega arith in
-    rows-fit (s .args .b .now) (s .args .at) (l .before .power .result) (s .args .width) (s .args .rows) true (l .before .power .ensures)
+    rows-fit (s .args .plan .now) (s .args .at) (l .before .power .result) (s .args .width) (s .args .rows) true (l .before .power .ensures)
     (rw n at (l .loop .inv .1))
 
 pub rows-fit-spec : {M : Type 1} → statement M

@@ -20,7 +20,7 @@ first-requires c κs = search needs
 numbered-size-requires : tie.Need-numbered-size-requires
 numbered-size-requires c κs =
     let start : tie.Start = search in
-    let o = ordered (start .args .b .now) (start .args .at) (start .pre .2) in
+    let o = ordered (start .args .plan .now) (start .args .at) (start .pre .2) in
     (start .pre .0, omega (arith, o, c .first .ensures .0), omega (arith, o, c .first .ensures .0))
 
 second-requires : tie.Need-second-requires
@@ -29,7 +29,7 @@ second-requires c κs = search needs
 numbered-size-requires-2 : tie.Need-numbered-size-requires-2
 numbered-size-requires-2 c κs =
     let start : tie.Start = search in
-    let o = ordered (start .args .b .now) (start .args .at) (start .pre .2) in
+    let o = ordered (start .args .plan .now) (start .args .at) (start .pre .2) in
     (start .pre .0, omega (arith, o, c .second .ensures .0), omega (arith, o, c .second .ensures .0))
 
 rows-fit-requires : tie.Need-rows-fit-requires

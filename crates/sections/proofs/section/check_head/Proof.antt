@@ -9,7 +9,7 @@ use Rattle.sections.proofs.section.check_head.Statement.{statement}
 use Rattle.sections.proofs.section.check_head.Tie as tie
 
 abbrev checks : tie.Start → List Check
-checks s = headChecks (s .args .b .now) (s .args .at)
+checks s = headChecks (s .args .plan .now) (s .args .at)
 
 abbrev whole : tie.Else1 → Stage checks
 unfolding headChecks

@@ -13,7 +13,7 @@ use Rattle.sections.proofs.variable.check_variable.Tie as tie
 
 -- the checks, from where the two reads are done
 abbrev checks : tie.After-size → List Check
-checks r = let a = r .before .before .before .args in variableChecks (a .b .now) (a .at)
+checks r = let a = r .before .before .before .args in variableChecks (a .plan .now) (a .at)
 
 abbrev whole : tie.Else1 → Stage checks
 unfolding variableChecks

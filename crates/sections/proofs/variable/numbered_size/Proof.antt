@@ -20,8 +20,8 @@ size-requires c κs =
 returns : tie.Need-returns
 returns c =
     let s = c .before .before .before in
-    let e : c .size .result ≡ numberedSize (s .args .b .now) (s .args .s) =
-    c .size .ensures .0 ∙ ap (sizeAt (s .args .b .now)) (s .pre .0 .found (s .args .s) (omega arith)) in
+    let e : c .size .result ≡ numberedSize (s .args .plan .now) (s .args .s) =
+    c .size .ensures .0 ∙ ap (sizeAt (s .args .plan .now)) (s .pre .0 .found (s .args .s) (omega arith)) in
     (e, omega (arith, s .pre .0 .small (s .args .s) (omega arith) (omega arith)))
 
 pub numbered-size-spec : {M : Type 1} → statement M

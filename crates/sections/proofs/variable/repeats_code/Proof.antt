@@ -85,7 +85,7 @@ loop-again c =
     let a = start .args in (
       at-loop .loop .inv .0,
       omega arith,
-      same-more (a .b .now) (a .at) (at-loop .loop .u) (at-loop .before .before .before .scan .v) (c .before .code2 .result) (at-loop .before .code .result)
+      same-more (a .plan .now) (a .at) (at-loop .loop .u) (at-loop .before .before .before .scan .v) (c .before .code2 .result) (at-loop .before .code .result)
           (at-loop .loop .inv .2) (c .before .code2 .ensures .0) (at-loop .before .code .ensures .0) (c .if1 .left),
     )
 
@@ -101,23 +101,23 @@ scan-again c =
     let a = at-scan .before .before .before .args in (
       c .before .loop .inv .0,
       omega arith,
-      repeats-more (a .b .now) (a .at) (c .before .loop .u) (at-scan .scan .v) (at-scan .scan .inv .2) (c .before .loop .inv .2) (omega arith),
+      repeats-more (a .plan .now) (a .at) (c .before .loop .u) (at-scan .scan .v) (at-scan .scan .inv .2) (c .before .loop .inv .2) (omega arith),
     )
 
 returns : tie.Need-returns Inv-loop μ-loop Inv-scan μ-scan
 returns c =
     let s = c .before in
     let a = s .before .before .before .args in
-    let n : s .scan .v ≡ sizeAt (a .b .now) (a .at) = omega (arith, s .before .size .ensures .0) in
-    s .scan .inv .0 ∙ code-repeats (a .b .now) (a .at) (s .scan .v) false n (s .scan .inv .2)
+    let n : s .scan .v ≡ sizeAt (a .plan .now) (a .at) = omega (arith, s .before .size .ensures .0) in
+    s .scan .inv .0 ∙ code-repeats (a .plan .now) (a .at) (s .scan .v) false n (s .scan .inv .2)
 
 returns-2 : tie.Need-returns-2 Inv-loop μ-loop Inv-scan μ-scan
 returns-2 c =
     let at-loop : tie.At-loop Inv-loop μ-loop Inv-scan μ-scan = search in
     let at-scan : tie.At-scan Inv-loop μ-loop Inv-scan μ-scan = search in
     let a = at-scan .before .before .before .args in
-    code-repeats (a .b .now) (a .at) (at-scan .before .size .result) true (at-scan .before .size .ensures .0)
-    (repeated (a .b .now) (a .at) (at-scan .before .size .result) (at-loop .loop .u) (at-scan .scan .v) (c .before .code2 .result) (at-loop .before .code .result)
+    code-repeats (a .plan .now) (a .at) (at-scan .before .size .result) true (at-scan .before .size .ensures .0)
+    (repeated (a .plan .now) (a .at) (at-scan .before .size .result) (at-loop .loop .u) (at-scan .scan .v) (c .before .code2 .result) (at-loop .before .code .result)
     (omega arith) (omega arith) (c .before .code2 .ensures .0) (at-loop .before .code .ensures .0) (c .if1 .taken))
 
 pub repeats-code-spec : {M : Type 1} → statement M

@@ -4,11 +4,11 @@ use Prim.Native.Nat.{suc, _-_}
 use mathlib.Core.List.{[], _∷_}
 use native.Mathlib.Numerals.{add-one}
 use native.Mathlib.Omega.{arith}
-use Rattle.disac4.proofs.Allowed.{may-hear}
+use Rattle.disac4.proofs.Allowed.{controller-may-read}
 use Rattle.disac4.specs.Turn.{turn}
 use Rattle.engine.proofs.Playing.{Playing, none-played, goes-on, one-more, all-played}
-use Rattle.rounds.proofs.hear_all.Statement.{statement}
-use Rattle.rounds.proofs.hear_all.Tie as tie
+use Rattle.rounds.proofs.read_all.Statement.{statement}
+use Rattle.rounds.proofs.read_all.Tie as tie
 
 abbrev Inv-loop : tie.InvT-loop
 Inv-loop b cells₀ p at₀ i₀ cells at i = Playing b p (λ k. turn 0 (suc k) ∷ []) cells₀ at₀ i cells at
@@ -26,7 +26,7 @@ control-requires : tie.Need-control-requires Inv-loop μ-loop
 control-requires c κs =
     let l = c .before .before in
     let s = l .before .before .before in
-    (goes-on (l .loop .inv) (s .pre .0), s .pre .1, may-hear (s .args .p) _ (omega arith) (omega arith))
+    (goes-on (l .loop .inv) (s .pre .0), s .pre .1, controller-may-read (s .args .p) _ (omega arith) (omega arith))
 
 add-i : tie.Need-add-i Inv-loop μ-loop
 add-i c = omega arith
@@ -47,8 +47,8 @@ same-length c = c .before .loop .inv .same
 returns : tie.Need-returns Inv-loop μ-loop
 returns c = all-played (c .before .loop .inv) (c .loop-test .left)
 
-pub hear-all-spec : {M : Type 1} → statement M
-hear-all-spec =
+pub read-all-spec : {M : Type 1} → statement M
+read-all-spec =
     tie.close
     (tie.spec
     Inv-loop

@@ -1,14 +1,14 @@
--- `controller::hear` reads the next message of a worker. Assumes nothing.
+-- `controller::read_message` reads the next message of a worker. Assumes nothing.
 use Prim.Native.Nat.{_<_}
 use mathlib.Core.Path.{refl}
 use native.Mathlib.Omega.{arith}
 use borrow.Author.Needs.{needs}
-use Rattle.controller.proofs.ControllerLaws.{stands, hear-room, hear-idle, hear-takes}
+use Rattle.controller.proofs.ControllerLaws.{stands, read-room, controller-read-idle, controller-takes}
 use Rattle.cells.proofs.Acting.{idle, acts}
 use Rattle.cells.proofs.Ranges.{may-get, may-put}
 use Rattle.cells.specs.Layout.{OUTROOM, LISTSMAX}
-use Rattle.controller.proofs.hear.Statement.{statement}
-use Rattle.controller.proofs.hear.Tie as tie
+use Rattle.controller.proofs.read_message.Statement.{statement}
+use Rattle.controller.proofs.read_message.Tie as tie
 
 get-requires : tie.Need-get-requires
 get-requires c κs = may-get _ _ _ refl _ (omega arith)
@@ -27,7 +27,7 @@ returns c =
     let at-has-out = c .before in
     let at-get2 = at-has-out .before in
     let at-get = at-get2 .before .before in
-    λ sys e. idle _ _ (hear-idle _ _ _ (at-has-out .has-out .ensures) _ _ _ (at-get .get .ensures .0)
+    λ sys e. idle _ _ (controller-read-idle _ _ _ (at-has-out .has-out .ensures) _ _ _ (at-get .get .ensures .0)
     (at-get2 .get2 .ensures .0) (c .if1 .taken))
 
 -- a message is there
@@ -39,7 +39,7 @@ module _ (c : tie.Else1) where
   start = at-get .before .before .before .before
 
   room : (at-get .get .result < OUTROOM) × (start .args .t .lists .0 < LISTSMAX)
-  room = hear-room (start .args .t) _ _ (c .before .has-out .ensures) (c .if1 .left)
+  room = read-room (start .args .t) _ _ (c .before .has-out .ensures) (c .if1 .left)
 
 get-requires-3 : tie.Need-get-requires-3
 get-requires-3 c κs = may-get _ _ _ refl _ (omega (arith, room (c .before)))
@@ -66,12 +66,12 @@ returns-2 c =
     let at-has-out : tie.After-has-out = search in
     let at-get2 : tie.After-get2 = search in
     let at-get : tie.After-get = search in
-    λ sys e. acts _ _ _ _ (hear-takes _ _ _ (at-has-out .has-out .ensures) _ _ _ (at-get .get .ensures .0)
+    λ sys e. acts _ _ _ _ (controller-takes _ _ _ (at-has-out .has-out .ensures) _ _ _ (at-get .get .ensures .0)
     (at-get2 .get2 .ensures .0) (message .if1 .left) (at-get3 .get3 .ensures .0) e)
     (stands _ _ _ (at-put .put .ensures) (c .told .ensures))
 
-pub hear-spec : {M : Type 1} → statement M
-hear-spec =
+pub read-message-spec : {M : Type 1} → statement M
+read-message-spec =
     tie.close
     (tie.spec
     get-requires

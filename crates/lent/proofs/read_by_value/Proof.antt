@@ -1,6 +1,6 @@
--- `lent::heard` meets its contract: a walk of its MIR, by hand. The tally is put into a local, which is lent to `hear` for a
+-- `lent::read_by_value` meets its contract: a walk of its MIR, by hand. The tally is put into a local, which is lent to `read_message` for a
 -- lifetime that is made for the call; once that is over the local holds what the reference had last, and the answer is made of it.
--- All that is known of `hear` is that it meets its contract.
+-- All that is known of `read_message` is that it meets its contract.
 -- Assumes nothing.
 use mathlib.Core.Path.{_≡_, refl, ap}
 use Prim.Native.Nat.{ℕ, _<_, _^_}
@@ -45,27 +45,27 @@ use denote.Triple.Walked.{says, needs, Stays, stay-none, gave-slice, walkOf, goe
 use denote.Exit.{yes}
 use denote.Signature.{plain}
 use Rattle.disac4.specs.declared.Tally.{Tally}
-use Rattle.controller.specs.Controller.{Hearable, Heard}
+use Rattle.controller.specs.Controller.{MayRead, HasRead}
 use Rattle.controller.specs.declared.Controlled.{Controlled}
 use Rattle.disac4.proofs.Tally as T
 use Rattle.disac4.proofs.Tally.Laws as T′
 use Rattle.controller.proofs.Controlled as R
 use Rattle.controller.proofs.Controlled.Laws as R′
-use Rattle.lent.proofs.hear as hear
-use Rattle.lent.proofs.hear.Symbol as hear-def
-use Rattle.lent.proofs.hear.Symbol.{name as #hear}
-use Rattle.lent.proofs.hear.Met as hear-thm
-use Rattle.lent.proofs.heard.Key.{name as #heard}
-use Rattle.lent.proofs.heard as heard
-use Rattle.lent.proofs.heard.Statement as stated
-use Rattle.lent.proofs.heard.Code as code
+use Rattle.lent.proofs.read_message as read-message
+use Rattle.lent.proofs.read_message.Symbol as read-message-def
+use Rattle.lent.proofs.read_message.Symbol.{name as #read-message}
+use Rattle.lent.proofs.read_message.Met as read-message-thm
+use Rattle.lent.proofs.read_by_value.Key.{name as #read-by-value}
+use Rattle.lent.proofs.read_by_value as read-by-value
+use Rattle.lent.proofs.read_by_value.Statement as stated
+use Rattle.lent.proofs.read_by_value.Code as code
 
-abbrev stayed : Stays (heard.ended .signature .params) (heard.ended .kept)
+abbrev stayed : Stays (read-by-value.ended .signature .params) (read-by-value.ended .kept)
 stayed = (gave-slice (0 ∷ []) tt (plain (λ _. u16)), (stay-none (λ _. T.the-row) yes, (stay-none (λ _. usize) yes, (stay-none (λ _. usize) yes, tt))))
 
 -- the contract that the proof cites
-abbrev Hear : {M : Type 1} (𝓤 : URA M) (H : Heap 𝓤) (A : Atoms 𝓤) (mem : Memory → SProp 𝓤) (run : Routine → Fun 𝓤) → Contract 𝓤
-Hear 𝓤 H A mem run = tripleOf 𝓤 H A hear.signature (hear.spec 𝓤 H A mem run)
+abbrev ReadMessage : {M : Type 1} (𝓤 : URA M) (H : Heap 𝓤) (A : Atoms 𝓤) (mem : Memory → SProp 𝓤) (run : Routine → Fun 𝓤) → Contract 𝓤
+ReadMessage 𝓤 H A mem run = tripleOf 𝓤 H A read-message.signature (read-message.spec 𝓤 H A mem run)
 
 -- a tally's machine value, and what whoever makes an answer owes
 abbrev val-of : Tally → Val
@@ -120,35 +120,35 @@ module _ {M : Type 1} (𝓤 : URA M) (H : Heap 𝓤) (A : Atoms 𝓤) (W : Given
   vals = (s ∷ [], (val-of h ∷ [], (vint w64 p ∷ [], (vint w64 i ∷ [], tt))))
 
   abbrev Post : Val → SProp 𝓤
-  Post = walkOf 𝓤 H A heard.ended stayed (heard.clauses 𝓤 H A at-mem run) .post (((κ, tt), (q, tt), tt, a, vals), tt)
+  Post = walkOf 𝓤 H A read-by-value.ended stayed (read-by-value.clauses 𝓤 H A at-mem run) .post (((κ, tt), (q, tt), tt, a, vals), tt)
 
-  -- what `hear`'s triple binds outside: the slice's own lifetime, share and value, and the tally in the local at l, lent for the lifetime ν under the name δ
+  -- what `read_message`'s triple binds outside: the slice's own lifetime, share and value, and the tally in the local at l, lent for the lifetime ν under the name δ
   abbrev sent : ℕ → GName → RefT (List ℕ) × (RefT Tally × (ℕ × (ℕ × Unit {0})))
   sent l δ = (x, (ref l δ h, (p, (i, tt))))
 
-  abbrev to-hear : ℕ → ℕ → GName → Hear 𝓤 H A at-mem run .Ghost
-  to-hear ν l δ = (((κ, (ν ∷ [], tt)), (q, (fullShare, tt)), tt, sent l δ, (s ∷ [], (vptr l 0 ∷ [], (vint w64 p ∷ [], (vint w64 i ∷ [], tt))))), tt)
+  abbrev to-read : ℕ → ℕ → GName → ReadMessage 𝓤 H A at-mem run .Ghost
+  to-read ν l δ = (((κ, (ν ∷ [], tt)), (q, (fullShare, tt)), tt, sent l δ, (s ∷ [], (vptr l 0 ∷ [], (vint w64 p ∷ [], (vint w64 i ∷ [], tt))))), tt)
 
-  goes : Hearable ys h p i → (ν l : ℕ) (δ : GName)
-      → ent 𝓤 (⋆ 𝓤 H A ((‵ (flft κ q) ⊛ ‵ (flft (ν ∷ []) fullShare)) ∷ ‵ (MutSlice (named 0) κ u16 .own x (s ∷ [])) ∷ ‵ (MutRef (named 1) (ν ∷ []) T.the-row .own (ref l δ h) (vptr l 0 ∷ [])) ∷ [])) (Hear 𝓤 H A at-mem run .pre (to-hear ν l δ))
+  goes : MayRead ys h p i → (ν l : ℕ) (δ : GName)
+      → ent 𝓤 (⋆ 𝓤 H A ((‵ (flft κ q) ⊛ ‵ (flft (ν ∷ []) fullShare)) ∷ ‵ (MutSlice (named 0) κ u16 .own x (s ∷ [])) ∷ ‵ (MutRef (named 1) (ν ∷ []) T.the-row .own (ref l δ h) (vptr l 0 ∷ [])) ∷ [])) (ReadMessage 𝓤 H A at-mem run .pre (to-read ν l δ))
   goes asked ν l δ =
       qed W ((‵ (flft κ q) ⊛ ‵ (flft (ν ∷ []) fullShare)) ∷ ‵ (MutSlice (named 0) κ u16 .own x (s ∷ [])) ∷ ‵ (MutRef (named 1) (ν ∷ []) T.the-row .own (ref l δ h) (vptr l 0 ∷ [])) ∷ []) ∵ says ! asked $
       split ! $ nothing ! $ move ! (2 ∷ 0 ∷ []) $ join ! $ move ! (1 ∷ 0 ∷ []) $ join ! $ frame ! $
       nothing ! $ owned ! usize (Is usize) (uint-makes 𝓤 H A W w64) i _ (refl, i-fits) $ fjoin ! $ owned ! usize (Is usize) (uint-makes 𝓤 H A W w64) p _ (refl, p-fits) $ fjoin ! $
       move ! (2 ∷ 0 ∷ []) $ fjoin ! $ move ! (1 ∷ 0 ∷ []) $ fjoin ! $ done !
 
-  exits : (n : ℕ) (t : Tally) (zs : List ℕ) → Heard ys h p i zs t n → length zs ≡ length ys → Is R.the-row (answer n t) (LL.vals R.the-type R′.the-laws (answer n t))
+  exits : (n : ℕ) (t : Tally) (zs : List ℕ) → HasRead ys h p i zs t n → length zs ≡ length ys → Is R.the-row (answer n t) (LL.vals R.the-type R′.the-laws (answer n t))
       → ent 𝓤 (sep 𝓤 (A .lft κ q) (sem 𝓤 H A (finally u16 γ zs))) (Post (LL.val R.the-type R′.the-laws (answer n t)))
   exits n t zs e l is =
       qed W (‵ (flft κ q) ∷ ‵ (finally u16 γ zs) ∷ []) ∵
-      suffices ! _ (ends-at 𝓤 H A heard.ended stayed (heard.clauses 𝓤 H A at-mem run) W (((κ, tt), (q, tt), tt, a, vals), tt) (LL.val R.the-type R′.the-laws (answer n t)) (answer n t) (zs, (tt, (tt, (tt, tt)))) (l, (tt, (tt, (tt, tt))))) $ says ! e $
+      suffices ! _ (ends-at 𝓤 H A read-by-value.ended stayed (read-by-value.clauses 𝓤 H A at-mem run) W (((κ, tt), (q, tt), tt, a, vals), tt) (LL.val R.the-type R′.the-laws (answer n t)) (answer n t) (zs, (tt, (tt, (tt, tt)))) (l, (tt, (tt, (tt, tt))))) $ says ! e $
       nothing ! $ move ! (1 ∷ 0 ∷ []) $ join ! $ frame ! $
       nothing ! $ owned ! usize (Is usize) (uint-makes 𝓤 H A W w64) i _ (refl, i-fits) $ fjoin ! $ owned ! usize (Is usize) (uint-makes 𝓤 H A W w64) p _ (refl, p-fits) $ fjoin ! $
       owned ! T.the-row (Is T.the-row) (LL.makes T.the-type T′.the-plain 𝓤 H A) h _ was $ fjoin ! $ move ! (1 ∷ 0 ∷ []) $ fjoin ! $
       owned ! R.the-row (Is R.the-row) (LL.makes R.the-type R′.the-plain 𝓤 H A) (answer n t) _ is $ move ! (1 ∷ 0 ∷ []) $ done !
 
-  module _ (C : Calls 𝓤 H) (Λ : Loops 𝓤 H) (fm : FmC 𝓤 H (W .laws) C) (known : Triple 𝓤 (C #hear) (Hear 𝓤 H A at-mem run)) where
-    walk : Room u16 (length ys) → Hearable ys h p i → ent 𝓤 (onEntry 𝓤 H A heard.signature (κ, tt) (q, tt) a vals) (WpFn 𝓤 H C Λ code.function (s ∷ val-of h ∷ vint w64 p ∷ vint w64 i ∷ []) Post)
+  module _ (C : Calls 𝓤 H) (Λ : Loops 𝓤 H) (fm : FmC 𝓤 H (W .laws) C) (known : Triple 𝓤 (C #read-message) (ReadMessage 𝓤 H A at-mem run)) where
+    walk : Room u16 (length ys) → MayRead ys h p i → ent 𝓤 (onEntry 𝓤 H A read-by-value.signature (κ, tt) (q, tt) a vals) (WpFn 𝓤 H C Λ code.function (s ∷ val-of h ∷ vint w64 p ∷ vint w64 i ∷ []) Post)
     walk room asked =
         qed W ((‵ (flft κ q) ⊛ ‵ ftrue) ∷ ‵ (owns (MutSlice (named 0) κ u16 ∷ T.the-row ∷ usize ∷ usize ∷ []) a vals) ∷ []) ∵ enter ! C Λ code.function (s ∷ val-of h ∷ vint w64 p ∷ vint w64 i ∷ []) _ $
         alloc1 ! (λ l₀. alloc1 ! (λ l₁. alloc1 ! (λ l₂. alloc1 ! (λ l₃. alloc1 ! (λ l₄. alloc1 ! (λ l₅. alloc1 ! (λ l₆. alloc1 ! (λ l₇. alloc1 ! (λ l₈. alloc1 ! (λ l₉. alloc1 ! (λ l₁₀. alloc0 ! $ params1 ! $
@@ -163,13 +163,13 @@ module _ {M : Type 1} (𝓤 : URA M) (H : Heap 𝓤) (A : Atoms 𝓤) (W : Given
         use1 W (later (some (λ (δ : GName). ‵ (MutRef (named 1) (ν ∷ []) T.the-row .own (ref l₅ δ h) (vptr l₅ 0 ∷ [])) ⊛ ‵ (flent (ν ∷ []) (held l₅ δ))))) (lends 𝓤 H A W (ν ∷ []) l₅ h was) $ await ! tt $ pick ! (λ δ. split ! $
         -- [the reference; what is lent; the token of ν; _10; …; _6; …; what frees _5; _4; …; room for _0; …; the token; what the parameters own]
         move ! (25 ∷ []) $ fsplit ! $ move ! (26 ∷ []) $ split ! $ move ! (0 ∷ 6 ∷ []) $ join ! $ move ! (0 ∷ 2 ∷ 4 ∷ []) $
-        use3 W (raw (Hear 𝓤 H A at-mem run .pre (to-hear ν l₅ δ))) (goes asked ν l₅ δ) $
-        -- [what `hear` asks; true; what the other parameters own; what is lent; _10; …; _6; …; what frees _5; _4; …; room for _0; …]
-        calls-at ! fm (Hear 𝓤 H A at-mem run) known (to-hear ν l₅ δ) (and-then ! (load ! (from ! (stop !)) (look ! 8 refl)) (and-then ! (load ! (from ! (stop !)) (look ! 6 refl)) (and-then ! (load ! (from ! (stop !)) (look ! 17 refl)) (and-then ! (load ! (from ! (stop !)) (look ! 15 refl)) (no-more !))))) (λ w.
-        use1 W (later (some (λ (n : ℕ). ((‵ (flft κ q) ⊛ ‵ (flft (ν ∷ []) fullShare) ⊛ ‵ ftrue) ⊛ ‵ (usize .own n (w ∷ []))) ⊛ raw (ensured 𝓤 H A hear.ended (hear.clauses 𝓤 H A at-mem run) (κ, (ν ∷ [], tt)) (sent l₅ δ) tt n)))) (id⊢ 𝓤 _) $ await ! tt $ pick ! (λ n.
-        -- what `hear` says, at some last cells and some last tally
-        split ! $ move ! (1 ∷ []) $ use1 W (some (λ (zs : List ℕ × (Tally × (Unit {0} × (Unit {0} × Unit {0})))). ‵ (lasts hear.ended (κ, (ν ∷ [], tt)) (sent l₅ δ) zs) ⊛ raw (fact 𝓤 (Heard ys h p i (zs .0) (zs .1 .0) n)))) (id⊢ 𝓤 _) $ pick ! (λ zs.
-        split ! $ move ! (1 ∷ []) $ learns ! (Heard ys h p i (zs .0) (zs .1 .0) n) (λ e. fsplit ! $ fsplit ! $ move ! (1 ∷ []) $ feqL ! (λ l. move ! (1 ∷ []) $ fsplit ! $
+        use3 W (raw (ReadMessage 𝓤 H A at-mem run .pre (to-read ν l₅ δ))) (goes asked ν l₅ δ) $
+        -- [what `read_message` asks; true; what the other parameters own; what is lent; _10; …; _6; …; what frees _5; _4; …; room for _0; …]
+        calls-at ! fm (ReadMessage 𝓤 H A at-mem run) known (to-read ν l₅ δ) (and-then ! (load ! (from ! (stop !)) (look ! 8 refl)) (and-then ! (load ! (from ! (stop !)) (look ! 6 refl)) (and-then ! (load ! (from ! (stop !)) (look ! 17 refl)) (and-then ! (load ! (from ! (stop !)) (look ! 15 refl)) (no-more !))))) (λ w.
+        use1 W (later (some (λ (n : ℕ). ((‵ (flft κ q) ⊛ ‵ (flft (ν ∷ []) fullShare) ⊛ ‵ ftrue) ⊛ ‵ (usize .own n (w ∷ []))) ⊛ raw (ensured 𝓤 H A read-message.ended (read-message.clauses 𝓤 H A at-mem run) (κ, (ν ∷ [], tt)) (sent l₅ δ) tt n)))) (id⊢ 𝓤 _) $ await ! tt $ pick ! (λ n.
+        -- what `read_message` says, at some last cells and some last tally
+        split ! $ move ! (1 ∷ []) $ use1 W (some (λ (zs : List ℕ × (Tally × (Unit {0} × (Unit {0} × Unit {0})))). ‵ (lasts read-message.ended (κ, (ν ∷ [], tt)) (sent l₅ δ) zs) ⊛ raw (fact 𝓤 (HasRead ys h p i (zs .0) (zs .1 .0) n)))) (id⊢ 𝓤 _) $ pick ! (λ zs.
+        split ! $ move ! (1 ∷ []) $ learns ! (HasRead ys h p i (zs .0) (zs .1 .0) n) (λ e. fsplit ! $ fsplit ! $ move ! (1 ∷ []) $ feqL ! (λ l. move ! (1 ∷ []) $ fsplit ! $
         -- [the last tally; …; the last cells; the tokens and the result; …; what is lent; _10; …]
         move ! (3 ∷ []) $ split ! $ split ! $ move ! (1 ∷ []) $ split ! $ move ! (3 ∷ []) $ peeks ! usize (Is usize) (shows 𝓤 H A usize) n (w ∷ []) (λ is.
         land ! (from ! (stop !)) (init ! 18 refl (uint-lawful 𝓤 H A W w64 .typed n _ is .0)) $ rewrite ! 18 (λ (u : Val). ‵ (fat fullShare (tyInt w64) l₆ 0 u)) (ap only (is .0)) refl $ drop ! $
@@ -186,22 +186,22 @@ module _ {M : Type 1} (𝓤 : URA M) (H : Heap 𝓤) (A : Atoms 𝓤) (W : Given
         keep ! (1 ∷ 3 ∷ []) $ by ! (exits n (zs .1 .0) (zs .0) e l (answer-is n (zs .1 .0) (is .1) now-is))))))))))))))))))))))
 
 module _ {M : Type 1} (𝓤 : URA M) (H : Heap 𝓤) (A : Atoms 𝓤) (W : Given 𝓤 H A) (mem : Memory → SProp 𝓤) (run : Routine → Fun 𝓤) where
-  heard-walks : (C : Calls 𝓤 H) (Λ : Loops 𝓤 H) → FmC 𝓤 H (W .laws) C → Triple 𝓤 (C #hear) (Hear 𝓤 H A mem run) → Walks 𝓤 H A heard.ended stayed (WpFn 𝓤 H C Λ code.function) (heard.clauses 𝓤 H A mem run)
-  heard-walks C Λ fm known = walked 𝓤 H A heard.ended stayed (heard.clauses 𝓤 H A mem run) (WpFn 𝓤 H C Λ code.function)
+  read-by-value-walks : (C : Calls 𝓤 H) (Λ : Loops 𝓤 H) → FmC 𝓤 H (W .laws) C → Triple 𝓤 (C #read-message) (ReadMessage 𝓤 H A mem run) → Walks 𝓤 H A read-by-value.ended stayed (WpFn 𝓤 H C Λ code.function) (read-by-value.clauses 𝓤 H A mem run)
+  read-by-value-walks C Λ fm known = walked 𝓤 H A read-by-value.ended stayed (read-by-value.clauses 𝓤 H A mem run) (WpFn 𝓤 H C Λ code.function)
       (λ κs. (slice-vals, (LL.vals T.the-type T′.the-laws, (uint-vals w64, (uint-vals w64, tt))))) (λ κs. (mut-slice-tells (named 0) (κs .0) u16, (LL.tells T.the-type T′.the-laws, (uint-tells w64, (uint-tells w64, tt)))))
-      (λ κs qs bounds a g are. needs 𝓤 (Hearable (a .0 .now) (a .1 .0) (a .1 .1 .0) (a .1 .1 .1 .0)) _
+      (λ κs qs bounds a g are. needs 𝓤 (MayRead (a .0 .now) (a .1 .0) (a .1 .1 .0) (a .1 .1 .1 .0)) _
       (walk 𝓤 H A W mem run (κs .0) (qs .0) (a .0 .ptr .0) (a .0 .ptr .1) (a .0 .name) (a .0 .now) (a .1 .0) (a .1 .1 .0) (a .1 .1 .1 .0) (are .1 .1 .0 .1) (are .1 .1 .1 .0 .1) (are .1 .0) C Λ fm known (are .0 .0 .1)))
 
-heard-meets : {M : Type 1} (𝓤 : URA M) (H : Heap 𝓤) (A : Atoms 𝓤) → Given 𝓤 H A → (mem : Memory → SProp 𝓤) (run : Routine → Fun 𝓤) (𝓣 : Tables 𝓤 H) → Triple 𝓤 (𝓣 .C #hear) (Hear 𝓤 H A mem run)
-    → Meets 𝓤 H A heard.signature (WpFn 𝓤 H (𝓣 .C) (𝓣 .Λ) code.function) (heard.spec 𝓤 H A mem run)
-heard-meets 𝓤 H A W mem run 𝓣 known =
-    walk-meets 𝓤 H A heard.ended stayed W (goes-gave-slice 𝓤 H A W 1 0 tt (plain (λ _. u16)), (goes-none 𝓤 H A W 1 (λ _. T.the-row) yes (λ κs x f. refl), (goes-none 𝓤 H A W 1 (λ _. usize) yes (λ κs x f. refl), (goes-none 𝓤 H A W 1 (λ _. usize) yes (λ κs x f. refl), tt)))) (heard.clauses 𝓤 H A mem run)
-    (WpFn 𝓤 H (𝓣 .C) (𝓣 .Λ) code.function) (WpFn-mono 𝓤 H (W .laws) 𝓣 code.function) (heard-walks 𝓤 H A W mem run (𝓣 .C) (𝓣 .Λ) (fmOf 𝓤 H (W .laws) 𝓣) known)
+read-by-value-meets : {M : Type 1} (𝓤 : URA M) (H : Heap 𝓤) (A : Atoms 𝓤) → Given 𝓤 H A → (mem : Memory → SProp 𝓤) (run : Routine → Fun 𝓤) (𝓣 : Tables 𝓤 H) → Triple 𝓤 (𝓣 .C #read-message) (ReadMessage 𝓤 H A mem run)
+    → Meets 𝓤 H A read-by-value.signature (WpFn 𝓤 H (𝓣 .C) (𝓣 .Λ) code.function) (read-by-value.spec 𝓤 H A mem run)
+read-by-value-meets 𝓤 H A W mem run 𝓣 known =
+    walk-meets 𝓤 H A read-by-value.ended stayed W (goes-gave-slice 𝓤 H A W 1 0 tt (plain (λ _. u16)), (goes-none 𝓤 H A W 1 (λ _. T.the-row) yes (λ κs x f. refl), (goes-none 𝓤 H A W 1 (λ _. usize) yes (λ κs x f. refl), (goes-none 𝓤 H A W 1 (λ _. usize) yes (λ κs x f. refl), tt)))) (read-by-value.clauses 𝓤 H A mem run)
+    (WpFn 𝓤 H (𝓣 .C) (𝓣 .Λ) code.function) (WpFn-mono 𝓤 H (W .laws) 𝓣 code.function) (read-by-value-walks 𝓤 H A W mem run (𝓣 .C) (𝓣 .Λ) (fmOf 𝓤 H (W .laws) 𝓣) known)
 
-pub heard-spec : {M : Type 1} → stated.statement M
+pub read-by-value-spec : {M : Type 1} → stated.statement M
 unfolding code.routine tablesOf
-heard-spec 𝓤 H 𝓜 𝓖 𝓡 =
-    entered 𝓤 H (tripleOf 𝓤 H (𝓖 .A) heard.signature (heard.spec 𝓤 H (𝓖 .A) (𝓜 .mem) (𝓡 .run)))
-    (tables 𝓤 H 𝓜 𝓡 code.env .C) (tables 𝓤 H 𝓜 𝓡 code.env .Λ) #heard code.function (code.unfolded 𝓤 H 𝓜 𝓡)
-    (heard-meets 𝓤 H (𝓖 .A) (givenOf 𝓤 H 𝓜 𝓖) (𝓜 .mem) (𝓡 .run) (tablesOf 𝓤 H 𝓜 (tables 𝓤 H 𝓜 𝓡 code.env))
-    (cited 𝓤 H (Hear 𝓤 H (𝓖 .A) (𝓜 .mem) (𝓡 .run)) 𝓜 𝓡 code.env #hear hear-def.routine code.calls-lent·hear (hear-thm.met 𝓤 H 𝓜 𝓖 𝓡)))
+read-by-value-spec 𝓤 H 𝓜 𝓖 𝓡 =
+    entered 𝓤 H (tripleOf 𝓤 H (𝓖 .A) read-by-value.signature (read-by-value.spec 𝓤 H (𝓖 .A) (𝓜 .mem) (𝓡 .run)))
+    (tables 𝓤 H 𝓜 𝓡 code.env .C) (tables 𝓤 H 𝓜 𝓡 code.env .Λ) #read-by-value code.function (code.unfolded 𝓤 H 𝓜 𝓡)
+    (read-by-value-meets 𝓤 H (𝓖 .A) (givenOf 𝓤 H 𝓜 𝓖) (𝓜 .mem) (𝓡 .run) (tablesOf 𝓤 H 𝓜 (tables 𝓤 H 𝓜 𝓡 code.env))
+    (cited 𝓤 H (ReadMessage 𝓤 H (𝓖 .A) (𝓜 .mem) (𝓡 .run)) 𝓜 𝓡 code.env #read-message read-message-def.routine code.calls-lent·read-message (read-message-thm.met 𝓤 H 𝓜 𝓖 𝓡)))

@@ -1,0 +1,56 @@
+-- What a section that passed its checks says, each check by a name: where a check stands in its list is known here alone.
+use Prim.Native.Nat.{ℕ, _+_, _*_}
+use mathlib.Core.Bool.{true, not}
+use mathlib.Core.List.{List}
+use mathlib.Core.Option.{none}
+use mathlib.Core.Path.{_≡_}
+use lib.Dec.{leb, eqb}
+use Rattle.base.specs.Bytes.{wordAt}
+use Rattle.base.specs.Choice.{between}
+use Rattle.faults.proofs.Checks.{each-holds}
+use Rattle.faults.specs.CheckList.{firstFault}
+use Rattle.format.specs.Format.{workerCount, ownerAt, sizeAt, kindAt}
+use Rattle.format.specs.Limits.{maxValues}
+use Rattle.plan.specs.Check.{complete, headInRange, headChecks, repeatsCode, variableChecks, variablesInOrder, constraintLength, tableFits, constraintChecks}
+
+-- the head
+pub record HeadSays (b : List ℕ) (at : ℕ) : Type 0 where
+  pub whole : complete b at ≡ true
+  pub exact : eqb (wordAt b at) 3 ≡ true
+  pub in-range : headInRange b ≡ true
+
+pub head-says : (b : List ℕ) (at : ℕ) → firstFault (headChecks b at) ≡ none → HeadSays b at
+unfolding headChecks
+head-says b at e =
+    let h = each-holds (headChecks b at) e in
+    record { whole = h 0; exact = h 1; in-range = h 2 }
+
+-- a variable
+pub record VariableSays (b : List ℕ) (at : ℕ) : Type 0 where
+  pub whole : complete b at ≡ true
+  pub has-count : leb 2 (wordAt b at) ≡ true
+  pub few-values : leb (sizeAt b at) maxValues ≡ true
+  pub exact : eqb (wordAt b at) (2 + 4 * sizeAt b at) ≡ true
+  pub owned : between 1 (workerCount b) (ownerAt b at) ≡ true
+  pub codes-differ : not (repeatsCode b at) ≡ true
+
+pub variable-says : (b : List ℕ) (at : ℕ) → firstFault (variableChecks b at) ≡ none → VariableSays b at
+unfolding variableChecks
+variable-says b at e =
+    let h = each-holds (variableChecks b at) e in
+    record { whole = h 0; has-count = h 1; few-values = h 2; exact = h 3; owned = h 4; codes-differ = h 5 }
+
+-- a constraint
+pub record ConstraintSays (b : List ℕ) (at : ℕ) : Type 0 where
+  pub whole : complete b at ≡ true
+  pub has-kind : leb 3 (wordAt b at) ≡ true
+  pub known-kind : leb (kindAt b at) 1 ≡ true
+  pub in-order : variablesInOrder b at ≡ true
+  pub exact : eqb (wordAt b at) (constraintLength b at) ≡ true
+  pub bits-fit : tableFits b at ≡ true
+
+pub constraint-says : (b : List ℕ) (at : ℕ) → firstFault (constraintChecks b at) ≡ none → ConstraintSays b at
+unfolding constraintChecks
+constraint-says b at e =
+    let h = each-holds (constraintChecks b at) e in
+    record { whole = h 0; has-kind = h 1; known-kind = h 2; in-order = h 3; exact = h 4; bits-fit = h 5 }
