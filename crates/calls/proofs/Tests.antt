@@ -15,16 +15,16 @@ use Rattle.faults.specs.declared.Verdict.{Verdict}
 use Rattle.faults.specs.declared.Verdict.the-variants.{Passes, Fails}
 
 -- what a verdict on the buffers says of the run's fault
-module _ (b ts : List ℕ) (l : Lent) (v : Verdict) (e : v ≡ verdictOf (firstFault (bufferChecks l))) where
+module _ (b ts : List ℕ) (l : Lent) (v : Verdict) (e : v ≡ verdictOf (firstFault (bufferChecks (turnRun b ts .buffers) l))) where
   -- they pass: it is that of the plan and the turn list
   pub buffers-pass : v ≡ Passes → runFault (turnRun b ts) l ≡ inputFault b ts
   unfolding runFault
-  buffers-pass is = rw (verdict-passes (firstFault (bufferChecks l)) v e is)
+  buffers-pass is = rw (verdict-passes (firstFault (bufferChecks (turnRun b ts .buffers) l)) v e is)
 
   -- they fail: it is theirs
   pub buffers-fail : (f : Fault) → v ≡ Fails f → runFault (turnRun b ts) l ≡ some (decline f 0)
   unfolding runFault
-  buffers-fail f is = rw (verdict-fails (firstFault (bufferChecks l)) v f e is)
+  buffers-fail f is = rw (verdict-fails (firstFault (bufferChecks (turnRun b ts .buffers) l)) v f e is)
 
 -- what the first turn that is not allowed tells
 pub bad-turn : (n k : ℕ) → k < n → badTurn n k ≡ some (decline BadTurn k)

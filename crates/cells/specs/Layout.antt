@@ -1,4 +1,5 @@
--- Where everything stands in the work cells: one table of regions. The constants of `src/layout.rt` are its lines.
+-- Where everything stands in the work cells: one table of regions, worked out from their sizes. The constants of `src/layout.rt`
+-- say the same.
 use Prim.Native.Nat.{ℕ, suc, _+_, _*_, _^_, _<_, _≤_}
 use mathlib.Core.List.{List, [], _∷_}
 use mathlib.Core.Path.{_≡_}
@@ -29,7 +30,7 @@ LOG = 3
 abbrev pub WORK : ℕ
 WORK = 4
 
--- the messages from a worker to the controller: a reply's number, or 1,024 and the number of a list message
+-- the messages from a worker to the controller: a reply's number, or LISTMARK and the number of a list message
 abbrev pub OUT : ℕ
 OUT = 5
 
@@ -37,7 +38,7 @@ OUT = 5
 abbrev pub WANTED : ℕ
 WANTED = 6
 
--- 65,535 for each value that is in its variable's domain
+-- LISTED for each value that is in its variable's domain
 abbrev pub DOMAIN : ℕ
 DOMAIN = 7
 
@@ -121,7 +122,8 @@ VALUEROOM = maxValues
 abbrev pub LABELROOM : ℕ
 LABELROOM = maxLabels
 
--- list messages that a worker has room for: BOUNDS has a column more, for where the last one ends
+-- list messages that a worker has room for, each with a label at least, and some to spare: rows of a multiple of 8 cells. BOUNDS has
+-- a column more, for where the last one ends
 abbrev pub SENDROOM : ℕ
 SENDROOM = LABELROOM + 7
 
@@ -137,13 +139,23 @@ POLLROOM = LABELROOM + 7
 abbrev pub COUNTERMAX : ℕ
 COUNTERMAX = 2 * maxPairs
 
--- sections of a plan that there is room for
+-- sections of a plan that there is room for: 1 + maxVariables + maxConstraints, and some to spare
 abbrev pub PLACEROOM : ℕ
 PLACEROOM = 176
 
 -- the highest list counter: a cell holds no more
 abbrev pub LISTSMAX : ℕ
 LISTSMAX = 65535
+
+-- ---- marks in cells
+
+-- what a domain cell holds while its value is not deleted
+abbrev pub LISTED : ℕ
+LISTED = 65535
+
+-- the mark of a list message among the messages to the controller
+abbrev pub LISTMARK : ℕ
+LISTMARK = 1024
 
 -- ---- the table
 

@@ -13,7 +13,7 @@ use Rattle.disac4.specs.System.{System}
 use Rattle.disac4.specs.declared.Poll.{Poll}
 use Rattle.disac4.specs.declared.Tally.{Tally}
 use Rattle.network.specs.Network.{Label, label, loaded}
-use Rattle.cells.specs.Layout.{WORKERS, CURSORS, BOUNDS, LOG, WORK, OUT, WANTED, DOMAIN, COUNTERS, HEADS, HEAD, TAIL, LOGEND, SENDS, LISTS, HELD, POLLS, OUTEND, OUTREAD, VALUEROOM}
+use Rattle.cells.specs.Layout.{WORKERS, CURSORS, BOUNDS, LOG, WORK, OUT, WANTED, DOMAIN, COUNTERS, HEADS, HEAD, TAIL, LOGEND, SENDS, LISTS, HELD, POLLS, OUTEND, OUTREAD, VALUEROOM, LISTED, LISTMARK}
 use Rattle.cells.specs.Memory.{Mem}
 
 -- ---- single cells
@@ -26,17 +26,9 @@ labelNumber x v = x * VALUEROOM + v
 abbrev pub labelOf : ℕ → Label
 labelOf c = label (c / VALUEROOM) (c % VALUEROOM)
 
--- what a domain cell holds while its value is not deleted
-abbrev pub LISTED : ℕ
-LISTED = 65535
-
 -- whether a value is in its variable's domain
 abbrev pub inDomain : Mem → ℕ → ℕ → Bool
 inDomain m x v = eqb (m DOMAIN x v) LISTED
-
--- the mark of a list message among the messages to the controller
-abbrev pub LISTMARK : ℕ
-LISTMARK = 1024
 
 -- the row of the counters of `x` against `y`
 unfoldable pub counterRow : Mem → ℕ → ℕ → ℕ

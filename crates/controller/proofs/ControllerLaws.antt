@@ -14,9 +14,8 @@ use Rattle.base.specs.Row.{bit}
 use Rattle.disac4.specs.System.{System}
 use Rattle.disac4.specs.declared.Poll.{Poll}
 use Rattle.disac4.specs.declared.Tally.{Tally}
-use Rattle.cells.specs.Layout.{WANTED, WORKERS, OUT, OUTEND, OUTREAD, OUTROOM, POLLROOM, LISTSMAX}
+use Rattle.cells.specs.Layout.{WANTED, WORKERS, OUT, OUTEND, OUTREAD, OUTROOM, POLLROOM, LISTSMAX, LISTMARK}
 use Rattle.cells.specs.Memory.{Mem, memOf, store}
-use Rattle.cells.specs.View.{LISTMARK}
 use Rattle.controller.proofs.Marks.{mark-small}
 use Rattle.controller.specs.Controller.{polledT, mayPollT, countedT, withMark, markedT, toldT, hasOut, outReadM, putPollM, Machine, machine, pollM, controllerReadM}
 

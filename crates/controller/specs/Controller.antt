@@ -10,9 +10,8 @@ use lib.ListN.{length}
 use Rattle.format.specs.Limits.{maxWorkers}
 use Rattle.base.specs.Row.{bit}
 use Rattle.cells.specs.Acts.{Acts}
-use Rattle.cells.specs.Layout.{OUT, WANTED, WORKERS, OUTEND, OUTREAD, OUTROOM, POLLROOM, LISTSMAX}
+use Rattle.cells.specs.Layout.{OUT, WANTED, WORKERS, OUTEND, OUTREAD, OUTROOM, POLLROOM, LISTSMAX, LISTMARK}
 use Rattle.cells.specs.Memory.{Mem, memOf, store}
-use Rattle.cells.specs.View.{LISTMARK}
 use Rattle.disac4.specs.System.{System}
 use Rattle.disac4.specs.Need.{workNeed}
 use Rattle.disac4.specs.declared.Tally.{Tally}
@@ -101,7 +100,7 @@ controllerReadM sys i s =
     }))
     none
 
--- what the code of that read asks: the needed cells, and a tally, a count of workers and a row of at most eight
+-- what the code of that read asks: the needed cells, and a tally, a count of workers and a row in range
 abbrev pub MayRead : List ℕ → Tally → ℕ → ℕ → Type 0
 MayRead cells t p i = (workNeed ≤ length cells) × (t .marks < 2 ^ maxWorkers) × (i < maxWorkers) × (p ≤ maxWorkers)
 

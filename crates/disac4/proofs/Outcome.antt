@@ -10,13 +10,11 @@ use lib.ListN.{length, getD, drop, replicate, length-append, length-drop, length
 use lib.Seq.{getD-append-add, getD-drop}
 use Rattle.base.proofs.Below.{length-list-below}
 use Rattle.base.proofs.Choice.{none≢some}
-use Rattle.faults.specs.CheckList.{firstFault}
 use Rattle.faults.specs.declared.Decline.{Decline}
 use Rattle.plan.proofs.WellFormed.{read-well-formed}
 use Rattle.plan.specs.Decode.{planFault}
 use Rattle.plan.specs.Network.{networkOf}
-use Rattle.disac4.proofs.Order.{long-enough}
-use Rattle.disac4.specs.Outcome.{Lent, Gives, overwrite, refused, played, bufferChecks, Run, runFault, outcomeBy, runOf, Written}
+use Rattle.disac4.specs.Outcome.{Lent, Gives, overwrite, written, Run, runFault, played, refused, outcomeBy, runOf, Written}
 use Rattle.disac4.specs.Need.{workNeed, listNeed}
 use Rattle.disac4.specs.Report.{listCells, final, reportOf}
 use Rattle.disac4.specs.State.{State}
@@ -59,15 +57,14 @@ few-cells : (b : List ℕ) → planFault b ≡ none → (st : State) → length 
 unfolding systemOf networkOf listNeed
 few-cells b sound st = omega (arith, list-cell-each (systemAt b) st, read-well-formed b sound .variables-high)
 
--- so buffers that pass their checks have room for what is written
-pub played-written : (b : List ℕ) (l : Lent) → planFault b ≡ none → firstFault (bufferChecks l) ≡ none → (turns : List Turn)
-    → Written l (systemAt b) turns (played l (systemAt b) turns .left)
-unfolding played
-played-written b l sound passed turns =
-    let long = long-enough l passed in
+-- so buffers that are long enough have room for what is written
+pub cells-written : (b : List ℕ) (l : Lent) → planFault b ≡ none → workNeed ≤ length (l .work) → listNeed ≤ length (l .lists)
+    → (turns : List Turn) → Written l (systemAt b) turns (written (systemAt b) turns l)
+unfolding written
+cells-written b l sound long-work long-lists turns =
     let cells = listCells (systemAt b) (final (systemAt b) turns) in record {
-      work-length = overwrite-length (replicate workNeed 0) (l .work) (omega (arith, length-replicate {A = ℕ} workNeed 0, long .0));
-      list-length = overwrite-length cells (l .lists) (omega (arith, few-cells b sound (final (systemAt b) turns), long .1));
+      work-length = overwrite-length (replicate workNeed 0) (l .work) (omega (arith, length-replicate {A = ℕ} workNeed 0));
+      list-length = overwrite-length cells (l .lists) (omega (arith, few-cells b sound (final (systemAt b) turns)));
       cleared = λ i h.
           overwrite-front (replicate workNeed 0) (l .work) i (omega (arith, length-replicate {A = ℕ} workNeed 0))
           ∙ getD-replicate workNeed i 0 0 h;
@@ -80,7 +77,7 @@ played-written b l sound passed turns =
 
 module _ (r : Run) (l : Lent) where
   -- without a fault the turns are played
-  pub run-played : runFault r l ≡ none → runOf r l ≡ played l (systemAt (r .plan)) (r .turns)
+  pub run-played : runFault r l ≡ none → runOf r l ≡ played r l
   unfolding runOf
   run-played e = ap (outcomeBy r l) e
 

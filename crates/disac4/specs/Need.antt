@@ -1,4 +1,4 @@
--- The cells that a run needs ("The lent buffers"). The constants of the code, WORK_NEED and LIST_NEED, are the same numbers.
+-- The cells that a run needs ("The report", "When a call declines"). The constants of the code, WORK_NEED and LIST_NEED, are the same numbers.
 use Prim.Native.Nat.{ℕ}
 
 -- work cells

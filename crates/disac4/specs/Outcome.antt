@@ -1,6 +1,7 @@
 -- The whole outcome of each run: its answer and every cell of the lent buffers, from all of its inputs.
 use Prim.Native.Nat.{ℕ, _<_, _≤_}
-use mathlib.Core.List.{List, [], _∷_, _++_}
+use mathlib.Core.List.{List, [], _∷_, _++_, map}
+use mathlib.Core.Logic.{_⊎_}
 use mathlib.Core.Option.{Option, none, some}
 use mathlib.Core.Path.{_≡_}
 use lib.Dec.{leb}
@@ -10,6 +11,7 @@ use Rattle.faults.specs.CheckList.{Check, _orElse_, firstFault, faultAt}
 use Rattle.plan.specs.Decode.{planFault}
 use Rattle.format.specs.Format.{workerCount}
 use Rattle.faults.specs.declared.Decline.{Decline}
+use Rattle.faults.specs.declared.Fault.{Fault}
 use Rattle.faults.specs.declared.Fault.the-variants.{ShortWork, ShortLists, BadTurnList}
 use Rattle.disac4.specs.Report.{listCells, final, reportOf}
 use Rattle.disac4.specs.Need.{workNeed, listNeed}
@@ -35,6 +37,10 @@ pub record Outcome : Type 0 where
   pub answer : Answer
   pub left : Lent
 
+-- this answer, and these buffers
+abbrev pub outcome : Answer → Lent → Outcome
+outcome a l = record { answer = a; left = l }
+
 -- a call leaves its caller this outcome
 pub record Gives (o : Outcome) (r : Answer) (after : Lent) : Type 0 where
   pub answer : r ≡ o .answer
@@ -44,23 +50,43 @@ pub record Gives (o : Outcome) (r : Answer) (after : Lent) : Type 0 where
 unfoldable pub overwrite : List ℕ → List ℕ → List ℕ
 overwrite new cells = new ++ drop (length new) cells
 
--- a declined call changes no lent cell
-unfoldable pub refused : Lent → Decline → Outcome
-refused l d = record { answer = Declined d; left = l }
+-- ---- the lent buffers
 
--- a call that played these turns
-unfoldable pub played : Lent → System → List Turn → Outcome
-played l sys turns = record {
-  answer = Reported (reportOf sys turns);
-  left = lent (overwrite (replicate workNeed 0) (l .work)) (overwrite (listCells sys (final sys turns)) (l .lists));
-}
+-- a buffer: its cells, how many are needed, and the fault of fewer
+pub record Buffer : Type 0 where
+  pub cells : Lent → List ℕ
+  pub need : ℕ
+  pub fault : Fault
 
--- ---- what a run tests
+-- the work buffer: 9
+abbrev pub workBuffer : Buffer
+workBuffer = record { cells = λ l. l .work; need = workNeed; fault = ShortWork }
 
--- 9 and 10: the buffers are long enough
-unfoldable pub bufferChecks : Lent → List Check
-bufferChecks l =
-    (leb workNeed (length (l .work)) orElse ShortWork) ∷ (leb listNeed (length (l .lists)) orElse ShortLists) ∷ []
+-- the list buffer: 10
+abbrev pub listBuffer : Buffer
+listBuffer = record { cells = λ l. l .lists; need = listNeed; fault = ShortLists }
+
+-- a run's checks of its buffers, in their order: each has the cells that are needed
+unfoldable pub bufferChecks : List Buffer → Lent → List Check
+bufferChecks buffers l = map (λ b. leb (b .need) (length (b .cells l)) orElse b .fault) buffers
+
+-- what it means that they pass: every buffer is long enough
+abbrev pub LongEnough : List Buffer → Lent → Type 0
+LongEnough [] l = Unit {0}
+LongEnough (b ∷ buffers) l = (b .need ≤ length (b .cells l)) × LongEnough buffers l
+
+-- and that they fail: this is the fault of the first that is too short
+abbrev pub TooShort : List Buffer → Lent → Fault → Type 0
+TooShort [] l f = ⊥
+TooShort (b ∷ buffers) l f =
+    ((length (b .cells l) < b .need) × (f ≡ b .fault)) ⊎ ((b .need ≤ length (b .cells l)) × TooShort buffers l f)
+
+-- what a run that played these turns leaves in both
+unfoldable pub written : System → List Turn → Lent → Lent
+written sys turns l =
+    lent (overwrite (replicate workNeed 0) (l .work)) (overwrite (listCells sys (final sys turns)) (l .lists))
+
+-- ---- the other inputs
 
 -- 11; the plan's faults; 12
 unfoldable pub inputFault : List ℕ → List ℕ → Option Decline
@@ -74,20 +100,30 @@ inputFault bytes turnList =
 pub record Run : Type 0 where
   -- the plan's bytes
   pub plan : List ℕ
-  -- its checks of the buffers, each with place 0
-  pub checks : Lent → List Check
+  -- the buffers that it needs
+  pub buffers : List Buffer
   -- the first fault of its other inputs
   pub fault : Option Decline
   -- the turns that it plays
   pub turns : List Turn
+  -- what it leaves in the lent buffers if it plays them
+  pub leaves : Lent → Lent
 
--- the first fault: the buffers' come before all others
+-- the first fault: the buffers' come before all others, at place 0
 unfoldable pub runFault : Run → Lent → Option Decline
-runFault r l = firstOf (faultAt 0 (firstFault (r .checks l))) (r .fault)
+runFault r l = firstOf (faultAt 0 (firstFault (bufferChecks (r .buffers) l))) (r .fault)
 
--- the turns are played on the plan, unless a fault was found
+-- a call that played its turns
+unfoldable pub played : Run → Lent → Outcome
+played r l = outcome (Reported (reportOf (systemAt (r .plan)) (r .turns))) (r .leaves l)
+
+-- a declined call changes no lent cell
+unfoldable pub refused : Lent → Decline → Outcome
+refused l d = outcome (Declined d) l
+
+-- the turns are played, unless a fault was found
 abbrev pub outcomeBy : Run → Lent → Option Decline → Outcome
-outcomeBy r l none = played l (systemAt (r .plan)) (r .turns)
+outcomeBy r l none = played r l
 outcomeBy r l (some d) = refused l d
 
 -- the whole outcome of a run
@@ -98,23 +134,25 @@ runOf r l = outcomeBy r l (runFault r l)
 abbrev pub turnRun : List ℕ → List ℕ → Run
 turnRun bytes turnList = record {
   plan = bytes;
-  checks = bufferChecks;
+  buffers = workBuffer ∷ listBuffer ∷ [];
   fault = inputFault bytes turnList;
   turns = turnsOf turnList;
+  leaves = written (systemAt bytes) (turnsOf turnList);
 }
 
 -- the round run of a plan: never 11 or 12
 abbrev pub roundRun : List ℕ → Run
 roundRun bytes = record {
   plan = bytes;
-  checks = bufferChecks;
+  buffers = workBuffer ∷ listBuffer ∷ [];
   fault = planFault bytes;
   turns = roundRunTurns (systemAt bytes);
+  leaves = written (systemAt bytes) (roundRunTurns (systemAt bytes));
 }
 
--- ---- what a run that reports leaves in the buffers
+-- ---- what is written, cell by cell
 
--- it clears the first work cells, writes a cell for each variable, and keeps all later cells and both lengths
+-- a run clears the first work cells, writes a cell for each variable, and keeps all later cells and both lengths
 pub record Written (before : Lent) (sys : System) (turns : List Turn) (after : Lent) : Type 0 where
   pub work-length : length (after .work) ≡ length (before .work)
   pub list-length : length (after .lists) ≡ length (before .lists)

@@ -46,15 +46,23 @@ pub record State : Type 0 where
 -- a state by its parts, in the order above
 abbrev pub stateOf : Domains → (ℕ → ℕ → ℕ → ℕ) → (ℕ → List Label) → (ℕ → List Label) → (ℕ → Option Poll) → (ℕ → ℕ)
     → (ℕ → ℕ → List Message) → Controller → State
-stateOf d c w s h n m t =
-    record { domain = d; counter = c; workList = w; toSend = s; held = h; listCounter = n; channel = m; controller = t }
+stateOf domains counters workLists toSends helds listCounters channels control = record {
+  domain = domains;
+  counter = counters;
+  workList = workLists;
+  toSend = toSends;
+  held = helds;
+  listCounter = listCounters;
+  channel = channels;
+  controller = control;
+}
 
 -- one change, and then the next
 infixl 10 _|>_
 abbrev pub _|>_ : State → (State → State) → State
 st |> change = change st
 
--- all values or all counters
+-- the domains, or the counters, of all variables
 abbrev pub setDomain : Domains → State → State
 setDomain d st =
     stateOf d (st .counter) (st .workList) (st .toSend) (st .held) (st .listCounter) (st .channel) (st .controller)

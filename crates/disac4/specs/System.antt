@@ -28,7 +28,7 @@ pub record Worker (sys : System) (k : ℕ) : Type 0 where
   pub above : 0 < k
   pub within : k ≤ sys .workers
 
--- one to eight workers, and every variable has its owner among them: so is each accepted plan's system
+-- no more workers than a plan may have, one at least, and every variable has its owner among them: so is each accepted plan's system
 pub record Sound (sys : System) : Type 0 where
   pub few : sys .workers ≤ maxWorkers
   pub some-worker : 0 < sys .workers

@@ -6,10 +6,10 @@ use mathlib.Core.Option.{none}
 use mathlib.Core.Path.{_≡_}
 use native.Mathlib.Omega.{arith}
 use lib.ListN.{length-replicate}
-use Rattle.disac4.proofs.Order.{buffers-fit}
+use Rattle.disac4.proofs.Order.{pass-exactly}
 use Rattle.disac4.specs.Need.{workNeed, listNeed}
 use Rattle.disac4.specs.Computes.{disac4-computes}
-use Rattle.disac4.specs.Outcome.{overwrite, played, bufferChecks, inputFault, runFault, outcomeBy, runOf, turnRun}
+use Rattle.disac4.specs.Outcome.{overwrite, written, played, bufferChecks, inputFault, runFault, outcomeBy, runOf, turnRun}
 use Rattle.disac4.specs.Worked.{planP, turnsT}
 use Rattle.faults.specs.CheckList.{firstFault}
 use Rattle.domains.specs.Lines.{newline}
@@ -25,17 +25,18 @@ linesT =
     ++ (51 ∷ 32 ∷ 50 ∷ 58 ∷ 32 ∷ 51 ∷ 49 ∷ newline)
 
 -- the program's own buffers are long enough
-fresh-fits : firstFault (bufferChecks fresh) ≡ none
+fresh-fits : (b ts : List ℕ) → firstFault (bufferChecks (turnRun b ts .buffers) fresh) ≡ none
 unfolding fresh
-fresh-fits =
-    buffers-fit fresh (omega (arith, length-replicate {A = ℕ} workNeed 0)) (omega (arith, length-replicate {A = ℕ} listNeed 0))
+fresh-fits b ts =
+    pass-exactly fresh (turnRun b ts .buffers) .1
+    (omega (arith, length-replicate {A = ℕ} workNeed 0), (omega (arith, length-replicate {A = ℕ} listNeed 0), tt))
 
 -- so that only the inputs decide
 fresh-run : (b turns : List ℕ) → shown b turns false ≡ shownOf b (outcomeBy (turnRun b turns) fresh (inputFault b turns))
 unfolding shown runBy runOf runFault
-fresh-run b turns = rw fresh-fits
+fresh-run b turns = rw (fresh-fits b turns)
 
 -- what the program prints for P with T
 pub shown-run : shown planP turnsT false ≡ linesT
-unfolding shownOf played overwrite fresh listNeed text-computes disac4-computes
+unfolding shownOf played written overwrite fresh listNeed text-computes disac4-computes
 shown-run = fresh-run planP turnsT

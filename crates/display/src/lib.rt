@@ -5,6 +5,9 @@ use disac4::WORK_NEED;
 ghost use Rattle.disac4.specs.Outcome.{Gives, lent, runOf};
 ghost use Rattle.display.specs.Shown.{runBy, shown, Shows};
 
+// The bytes that every text fits.
+pub const TEXT_ROOM: usize = 4096;
+
 // A run by rounds or by the turn list.
 fn run(plan: &[u8], turns: &[u8], rounds: bool, work: &mut [u16], lists: &mut [u16]) -> Answer
     ensures { λ r. ⌜ Gives (runOf (runBy (now (plan .entry)) (now (turns .entry)) rounds) (lent (now (work .entry)) (now (lists .entry)))) r (lent (now (work .exit)) (now (lists .exit))) ⌝ }
@@ -18,7 +21,7 @@ fn run(plan: &[u8], turns: &[u8], rounds: bool, work: &mut [u16], lists: &mut [u
 
 // Puts the whole text of a run, by rounds or by the turn list, at the buffer's start, and returns how many bytes that is:
 // every text fits.
-pub fn show(plan: &[u8], turns: &[u8], rounds: bool, out: &mut [u8; 4096]) -> usize
+pub fn show(plan: &[u8], turns: &[u8], rounds: bool, out: &mut [u8; TEXT_ROOM]) -> usize
     ensures { λ r. ⌜ Shows (shown (now (plan .entry)) (now (turns .entry)) rounds) (now (out .entry)) (now (out .exit)) r ⌝ }
 {
     let mut work = [0u16; WORK_NEED];

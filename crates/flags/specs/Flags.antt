@@ -2,15 +2,16 @@
 use Prim.Native.Nat.{ℕ, _+_, _*_}
 use mathlib.Core.List.{List}
 use lib.ListN.{getD}
+use Rattle.disac4.specs.Turn.{pollAction}
 use Rattle.format.specs.Limits.{maxWorkers}
 
--- the controller and at most eight workers
+-- the controller, and as many workers as there may be
 abbrev pub actors : ℕ
 actors = 1 + maxWorkers
 
--- the actions have the numbers 0 to 12
+-- the actions have the numbers from 0 to that of a poll
 abbrev pub actions : ℕ
-actions = 13
+actions = 1 + pollAction
 
 -- how many cells a table has
 abbrev pub cellCount : ℕ

@@ -1,4 +1,5 @@
 // A table with a flag for each turn: a cell for each actor and action, with 1 or 0.
+use disac4::POLL_ACTION;
 use format::limits::MAX_WORKERS;
 ghost use mathlib.Core.Path.{_≡_};
 ghost use Prim.Native.Nat.{_<_};
@@ -6,10 +7,10 @@ ghost use lib.Dec.{eqb};
 ghost use lib.ListN.{length};
 ghost use Rattle.flags.specs.Flags.{actors, actions, cellCount, cellAt};
 
-// The controller and at most eight workers.
+// The controller, and as many workers as there may be.
 pub const ACTORS: usize = 1 + MAX_WORKERS;
-// The actions have the numbers 0 to 12.
-pub const ACTIONS: usize = 13;
+// The actions have the numbers from 0 to that of a poll.
+pub const ACTIONS: usize = 1 + POLL_ACTION;
 // How many cells a table has.
 pub const CELLS: usize = ACTORS * ACTIONS;
 

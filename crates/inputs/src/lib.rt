@@ -15,6 +15,7 @@ use flags::ACTORS;
 use flags::CELLS;
 use flags::Table;
 use flags::is_set;
+ghost use mathlib.Core.List.{[], _∷_};
 ghost use mathlib.Core.Path.{_≡_};
 ghost use Rattle.disac4.specs.Turn.{workerMay, controllerMay, allowed as allowedOf, turn, turnFault, turnListFits};
 ghost use Prim.Native.Nat.{_/_, _≤_};
@@ -22,11 +23,11 @@ ghost use lib.ListN.{length};
 ghost use Rattle.inputs.specs.Bad.{badTurn};
 ghost use Rattle.inputs.specs.Judged.{Judges};
 ghost use Rattle.faults.specs.CheckList.{firstFault, verdictOf};
-ghost use Rattle.disac4.specs.Outcome.{lent, bufferChecks};
+ghost use Rattle.disac4.specs.Outcome.{lent, workBuffer, listBuffer, bufferChecks};
 
 // 9 and 10: whether both buffers are long enough, the work cells first.
 pub fn check_buffers(work: &[u16], lists: &[u16]) -> Verdict
-    ensures { λ r. ⌜ r ≡ verdictOf (firstFault (bufferChecks (lent (now (work .entry)) (now (lists .entry))))) ⌝ }
+    ensures { λ r. ⌜ r ≡ verdictOf (firstFault (bufferChecks (workBuffer ∷ listBuffer ∷ []) (lent (now (work .entry)) (now (lists .entry))))) ⌝ }
 {
     if work.len() < WORK_NEED {
         return Verdict::Fails(Fault::ShortWork);

@@ -1,4 +1,5 @@
 // Reads plan.bin and turns.bin, plays the turns, or rounds where there is no turns.bin, and prints the report and the lists.
+use disac4::MAX_TURN_BYTES;
 use libc::STDOUT_FILENO;
 ghost use Rattle.io.specs.Counts.{Counts};
 
@@ -44,7 +45,7 @@ fn main() {
     let mut plan = io::large_buffer();
     let plan_file = read_file(b"plan.bin", &mut plan);
     // One byte more than a list may have: a longer file is a list that is too long.
-    let mut turns = [0u8; 65537];
+    let mut turns = [0u8; MAX_TURN_BYTES + 1];
     let turn_file = read_file(b"turns.bin", &mut turns);
     let n = plan_file.count;
     let m = turn_file.count;

@@ -5,9 +5,8 @@ use native.Mathlib.Omega.{arith}
 use Rattle.base.specs.Below.{loop}
 use Rattle.disac4.specs.System.{System}
 use Rattle.cells.proofs.RegionsKept.{RegionsKept, kept-same, kept-then, kept-either, kept-repeated, kept-stored, kept-fewer, delete-kept}
-use Rattle.cells.specs.Layout.{DOMAIN, COUNTERS}
+use Rattle.cells.specs.Layout.{DOMAIN, COUNTERS, LISTED}
 use Rattle.cells.specs.Memory.{Mem, store}
-use Rattle.cells.specs.View.{LISTED}
 use Rattle.counting.proofs.Kept.{counters-alone, count-else}
 use Rattle.counting.specs.Count.{countSupportsM}
 use Rattle.index.proofs.Kept.{IndexKept}

@@ -11,10 +11,10 @@ use Rattle.base.proofs.Row.{row-full, row-ext, row-both}
 use Rattle.base.specs.Below.{allBelow}
 use Rattle.base.specs.Row.{rowOf}
 use Rattle.disac4.specs.System.{System}
-use Rattle.cells.specs.Layout.{DOMAIN, COUNTERS}
+use Rattle.cells.specs.Layout.{DOMAIN, COUNTERS, LISTED}
 use Rattle.cells.specs.Queues.{deleteM}
 use Rattle.cells.specs.Memory.{Mem, store}
-use Rattle.cells.specs.View.{LISTED, counterRow}
+use Rattle.cells.specs.View.{counterRow}
 use Rattle.loading.specs.Load.{suits, suitedRow, listLabelM}
 
 -- ---- the row of the values that suit

@@ -6,10 +6,10 @@ use lib.Dec.{eqb}
 use Rattle.base.specs.Below.{allBelow, loop}
 use Rattle.base.specs.Row.{bit, rowOf}
 use Rattle.disac4.specs.System.{System}
-use Rattle.cells.specs.Layout.{DOMAIN, COUNTERS}
+use Rattle.cells.specs.Layout.{DOMAIN, COUNTERS, LISTED}
 use Rattle.cells.specs.Queues.{deleteM}
 use Rattle.cells.specs.Memory.{Mem, store}
-use Rattle.cells.specs.View.{LISTED, counterRow}
+use Rattle.cells.specs.View.{counterRow}
 use Rattle.counting.specs.Count.{countSupportsM}
 
 -- label `v` of `x` has no counter against `y`, or one that is not 0

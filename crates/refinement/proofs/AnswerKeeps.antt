@@ -13,11 +13,10 @@ use Rattle.base.specs.Below.{one}
 use Rattle.disac4.specs.System.{System}
 use Rattle.disac4.specs.declared.Tally.{Tally}
 use Rattle.cells.proofs.Stores.{store-same}
-use Rattle.cells.specs.Layout.{WORKERS, OUT, WANTED, SENDS, LISTS, HELD, OUTEND}
+use Rattle.cells.specs.Layout.{WORKERS, OUT, WANTED, SENDS, LISTS, HELD, OUTEND, LISTMARK}
 use Rattle.cells.specs.Memory.{Mem}
 use Rattle.answers.proofs.AnswerLaws.{MayAnswer, may-answer, empty-lists}
 use Rattle.answers.specs.Answers.{answeredM, mayAnswer, answerM}
-use Rattle.cells.specs.View.{LISTMARK}
 use Rattle.refinement.proofs.Capacity.{risen}
 use Rattle.refinement.proofs.InvKept.{OnlyRow, only-store, only-same, worker-action}
 use Rattle.refinement.specs.Inv.{Row, Polled, Replied, Totals, Inv, OutCounted}

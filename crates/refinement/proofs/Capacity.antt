@@ -12,10 +12,9 @@ use Rattle.base.proofs.Sums.{sum-change, sum-le, sum-part, sum-beside, count-mo
 use Rattle.base.specs.Below.{sumBelow}
 use Rattle.base.specs.Choice.{update}
 use Rattle.disac4.specs.System.{System}
-use Rattle.cells.specs.Layout.{WORKERS, CURSORS, BOUNDS, OUT, WANTED, TAIL, LOGEND, SENDS, LISTS, HELD, OUTEND, OUTREAD, LABELROOM}
+use Rattle.cells.specs.Layout.{WORKERS, CURSORS, BOUNDS, OUT, WANTED, TAIL, LOGEND, SENDS, LISTS, HELD, OUTEND, OUTREAD, LABELROOM, LISTMARK}
 use Rattle.cells.specs.Memory.{Mem}
 use Rattle.controller.specs.Controller.{Machine}
-use Rattle.cells.specs.View.{LISTMARK}
 use Rattle.refinement.specs.Inv.{Small, Inv, listsOut, remaining, accounted}
 
 climbs : (f : ℕ → ℕ) (from d : ℕ) → ((n : ℕ) → from ≤ n → n < from + d → f n < f (n + 1)) → f from + d ≤ f (from + d)

@@ -11,10 +11,10 @@ use Rattle.disac4.specs.State.{list, poll}
 use Rattle.disac4.specs.System.{System}
 use Rattle.disac4.specs.declared.Tally.{Tally}
 use Rattle.cells.proofs.Queue.{labels-same, QueueKept, queue-same}
-use Rattle.cells.specs.Layout.{WORKERS, CURSORS, BOUNDS, LOG, OUT, WANTED, LOGEND, SENDS, HELD, POLLS, OUTEND, OUTREAD}
+use Rattle.cells.specs.Layout.{WORKERS, CURSORS, BOUNDS, LOG, OUT, WANTED, LOGEND, SENDS, HELD, POLLS, OUTEND, OUTREAD, LISTMARK}
 use Rattle.cells.specs.Memory.{Mem}
 use Rattle.controller.specs.Controller.{Machine}
-use Rattle.cells.specs.View.{LISTMARK, listAt, messageOf, pollAt, sendOf, heldOf, listMessagesQueue, outQueue, pollsQueue, rowsOf}
+use Rattle.cells.specs.View.{listAt, messageOf, pollAt, sendOf, heldOf, listMessagesQueue, outQueue, pollsQueue, rowsOf}
 use Rattle.refinement.proofs.Capacity.{bound-logged}
 use Rattle.refinement.proofs.ChannelRows.{Stays}
 use Rattle.refinement.specs.Inv.{Small, Inv}

@@ -14,10 +14,9 @@ use Rattle.base.specs.Below.{sumBelow, one}
 use Rattle.disac4.specs.System.{System}
 use Rattle.disac4.specs.declared.Tally.{Tally}
 use Rattle.cells.proofs.Stores.{store-same, store-other}
-use Rattle.cells.specs.Layout.{WORKERS, OUT, OUTEND, OUTREAD}
+use Rattle.cells.specs.Layout.{WORKERS, OUT, OUTEND, OUTREAD, LISTMARK}
 use Rattle.cells.specs.Memory.{Mem}
 use Rattle.controller.specs.Controller.{countedT, markedT, toldT, hasOut, outReadM, Machine, controllerReadM}
-use Rattle.cells.specs.View.{LISTMARK}
 use Rattle.refinement.proofs.InvKept.{OnlyRow, only-store, only-same, Follows, row-action, replied-kept, follows-itself, lists-out-kept, lists-out-more}
 use Rattle.controller.proofs.Marks.{mark-small}
 use Rattle.refinement.specs.Inv.{Row, Polled, Totals, Inv, OutCounted, listsOut}

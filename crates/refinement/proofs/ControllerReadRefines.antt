@@ -18,10 +18,10 @@ use Rattle.disac4.specs.State.{State, Controller, list, reply, stateOf, setChan
 use Rattle.disac4.specs.System.{System}
 use Rattle.disac4.specs.declared.Tally.{Tally}
 use Rattle.cells.proofs.Queue.{read-queue}
-use Rattle.cells.specs.Layout.{WORKERS, OUT, LISTS, OUTEND, OUTREAD, OUTROOM, LISTSMAX}
+use Rattle.cells.specs.Layout.{WORKERS, OUT, LISTS, OUTEND, OUTREAD, OUTROOM, LISTSMAX, LISTMARK}
 use Rattle.cells.specs.Memory.{Mem}
 use Rattle.controller.specs.Controller.{countedT, markedT, toldT, withMark, hasOut, outReadM, Machine, controllerReadM}
-use Rattle.cells.specs.View.{LISTMARK, listAt, messageOf, viewLists, view, contents, outQueue, atActor, rowsOf}
+use Rattle.cells.specs.View.{listAt, messageOf, viewLists, view, contents, outQueue, atActor, rowsOf}
 use Rattle.refinement.proofs.Actors.{at-worker, actors-update}
 use Rattle.refinement.proofs.Capacity.{lists-read-few, outend-few}
 use Rattle.refinement.proofs.ChannelRows.{at-out, Stays, Beside, channels-update}

@@ -12,10 +12,10 @@ use Rattle.base.specs.Below.{sumBelow, one}
 use Rattle.disac4.specs.System.{System}
 use Rattle.disac4.specs.declared.Tally.{Tally}
 use Rattle.cells.proofs.Stores.{store-other, store-apart}
-use Rattle.cells.specs.Layout.{WORKERS, CURSORS, BOUNDS, LOG, WORK, OUT, WANTED, DOMAIN, HEADS, HEAD, TAIL, LOGEND, SENDS, LISTS, HELD, POLLS, OUTEND, OUTREAD}
+use Rattle.cells.specs.Layout.{WORKERS, CURSORS, BOUNDS, LOG, WORK, OUT, WANTED, DOMAIN, HEADS, HEAD, TAIL, LOGEND, SENDS, LISTS, HELD, POLLS, OUTEND, OUTREAD, LISTED, LISTMARK}
 use Rattle.cells.specs.Memory.{Mem, store}
 use Rattle.controller.specs.Controller.{Machine}
-use Rattle.cells.specs.View.{LISTED, LISTMARK, inDomain}
+use Rattle.cells.specs.View.{inDomain}
 use Rattle.refinement.specs.Inv.{LoadedNumber, Row, Polled, Replied, OutCounted, Inv, Totals, listsOut, accounted}
 use Rattle.index.specs.Index.{Paired}
 use Rattle.network.specs.Network.{domainSize}

@@ -12,9 +12,9 @@ use Rattle.disac4.specs.Loading.{unsupported}
 use Rattle.disac4.specs.System.{System}
 use Rattle.network.specs.Network.{Label, label}
 use Rattle.cells.proofs.Stores.{store-same, store-other, store-apart}
-use Rattle.cells.specs.Layout.{WORKERS, LOG, WORK, DOMAIN, COUNTERS, HEADS, TAIL, LOGEND}
+use Rattle.cells.specs.Layout.{WORKERS, LOG, WORK, DOMAIN, COUNTERS, HEADS, TAIL, LOGEND, LISTED}
 use Rattle.cells.specs.Memory.{Mem, store}
-use Rattle.cells.specs.View.{LISTED, counterRow}
+use Rattle.cells.specs.View.{counterRow}
 use Rattle.refinement.proofs.DeleteApart.{Apart, deleteIf, delete-if-apart}
 use Rattle.refinement.proofs.LongerLists.{Both, both-none, Appends, appends-if}
 use Rattle.refinement.specs.Inv.{Small}

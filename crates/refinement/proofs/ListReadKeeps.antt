@@ -14,10 +14,10 @@ use Rattle.disac4.specs.System.{System}
 use Rattle.disac4.specs.declared.Tally.{Tally}
 use Rattle.cells.proofs.Queue.{labels-length}
 use Rattle.cells.proofs.Stores.{store-same, store-other, store-apart, OffList, copy-other}
-use Rattle.cells.specs.Layout.{WORKERS, CURSORS, BOUNDS, LOG, WORK, OUT, WANTED, DOMAIN, HEADS, HEAD, TAIL, LOGEND, SENDS, LISTS, OUTEND, OUTREAD}
+use Rattle.cells.specs.Layout.{WORKERS, CURSORS, BOUNDS, LOG, WORK, OUT, WANTED, DOMAIN, HEADS, HEAD, TAIL, LOGEND, SENDS, LISTS, OUTEND, OUTREAD, LISTED}
 use Rattle.cells.specs.Queues.{copyM}
 use Rattle.cells.specs.Memory.{Mem, store}
-use Rattle.cells.specs.View.{LISTED, labelsBetween, listAt}
+use Rattle.cells.specs.View.{labelsBetween, listAt}
 use Rattle.reads.proofs.ReadLaws.{has-list}
 use Rattle.reads.specs.Reads.{listStart, listEnd, takenM, hasList, readListM}
 use Rattle.controller.specs.Controller.{Machine}

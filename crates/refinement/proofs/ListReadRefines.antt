@@ -11,12 +11,12 @@ use Rattle.disac4.specs.System.{System}
 use Rattle.disac4.specs.declared.Tally.{Tally}
 use Rattle.network.specs.Network.{Label, loaded}
 use Rattle.cells.proofs.Queue.{labels-same, read-queue}
-use Rattle.cells.specs.Layout.{WORKERS, CURSORS, BOUNDS, LOG, WORK, OUT, WANTED, DOMAIN, COUNTERS, HEADS, HEAD, TAIL, LOGEND, SENDS, LISTS, HELD, POLLS, OUTEND, OUTREAD}
+use Rattle.cells.specs.Layout.{WORKERS, CURSORS, BOUNDS, LOG, WORK, OUT, WANTED, DOMAIN, COUNTERS, HEADS, HEAD, TAIL, LOGEND, SENDS, LISTS, HELD, POLLS, OUTEND, OUTREAD, LISTED}
 use Rattle.cells.specs.Memory.{Mem}
 use Rattle.reads.proofs.ReadLaws.{HasList, list-goes, list-idle}
 use Rattle.reads.specs.Reads.{takenM, readListM}
 use Rattle.controller.specs.Controller.{Machine}
-use Rattle.cells.specs.View.{LISTED, labelsBetween, listAt, counterRow, viewCounter, viewLists, view, contents, workOf, sendOf, heldOf, listMessagesQueue, rowsOf}
+use Rattle.cells.specs.View.{labelsBetween, listAt, counterRow, viewCounter, viewLists, view, contents, workOf, sendOf, heldOf, listMessagesQueue, rowsOf}
 use Rattle.index.proofs.Kept.{row-heads}
 use Rattle.refinement.proofs.Actors.{at-worker, actors-update, counters-more, actors-same}
 use Rattle.refinement.proofs.Capacity.{bound-logged, logend-small, sends-few, lists-few}

@@ -13,9 +13,9 @@ use Rattle.disac4.specs.Loading.{loadedCounter, unsupported}
 use Rattle.disac4.specs.System.{System}
 use Rattle.network.proofs.Loaded.{loaded-intro}
 use Rattle.network.specs.Network.{Network, loaded, supportCount}
-use Rattle.cells.specs.Layout.{DOMAIN, COUNTERS, HEADS}
+use Rattle.cells.specs.Layout.{DOMAIN, COUNTERS, HEADS, LISTED}
 use Rattle.cells.specs.Memory.{Mem, store}
-use Rattle.cells.specs.View.{LISTED, counterRow}
+use Rattle.cells.specs.View.{counterRow}
 use Rattle.counting.proofs.Kept.{count-else}
 use Rattle.counting.specs.Count.{countSupportsM}
 use Rattle.index.proofs.Kept.{row-heads}

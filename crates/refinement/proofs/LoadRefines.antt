@@ -20,14 +20,14 @@ use Rattle.network.proofs.Loaded.{loaded-variable, loaded-value}
 use Rattle.network.proofs.Supports.{support-count}
 use Rattle.network.specs.Network.{Label, label, loaded, labelsWhere, supports, supportCount}
 use Rattle.cells.proofs.Queue.{labels-none, queue-none}
-use Rattle.cells.specs.Layout.{WORKERS, CURSORS, BOUNDS, LOG, WORK, OUT, WANTED, DOMAIN, COUNTERS, HEADS, HEAD, TAIL, LOGEND, SENDS, LISTS, HELD, OUTEND, LABELROOM}
+use Rattle.cells.specs.Layout.{WORKERS, CURSORS, BOUNDS, LOG, WORK, OUT, WANTED, DOMAIN, COUNTERS, HEADS, HEAD, TAIL, LOGEND, SENDS, LISTS, HELD, OUTEND, LABELROOM, LISTED}
 use Rattle.counting.proofs.Kept.{count-else}
 use Rattle.counting.specs.Count.{countSupportsM}
 use Rattle.index.proofs.Kept.{row-heads}
 use Rattle.loading.specs.Load.{loadM}
 use Rattle.cells.specs.Memory.{Mem}
 use Rattle.refinement.specs.Run.{freshTally}
-use Rattle.cells.specs.View.{LISTED, inDomain, isWorker, labelsBetween, counterRow, viewCounter, viewLists, view, contents, heldOf, listMessagesQueue, outQueue, pollsQueue, atActor, rowsOf, atChannel}
+use Rattle.cells.specs.View.{inDomain, isWorker, labelsBetween, counterRow, viewCounter, viewLists, view, contents, heldOf, listMessagesQueue, outQueue, pollsQueue, atActor, rowsOf, atChannel}
 use Rattle.refinement.proofs.Actors.{actors-none, no-marks, row-of}
 use Rattle.refinement.proofs.DeleteApart.{Apart}
 use Rattle.refinement.proofs.LongerLists.{Longer, Both, both-none, both-more}

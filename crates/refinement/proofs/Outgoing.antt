@@ -7,9 +7,8 @@ use Rattle.base.proofs.Below.{up-to}
 use Rattle.base.proofs.Choice.{everywhere}
 use Rattle.base.specs.Below.{sumBelow, one}
 use Rattle.cells.proofs.Stores.{store-same, store-other}
-use Rattle.cells.specs.Layout.{WORKERS, OUT, SENDS, OUTEND, OUTREAD}
+use Rattle.cells.specs.Layout.{WORKERS, OUT, SENDS, OUTEND, OUTREAD, LISTMARK}
 use Rattle.cells.specs.Memory.{Mem, store}
-use Rattle.cells.specs.View.{LISTMARK}
 use Rattle.refinement.proofs.InvKept.{lists-out-kept, lists-out-more, lists-read-kept}
 use Rattle.refinement.specs.Inv.{listsOut}
 

@@ -12,11 +12,10 @@ use Rattle.base.specs.Below.{sumBelow, one}
 use Rattle.disac4.specs.System.{System}
 use Rattle.disac4.specs.declared.Tally.{Tally}
 use Rattle.cells.proofs.Stores.{store-same, store-other}
-use Rattle.cells.specs.Layout.{WORKERS, CURSORS, BOUNDS, OUT, LOGEND, SENDS, LISTS, OUTEND}
+use Rattle.cells.specs.Layout.{WORKERS, CURSORS, BOUNDS, OUT, LOGEND, SENDS, LISTS, OUTEND, LISTMARK}
 use Rattle.cells.specs.Memory.{Mem}
 use Rattle.sends.proofs.SendLaws.{may-send}
 use Rattle.sends.specs.Sends.{sentM, maySend, sendM}
-use Rattle.cells.specs.View.{LISTMARK}
 use Rattle.refinement.proofs.InvKept.{OnlyRow, only-store, only-same, worker-action}
 use Rattle.refinement.specs.Inv.{Row, Totals, Inv, OutCounted}
 use Rattle.refinement.proofs.Outgoing.{Put, put-out, put-lists, put-counted, put-lists-read}

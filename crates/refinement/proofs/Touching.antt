@@ -18,11 +18,11 @@ use Rattle.disac4.specs.declared.Tally.{Tally}
 use Rattle.network.proofs.Loaded.{loaded-intro}
 use Rattle.network.specs.Network.{label, supports, Label}
 use Rattle.cells.proofs.Stores.{store-same, store-other}
-use Rattle.cells.specs.Layout.{DOMAIN, COUNTERS}
+use Rattle.cells.specs.Layout.{DOMAIN, COUNTERS, LISTED}
 use Rattle.cells.specs.Memory.{Mem, store}
 use Rattle.index.proofs.Kept.{row-heads}
 use Rattle.treating.specs.Treat.{loseM, touchM, touchVariableM, touchVariablesM}
-use Rattle.cells.specs.View.{LISTED, inDomain, counterRow, viewCounter, view}
+use Rattle.cells.specs.View.{inDomain, counterRow, viewCounter, view}
 use Rattle.refinement.proofs.DeleteApart.{Apart, deleteIf, delete-if-apart}
 use Rattle.refinement.proofs.LongerLists.{both-none, Appends, appends-if}
 use Rattle.refinement.specs.Inv.{Small}

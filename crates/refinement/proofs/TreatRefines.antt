@@ -20,13 +20,13 @@ use Rattle.network.proofs.Loaded.{loaded-variable, loaded-value}
 use Rattle.network.specs.Network.{Label, label, loaded, labelsWhere, domainSize}
 use Rattle.cells.proofs.Queue.{labels-same, read-queue, labelQueue}
 use Rattle.cells.proofs.Stores.{store-same, store-other}
-use Rattle.cells.specs.Layout.{WORKERS, CURSORS, BOUNDS, LOG, WORK, OUT, WANTED, DOMAIN, COUNTERS, HEADS, HEAD, TAIL, LOGEND, SENDS, LABELROOM}
+use Rattle.cells.specs.Layout.{WORKERS, CURSORS, BOUNDS, LOG, WORK, OUT, WANTED, DOMAIN, COUNTERS, HEADS, HEAD, TAIL, LOGEND, SENDS, LABELROOM, LISTED}
 use Rattle.cells.specs.Memory.{Mem, store}
 use Rattle.controller.specs.Controller.{Machine}
 use Rattle.index.proofs.Kept.{row-heads}
 use Rattle.treating.proofs.TreatLaws.{treat-goes, treat-idle}
 use Rattle.treating.specs.Treat.{touchVariablesM, treatM}
-use Rattle.cells.specs.View.{LISTED, inDomain, labelOf, labelsBetween, counterRow, viewCounter, view, workOf, sendOf}
+use Rattle.cells.specs.View.{inDomain, labelOf, labelsBetween, counterRow, viewCounter, view, workOf, sendOf}
 use Rattle.refinement.proofs.Actors.{at-worker, actors-update}
 use Rattle.refinement.proofs.Capacity.{log-room, tail-room, tail-small}
 use Rattle.refinement.proofs.InvKept.{paired-kept}

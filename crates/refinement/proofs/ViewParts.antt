@@ -9,7 +9,8 @@ use Rattle.base.proofs.Choice.{cond-true, cond-false}
 use Rattle.disac4.specs.State.{State, list, reply}
 use Rattle.cells.specs.Memory.{Mem}
 pub use Rattle.refinement.specs.Run.{viewOf}
-use Rattle.cells.specs.View.{LISTMARK, labelsBetween, listAt, messageOf, pollAt, counterRow, viewCounter, viewLists, view}
+use Rattle.cells.specs.Layout.{LISTMARK}
+use Rattle.cells.specs.View.{labelsBetween, listAt, messageOf, pollAt, counterRow, viewCounter, viewLists, view}
 
 -- Named on an `unfolding` line, this opens the view down to the channels' contents.
 unfoldable pub view-parts : Unit {0}

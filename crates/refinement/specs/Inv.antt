@@ -8,11 +8,11 @@ use Rattle.base.specs.Below.{sumBelow, countBelow}
 use Rattle.disac4.specs.System.{System, Sound}
 use Rattle.disac4.specs.declared.Tally.{Tally}
 use Rattle.network.specs.Network.{loaded, labelCount, domainSize}
-use Rattle.cells.specs.Layout.{WORKERS, CURSORS, BOUNDS, LOG, WORK, OUT, WANTED, HEAD, TAIL, LOGEND, SENDS, LISTS, HELD, POLLS, OUTEND, OUTREAD, LABELROOM, VALUEROOM}
+use Rattle.cells.specs.Layout.{WORKERS, CURSORS, BOUNDS, LOG, WORK, OUT, WANTED, HEAD, TAIL, LOGEND, SENDS, LISTS, HELD, POLLS, OUTEND, OUTREAD, LABELROOM, VALUEROOM, LISTMARK}
 use Rattle.cells.specs.Memory.{Mem}
 use Rattle.index.specs.Index.{Paired}
 use Rattle.controller.specs.Controller.{Machine}
-use Rattle.cells.specs.View.{LISTMARK, inDomain, labelOf}
+use Rattle.cells.specs.View.{inDomain, labelOf}
 
 -- the system fits the regions: so does each accepted plan's
 pub record Small (sys : System) : Type 0 where

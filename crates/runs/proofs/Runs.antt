@@ -4,8 +4,9 @@ use mathlib.Core.List.{List, []}
 use mathlib.Core.Option.{none}
 use mathlib.Core.Path.{_≡_, refl, _∙_, ap, ap₂}
 use lib.ListN.{length}
-use Rattle.disac4.specs.Outcome.{Gives, lent, played}
+use Rattle.disac4.specs.Outcome.{outcome, Gives, lent, written}
 use Rattle.disac4.specs.Need.{workNeed}
+use Rattle.disac4.specs.Report.{reportOf}
 use Rattle.disac4.specs.System.{systemAt}
 use Rattle.disac4.specs.Turn.{Turn}
 use Rattle.disac4.specs.declared.Answer.the-variants.{Reported}
@@ -28,8 +29,9 @@ begun b m cells g sound long at = record {
 -- a run that has played its turns from there, and ends
 pub ends : (b : List ℕ) → planFault b ≡ none → (work cells cells′ lists work′ lists′ : List ℕ) (us : List Turn) (g g′ : Progress) (r : Report)
     → At b (memOf work) [] cells g → Plays b us cells g cells′ g′ → length cells′ ≡ length work → length cells′ < 2 ^ 64
-    → Finishes b cells′ lists g′ work′ lists′ r → Gives (played (lent work lists) (systemAt b) us) (Reported r) (lent work′ lists′)
-unfolding played Plays
+    → Finishes b cells′ lists g′ work′ lists′ r
+    → Gives (outcome (Reported (reportOf (systemAt b) us)) (written (systemAt b) us (lent work lists))) (Reported r) (lent work′ lists′)
+unfolding written Plays
 ends b sound work cells cells′ lists work′ lists′ us g g′ r at plays same few f =
     let now = plays (memOf work) [] at in
     record {

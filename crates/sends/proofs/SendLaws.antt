@@ -6,9 +6,8 @@ use mathlib.Core.Path.{_≡_}
 use borrow.Author.Tests.{lt-ltb, ltb-true, ne-eqb, eqb-false, not-true}
 use Rattle.base.proofs.Bools.{and-left, and-right, and-intro, not-of, refuted}
 use Rattle.base.proofs.Choice.{cond-true, cond-false}
-use Rattle.cells.specs.Layout.{WORKERS, BOUNDS, OUT, LOGEND, SENDS, LISTS, OUTEND, SENDROOM, OUTROOM, LISTSMAX}
+use Rattle.cells.specs.Layout.{WORKERS, BOUNDS, OUT, LOGEND, SENDS, LISTS, OUTEND, SENDROOM, OUTROOM, LISTSMAX, LISTMARK}
 use Rattle.cells.specs.Memory.{Mem, store}
-use Rattle.cells.specs.View.{LISTMARK}
 use Rattle.sends.specs.Sends.{sentWith, sentM, maySend, sendM}
 
 module _ (m m₁ m₂ m₃ : Mem) where

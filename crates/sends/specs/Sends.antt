@@ -4,9 +4,8 @@ use Prim.Native.Nat.{ℕ, _+_}
 use mathlib.Core.Bool.{Bool, cond, _&&_, not}
 use mathlib.Core.Option.{Option, none, some}
 use lib.Dec.{ltb, eqb}
-use Rattle.cells.specs.Layout.{WORKERS, BOUNDS, OUT, LOGEND, SENDS, LISTS, OUTEND, SENDROOM, OUTROOM, LISTSMAX}
+use Rattle.cells.specs.Layout.{WORKERS, BOUNDS, OUT, LOGEND, SENDS, LISTS, OUTEND, SENDROOM, OUTROOM, LISTSMAX, LISTMARK}
 use Rattle.cells.specs.Memory.{Mem, store}
-use Rattle.cells.specs.View.{LISTMARK}
 
 -- a list message is sent, from what the row's cells hold: list messages sent, the log's end, messages put, list counter
 unfoldable pub sentWith : ℕ → ℕ → ℕ → ℕ → ℕ → Mem → Mem

@@ -31,7 +31,7 @@ use Rattle.disac4.specs.declared.Status.the-variants.{Open, Closed, Bare}
 use Rattle.buffer.proofs.Decimal.{decimal-length}
 use Rattle.buffer.specs.Decimal.{spaced}
 use Rattle.domains.specs.Lines.{listedCodes, domainLine, variableLine, variableLines}
-use Rattle.text.specs.Printed.{statusWord, declinedWord, reportLine, declineLine, printed}
+use Rattle.text.specs.Printed.{statusWord, declinedWord, reportLine, declineLine, printed, textRoom}
 
 -- a space and at most k + 1 digits
 spaced-length : (k n : ℕ) → n < 10 ^ suc k → length (spaced n) ≤ suc (suc k)
@@ -90,7 +90,7 @@ domain-length number owner size row code a b d h =
     ))
 
 module _ (b lists : List ℕ) where
-  pub decline-short : (d : Decline) → d .place < 2 ^ 64 → length (printed (Declined d) b lists) ≤ 4096
+  pub decline-short : (d : Decline) → d .place < 2 ^ 64 → length (printed (Declined d) b lists) ≤ textRoom
   unfolding printed declineLine declinedWord
   decline-short d h =
       simp length-append
@@ -129,13 +129,13 @@ module _ (b lists : List ℕ) where
               (fits .each-variable x h .few-values) (code-small x h)),
         )
 
-    report-short : (r : Report) → Report64 r → length (printed (Reported r) b lists) ≤ 4096
+    report-short : (r : Report) → Report64 r → length (printed (Reported r) b lists) ≤ textRoom
     unfolding printed
     report-short r h = simp length-append (omega (arith, report-length r h, lines-length))
 
 -- the text of a run's report, whatever its turns
 pub run-short : (b lists : List ℕ) (plan : Plan) → decode b ≡ accepted plan → ((i : ℕ) → byteAt b i < 256) → (ts : List Turn)
-    → length (printed (Reported (reportOf (systemAt b) ts)) b lists) ≤ 4096
+    → length (printed (Reported (reportOf (systemAt b) ts)) b lists) ≤ textRoom
 unfolding reportOf
 run-short b lists plan e bytes ts =
     let read = decode-plan b plan e in

@@ -35,3 +35,7 @@ declineLine d = declinedWord ++ spaced (numberOf (d .fault)) ++ spaced (d .place
 unfoldable pub printed : Answer → List ℕ → List ℕ → List ℕ
 printed (Reported r) b lists = reportLine r ++ variableLines (planOf b) lists
 printed (Declined d) b lists = declineLine d
+
+-- the bytes that every text of a run fits
+abbrev pub textRoom : ℕ
+textRoom = 4096

@@ -1,10 +1,10 @@
 -- What a caller may conclude from a call's contract: the promises of the calls, from the plan's bytes, the turns and the buffers.
 use Prim.Native.Nat.{ℕ, _/_}
 use mathlib.Core.Bool.{Bool, true, false, cond, false≢true}
-use mathlib.Core.List.{List}
+use mathlib.Core.List.{List, [], _∷_}
 use mathlib.Core.Logic.{_↔_}
 use mathlib.Core.Option.{none, some}
-use mathlib.Core.Path.{_≡_, refl, sym, _∙_, ap, subst}
+use mathlib.Core.Path.{_≡_, refl, sym, _∙_, ap}
 use native.Mathlib.Omega.{arith}
 use lib.Dec.{eqb}
 use lib.ListN.{length}
@@ -16,13 +16,13 @@ use Rattle.base.specs.Choice.{allOf}
 use Rattle.base.specs.Row.{bit, rowOf}
 use Rattle.disac4.proofs.Demands.{demand2, demand3, round-closes-plan}
 use Rattle.disac4.proofs.Order.{no-turn-list}
-use Rattle.disac4.proofs.Outcome.{list-cell-each, played-written, run-played, run-refused, run-reports, run-declines}
+use Rattle.disac4.proofs.Outcome.{list-cell-each, cells-written, run-played, run-refused, run-reports, run-declines}
 use Rattle.disac4.specs.Demands.{closedAfter, RoundCloses}
-use Rattle.disac4.specs.Outcome.{Lent, Gives, played, bufferChecks, runFault, runOf, turnRun, roundRun, Written}
+use Rattle.disac4.specs.Outcome.{Lent, outcome, Gives, workBuffer, listBuffer, LongEnough, written, runFault, played, runOf, turnRun, roundRun, Written}
 use Rattle.disac4.specs.Report.{final, listCells, lowestEmpty, statusOf, reportOf}
 use Rattle.disac4.specs.Round.{roundRunTurns}
 use Rattle.disac4.specs.System.{systemAt}
-use Rattle.disac4.specs.Turn.{allowed, turnsOf}
+use Rattle.disac4.specs.Turn.{Turn, allowed, turnsOf}
 use Rattle.disac4.specs.declared.Answer.{Answer}
 use Rattle.disac4.specs.declared.Answer.the-variants.{Reported, Declined}
 use Rattle.disac4.specs.declared.Report.{Report}
@@ -39,7 +39,6 @@ use Rattle.plan.specs.Answer.{planCheck, checkedAs, countsOf}
 use Rattle.plan.specs.Decode.{planOf, decode, accepted, declined}
 use Rattle.plan.specs.declared.Checked as checked
 use Rattle.plan.specs.declared.Checked.{Checked}
-use Rattle.faults.specs.CheckList.{firstFault}
 use Rattle.faults.specs.declared.Decline.{Decline}
 use Rattle.plan.specs.declared.Counts.{Counts}
 use Rattle.tinshrew.proofs.Faults.{declined-plan, Inputs, none-found, one-found, in-table, empty-fits}
@@ -97,8 +96,12 @@ never-open false full e h = let z : _≡_ {A = ℕ} 0 1 = cc in omega arith
 
 -- ---- a reported run
 
-module _ (c : Call) (after : Lent) (r : Report) (fits : PlanAndBuffersFit c) (same : c .run .checks ≡ bufferChecks)
-    (g : Gives (played (c .before) (system c) (c .run .turns)) (Reported r) after) where
+-- what it leaves in the buffers is what is written, cell by cell
+abbrev Writes : Call → Type 0
+Writes c = PlanAndBuffersFit c → Written (c .before) (system c) (c .run .turns) (c .run .leaves (c .before))
+
+module _ (c : Call) (after : Lent) (r : Report) (fits : PlanAndBuffersFit c) (writes : Writes c)
+    (g : Gives (played (c .run) (c .before)) (Reported r) after) where
   -- the report is that of the turns
   told : r ≡ reportOf (system c) (c .run .turns)
   unfolding played
@@ -106,11 +109,8 @@ module _ (c : Call) (after : Lent) (r : Report) (fits : PlanAndBuffersFit c) (sa
 
   -- and so is every cell
   wrote : Written (c .before) (system c) (c .run .turns) after
-  wrote =
-      let b = c .run .plan in
-      rw (g .cells)
-      (played-written b (c .before) (decode-plan b (planOf b) (fits .accepts) .0)
-      (subst (λ k. firstFault (k (c .before)) ≡ none) same (fits .buffers)) (c .run .turns))
+  unfolding played
+  wrote = rw (g .cells) (writes fits)
 
   -- list cells as the turns leave them hold a label exactly if it is still in its domain
   holds : (x v : ℕ) → loaded (system c .net) x v ≡ true
@@ -154,9 +154,15 @@ module _ (c : Call) (after : Lent) (r : Report) (fits : PlanAndBuffersFit c) (sa
         bounded = rw told (third .bounded);
       }
 
+-- both buffers of an accepted plan's run, where they are long enough
+both-written : (b : List ℕ) (l : Lent) → LongEnough (workBuffer ∷ listBuffer ∷ []) l
+    → decode b ≡ accepted (planOf b) → (turns : List Turn) → Written l (systemAt b) turns (written (systemAt b) turns l)
+both-written b l long accepts turns =
+    cells-written b l (decode-plan b (planOf b) accepts .0) (long .0) (long .1 .0) turns
+
 -- ---- any run
 
-module _ (c : Call) (inputs : Inputs c) (same : c .run .checks ≡ bufferChecks) (a : Answer) (after : Lent)
+module _ (c : Call) (inputs : Inputs c) (writes : Writes c) (a : Answer) (after : Lent)
     (g : Gives (runOf (c .run) (c .before)) a after) where
   -- where it reports, nothing was found
   nothing-found : (r : Report) → a ≡ Reported r → runFault (c .run) (c .before) ≡ none
@@ -178,7 +184,7 @@ module _ (c : Call) (inputs : Inputs c) (same : c .run .checks ≡ bufferChecks)
   -- all that it tells, if the turns that it plays are allowed
   run-tells : (Fitting : Type 0) → Fitting ↔ (PlanAndBuffersFit c × TurnsFit c)
       → (PlanAndBuffersFit c → TurnsFit c → allOf (allowed (system c .workers)) (c .run .turns) ≡ true)
-      → ((d : Decline) → FirstFault c d → InTable c d) → RunTells Fitting c (record { answer = a; left = after })
+      → ((d : Decline) → FirstFault c d → InTable c d) → RunTells Fitting c (outcome a after)
   run-tells Fitting fitting fine table = record {
     reports = (
       λ s. fitting .1 (none-found c inputs .0 (nothing-found (s .0) (s .1))),
@@ -193,7 +199,7 @@ module _ (c : Call) (inputs : Inputs c) (same : c .run .checks ≡ bufferChecks)
     reported = λ r e.
         let found = nothing-found r e in
         let fits = none-found c inputs .0 found in
-        reported-run c after r (fits .0) same (rw (← run-played (c .run) (c .before) found, ← e) g) (fine (fits .0) (fits .1));
+        reported-run c after r (fits .0) writes (rw (← run-played (c .run) (c .before) found, ← e) g) (fine (fits .0) (fits .1));
     declined = declined-run table;
   }
 
@@ -208,20 +214,20 @@ list-allowed b ts l fits =
 
 -- it reports exactly if none of the listed faults is there; otherwise it declines the first of them, with a number from 1 to 12
 pub turn-run-tells : (b ts : List ℕ) (l : Lent) (a : Answer) (after : Lent) → Gives (runOf (turnRun b ts) l) a after
-    → let c = turnCall b ts l in RunTells (PlanAndBuffersFit c × TurnsFit c) c (record { answer = a; left = after })
+    → let c = turnCall b ts l in RunTells (PlanAndBuffersFit c × TurnsFit c) c (outcome a after)
 turn-run-tells b ts l a after g =
     let c = turnCall b ts l in
-    run-tells c refl refl a after g _ (λ h. h, λ h. h) (λ h fits. list-allowed b ts l fits)
+    run-tells c refl (λ h. both-written b l (h .buffers) (h .accepts) (turnsOf ts)) a after g _ (λ h. h, λ h. h) (λ h fits. list-allowed b ts l fits)
     (in-table c refl (omega arith) (λ h. omega arith) (λ h. omega arith))
 
 -- ---- the round run
 
 -- it reports exactly if the buffers are long enough and the plan is accepted; otherwise the number is from 1 to 10, never 11 or 12
 pub round-run-tells : (b : List ℕ) (l : Lent) (a : Answer) (after : Lent) → Gives (runOf (roundRun b) l) a after
-    → RunTells (PlanAndBuffersFit (roundCall b l)) (roundCall b l) (record { answer = a; left = after })
+    → RunTells (PlanAndBuffersFit (roundCall b l)) (roundCall b l) (outcome a after)
 round-run-tells b l a after g =
     let c = roundCall b l in
-    run-tells c (sym (no-turn-list b)) refl a after g _
+    run-tells c (sym (no-turn-list b)) (λ h. both-written b l (h .buffers) (h .accepts) (roundRunTurns (systemAt b))) a after g _
     (λ h. (h, empty-fits b l), λ h. h .0) (λ h fits. round-closes-plan b (planOf b) (h .accepts) .all-allowed)
     (in-table c refl (omega arith)
     (λ h. absurd (false≢true (sym h ∙ empty-fits b l .list-fits)))

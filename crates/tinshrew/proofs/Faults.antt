@@ -1,63 +1,37 @@
 -- Which runs report, and which are declined for what: from the tests of a run to document 01's table.
 use Prim.Native.Nat.{ℕ, _/_, _<_, _≤_}
-use mathlib.Core.Bool.{Bool, true, false}
+use mathlib.Core.Bool.{Bool, true, false, _&&_}
 use mathlib.Core.List.{List, [], _∷_}
-use mathlib.Core.Logic.{_↔_}
+use mathlib.Core.Logic.{_↔_, ⊎-elim}
 use mathlib.Core.Option.{Option, none, some}
 use mathlib.Core.Path.{_≡_, refl, sym, _∙_, ap, subst}
 use native.Mathlib.Omega.{arith}
-use borrow.Author.Tests.{le-leb, lt-leb, leb-true, leb-false}
+use borrow.Author.Tests.{leb-true}
 use lib.Dec.{leb}
 use lib.ListN.{length}
-use Rattle.base.proofs.Choice.{none≢some, some-same}
-use Rattle.base.specs.Choice.{firstOf}
-use Rattle.disac4.proofs.Order.{long-enough, buffers-fit, bad-turn-list, then-plan, faultless-below, bad-turn-first, by-fault}
-use Rattle.disac4.specs.Need.{workNeed, listNeed}
-use Rattle.disac4.specs.Outcome.{Lent, bufferChecks, inputFault, runFault}
+use Rattle.base.proofs.Bools.{and-left, and-right}
+use Rattle.base.proofs.Choice.{between-low, between-high}
+use Rattle.base.specs.Choice.{between, allOf, firstOf}
+use Rattle.disac4.proofs.Order.{pass-exactly, fail-exactly, bad-turn-list, then-plan, faultless-below, bad-turn-first, by-fault}
+use Rattle.disac4.specs.Outcome.{Lent, Buffer, bufferChecks, LongEnough, TooShort, inputFault, runFault}
 use Rattle.disac4.specs.System.{systemOf}
 use Rattle.disac4.specs.Turn.{turnListFits, turnFault}
 use Rattle.inputs.proofs.TurnLists.{is-allowed}
 use Rattle.plan.proofs.Faults.{decoded, not-decoded, decode-plan, decode-fault, number-within, place-within}
 use Rattle.plan.specs.Decode.{planOf, decode, declined}
-use Rattle.faults.specs.CheckList.{Check, _orElse_, firstFault, faultAt}
+use Rattle.faults.specs.CheckList.{Check, firstFault, faultAt}
 use Rattle.faults.specs.Fault.{numberOf, decline}
 use Rattle.format.specs.Format.{workerCount}
 use Rattle.faults.specs.declared.Decline.{Decline}
 use Rattle.faults.specs.declared.Fault.{Fault}
-use Rattle.faults.specs.declared.Fault.the-variants.{ShortWork, ShortLists, BadTurnList}
-use Rattle.tinshrew.specs.Conclusions.{DeclinedPlan, ShortBuffer, few-work-cells, few-list-cells, BuffersTell, Call, roundCall, PlanAndBuffersFit, TurnsFit, FirstFault, short-buffer, bad-list, bad-plan, bad-turn, InTable}
+use Rattle.faults.specs.declared.Fault.the-variants.{BadTurnList}
+use Rattle.tinshrew.specs.Conclusions.{DeclinedPlan, Call, roundCall, PlanAndBuffersFit, TurnsFit, FirstFault, short-buffer, bad-list, bad-plan, bad-turn, InTable}
 
 -- ---- the plan
 
 -- the fault's number is from 1 to 8, and its place at most the plan's length
 pub declined-plan : (b : List ℕ) (d : Decline) → decode b ≡ declined d → DeclinedPlan b d
 declined-plan b d e = record { first = e; number = number-within b d e; place = place-within b d e }
-
--- ---- the buffers
-
--- the fault of the first that is too short
-short-buffers : (l : Lent) (f : Fault) (s : Bool) → leb workNeed (length (l .work)) ≡ s
-    → (t : Bool) → leb listNeed (length (l .lists)) ≡ t
-    → firstFault ((s orElse ShortWork) ∷ (t orElse ShortLists) ∷ []) ≡ some f → ShortBuffer l f
-short-buffers l f false p t q e =
-    few-work-cells (leb-false workNeed (length (l .work)) p) (some-same (λ g. g ≡ ShortWork) e refl)
-short-buffers l f true p false q e =
-    few-list-cells (leb-true workNeed (length (l .work)) p) (leb-false listNeed (length (l .lists)) q)
-    (some-same (λ g. g ≡ ShortLists) e refl)
-short-buffers l f true p true q e = none≢some e
-
--- what the checks find
-pub buffers-tell : (l : Lent) → BuffersTell l
-unfolding bufferChecks
-buffers-tell l = record {
-  pass = (long-enough l, λ h. buffers-fit l (h .0) (h .1));
-  fail = λ f. (short-buffers l f _ refl _ refl, found f);
-}
-  where
-    found : (f : Fault) → ShortBuffer l f
-        → firstFault ((leb workNeed (length (l .work)) orElse ShortWork) ∷ (leb listNeed (length (l .lists)) orElse ShortLists) ∷ []) ≡ some f
-    found f (few-work-cells h e) = rw (lt-leb workNeed (length (l .work)) h, e)
-    found f (few-list-cells g h e) = rw (le-leb workNeed (length (l .work)) g, lt-leb listNeed (length (l .lists)) h, e)
 
 -- ---- a run's faults
 
@@ -67,7 +41,7 @@ Inputs c = c .run .fault ≡ inputFault (c .run .plan) (c .turnList)
 
 module _ (c : Call) (inputs : Inputs c) where
   abbrev checks : List Check
-  checks = c .run .checks (c .before)
+  checks = bufferChecks (c .run .buffers) (c .before)
 
   -- the first fault of its buffers, or else of its plan and turn list
   abbrev found : Option Decline
@@ -76,6 +50,10 @@ module _ (c : Call) (inputs : Inputs c) where
   is-found : runFault (c .run) (c .before) ≡ found
   unfolding runFault
   is-found = ap (firstOf (faultAt 0 (firstFault checks))) inputs
+
+  -- the checks pass exactly if the buffers are long enough
+  passes : (firstFault checks ≡ none) ↔ LongEnough (c .run .buffers) (c .before)
+  passes = pass-exactly (c .before) (c .run .buffers)
 
   -- what a fault says, and what it says that there is none
   abbrev Found : Option Decline → Type 0
@@ -86,17 +64,20 @@ module _ (c : Call) (inputs : Inputs c) where
   unfolding systemOf planOf
   found-says =
       let b = c .run .plan in
-      by-fault checks b (c .turnList) Found (λ f h. short-buffer f h refl) (λ g h. bad-list g h refl)
-      (λ g h d e. bad-plan g h (not-decoded b d e))
-      (λ g h e i l bad before. bad-turn (record { buffers = g; accepts = decoded b e }) h i l bad before refl)
+      by-fault checks b (c .turnList) Found
+      (λ f h. short-buffer f (fail-exactly (c .before) f (c .run .buffers) .0 h) refl)
+      (λ g h. bad-list (passes .0 g) h refl)
+      (λ g h d e. bad-plan (passes .0 g) h (not-decoded b d e))
+      (λ g h e i l bad before. bad-turn (record { buffers = passes .0 g; accepts = decoded b e }) h i l bad before refl)
       (λ g h e f. (
-        record { buffers = g; accepts = decoded b e },
+        record { buffers = passes .0 g; accepts = decoded b e },
         record { list-fits = h; all-allowed = is-allowed (workerCount b) (c .turnList) f },
       ))
 
-  -- the buffers pass, so that plan and turn list decide
-  then-inputs : (o : Option Decline) → firstFault checks ≡ none → inputFault (c .run .plan) (c .turnList) ≡ o → found ≡ o
-  then-inputs o g e = rw g e
+  -- the buffers are long enough, so that plan and turn list decide
+  then-inputs : (o : Option Decline) → LongEnough (c .run .buffers) (c .before) → inputFault (c .run .plan) (c .turnList) ≡ o
+      → found ≡ o
+  then-inputs o g e = rw (passes .1 g) e
 
   -- none is found exactly if all fits
   pub none-found : (runFault (c .run) (c .before) ≡ none) ↔ (PlanAndBuffersFit c × TurnsFit c)
@@ -118,7 +99,7 @@ module _ (c : Call) (inputs : Inputs c) where
   one-found d = (λ e. subst Found (sym is-found ∙ e) found-says, λ h. is-found ∙ back h)
     where
       back : FirstFault c d → found ≡ some d
-      back (short-buffer f h e) = rw (h, e)
+      back (short-buffer f h e) = rw (fail-exactly (c .before) f (c .run .buffers) .1 h, e)
       back (bad-list g h e) = then-inputs (some d) g (rw e (bad-turn-list (c .run .plan) (c .turnList) h))
       back (bad-plan g h e) =
           then-inputs (some d) g
@@ -129,10 +110,24 @@ module _ (c : Call) (inputs : Inputs c) where
           (then-plan b (c .turnList) (some d) h
           (rw (decode-plan b (planOf b) (g .accepts) .0, bad-turn-first (workerCount b) (c .turnList) i l bad before, q)))
 
--- where the buffers' checks are those two, the number is at most 10, or more where the turn list is at fault
-pub in-table : (c : Call) → c .run .checks ≡ bufferChecks → 10 ≤ c .most → (turnListFits (c .turnList) ≡ false → 11 ≤ c .most)
-    → (0 < length (c .turnList) / 2 → 12 ≤ c .most) → (d : Decline) → FirstFault c d → InTable c d
-in-table c same ten eleven twelve d = go
+-- what passes of each buffer's fault passes of the one that is found
+short-among : (t : Fault → Bool) (buffers : List Buffer) (l : Lent) (f : Fault) → allOf (λ b. t (b .fault)) buffers ≡ true
+    → TooShort buffers l f → t f ≡ true
+short-among t [] l f all h = absurd h
+short-among t (b ∷ buffers) l f all h =
+    let others = allOf (λ k. t (k .fault)) buffers in
+    ⊎-elim (λ s. rw (s .1) (and-left (t (b .fault)) others all))
+    (λ s. short-among t buffers l f (and-right (t (b .fault)) others all) (s .1)) h
+
+-- a fault of a call's buffers is document 01's 9, 10 or 11 at most, and within what the call may give
+abbrev BufferNumber : Call → Fault → Bool
+BufferNumber c f = between 9 11 (numberOf f) && leb (numberOf f) (c .most)
+
+-- the number is that of a buffer, or one of the plan's, or more where the turn list is at fault
+pub in-table : (c : Call) → allOf (λ b. BufferNumber c (b .fault)) (c .run .buffers) ≡ true → 8 ≤ c .most
+    → (turnListFits (c .turnList) ≡ false → 11 ≤ c .most) → (0 < length (c .turnList) / 2 → 12 ≤ c .most)
+    → (d : Decline) → FirstFault c d → InTable c d
+in-table c buffers eight eleven twelve d = go
   where
     at-start : (f : Fault) → 9 ≤ numberOf f → numberOf f ≤ 11 → numberOf f ≤ c .most → InTable c (decline f 0)
     at-start f low high within = record {
@@ -142,13 +137,14 @@ in-table c same ten eleven twelve d = go
       in-list = λ h. omega arith;
     }
 
-    short : (f : Fault) → ShortBuffer (c .before) f → InTable c (decline f 0)
-    short f (few-work-cells h e) = rw e (at-start ShortWork (omega arith) (omega arith) (omega arith))
-    short f (few-list-cells g h e) = rw e (at-start ShortLists (omega arith) (omega arith) (omega arith))
-
     go : FirstFault c d → InTable c d
     go (short-buffer f h e) =
-        rw e (short f (buffers-tell (c .before) .fail f .0 (subst (λ k. firstFault (k (c .before)) ≡ some f) same h)))
+        let n = numberOf f in
+        let both : between 9 11 n && leb n (c .most) ≡ true = short-among (BufferNumber c) (c .run .buffers) (c .before) f buffers h in
+        let range = and-left (between 9 11 n) (leb n (c .most)) both in
+        rw e
+        (at-start f (between-low 9 11 n range) (between-high 9 11 n range)
+        (leb-true n (c .most) (and-right (between 9 11 n) (leb n (c .most)) both)))
     go (bad-list g h e) = rw e (at-start BadTurnList (omega arith) (omega arith) (eleven h))
     go (bad-plan g h e) =
         let plan = declined-plan (c .run .plan) d e in record {

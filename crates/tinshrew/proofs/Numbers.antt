@@ -2,10 +2,10 @@
 use Prim.Native.Nat.{ℕ}
 use mathlib.Core.List.{List}
 use mathlib.Core.Logic.{_⊎_, inl, inr}
-use mathlib.Core.Path.{_≡_, refl, _∙_, ap, subst}
+use mathlib.Core.Path.{_≡_, refl, _∙_, ap}
 use native.Mathlib.Omega.{arith}
 use lib.ListN.{getD}
-use Rattle.disac4.specs.Outcome.{Lent, Outcome, Gives, runOf, turnRun, roundRun}
+use Rattle.disac4.specs.Outcome.{Lent, Outcome, outcome, Gives, runOf, turnRun, roundRun}
 use Rattle.disac4.specs.declared.Answer.{Answer}
 use Rattle.disac4.specs.declared.Answer.the-variants.{Reported, Declined}
 use Rattle.disac4.specs.declared.Status.{Status}
@@ -26,8 +26,12 @@ pub as-numbers : (o : Outcome) (r : Answer) (out : List ℕ) (after : Lent) → 
     → GivesNumbers o out after
 as-numbers o r out after e g = record {
   numbers = e ∙ ap answerNumbers (g .answer);
-  gives = subst (λ (a : Answer). Gives o a after) (g .answer) g;
+  cells = g .cells;
 }
+
+-- and back
+with-answer : (o : Outcome) (out : List ℕ) (after : Lent) → GivesNumbers o out after → Gives o (o .answer) after
+with-answer o out after g = record { answer = refl; cells = g .cells }
 
 -- ---- the calls for C
 
@@ -57,7 +61,7 @@ module _ {A S : Type 0} {numbers : A → List ℕ} {success : S → A} {decline 
       }
 
 -- so those of any run
-run-numbers : {Fitting : Type 0} {c : Call} {after : Lent} (a : Answer) → RunTells Fitting c (record { answer = a; left = after })
+run-numbers : {Fitting : Type 0} {c : Call} {after : Lent} (a : Answer) → RunTells Fitting c (outcome a after)
     → RunNumbers (answerNumbers a) Fitting c after
 unfolding answerNumbers
 run-numbers (Reported r) tells =
@@ -67,7 +71,7 @@ run-numbers (Declined d) tells = decline-tells (λ r. refl) (λ d. refl) d (tell
 -- of the turn run
 pub turn-numbers : (b ts : List ℕ) (l : Lent) (out : List ℕ) (after : Lent) → GivesNumbers (runOf (turnRun b ts) l) out after
     → let c = turnCall b ts l in RunNumbers out (PlanAndBuffersFit c × TurnsFit c) c after
-turn-numbers b ts l out after g = rw (g .numbers) (run-numbers _ (turn-run-tells b ts l _ after (g .gives)))
+turn-numbers b ts l out after g = rw (g .numbers) (run-numbers _ (turn-run-tells b ts l _ after (with-answer _ out after g)))
 
 -- a status other than open has the number of closed or of bare, not that of open
 ended-number : (s : Status) → (s ≡ Open → ⊥)
@@ -82,7 +86,7 @@ pub round-numbers : (b : List ℕ) (l : Lent) (out : List ℕ) (after : Lent) �
 unfolding answerNumbers
 round-numbers b l out after g =
     rw (g .numbers)
-    (let run = run-numbers _ (round-run-tells b l _ after (g .gives)) in record {
+    (let run = run-numbers _ (round-run-tells b l _ after (with-answer _ out after g)) in record {
       run = run;
       closes = λ z. let told = run .zero-told z in round-ends b l after (told .0) (told .1) .0;
       ended = λ z.

@@ -3,15 +3,13 @@ use Prim.Native.Nat.{ℕ, _/_, _<_, _≤_}
 use mathlib.Core.Bool.{true, false, _&&_}
 use mathlib.Core.List.{List, []}
 use mathlib.Core.Logic.{_↔_}
-use mathlib.Core.Option.{none, some}
 use mathlib.Core.Path.{_≡_}
 use lib.ListN.{length, getD}
 use Rattle.format.specs.Limits.{maxWorkers, maxVariables, maxLabels, maxConstraints}
 use Rattle.base.specs.Choice.{allOf}
 use Rattle.base.specs.Row.{bit}
 use Rattle.disac4.specs.Demands.{Demand2, Demand3}
-use Rattle.disac4.specs.Need.{workNeed, listNeed}
-use Rattle.disac4.specs.Outcome.{Lent, Outcome, bufferChecks, Run, turnRun, roundRun, Written}
+use Rattle.disac4.specs.Outcome.{Lent, Outcome, LongEnough, TooShort, Run, turnRun, roundRun, Written}
 use Rattle.disac4.specs.Report.{final, reportOf}
 use Rattle.disac4.specs.System.{System, boundOf, systemAt}
 use Rattle.disac4.specs.Turn.{allowed, turnAt, turnListFits}
@@ -22,11 +20,10 @@ use Rattle.network.specs.Consistency.{Within, Largest}
 use Rattle.network.specs.Network.{Network, Domains, loaded}
 use Rattle.plan.specs.Answer.{countsOf}
 use Rattle.plan.specs.Decode.{decode, accepted, declined, planOf}
-use Rattle.faults.specs.CheckList.{firstFault}
 use Rattle.faults.specs.Fault.{numberOf, decline}
 use Rattle.faults.specs.declared.Decline.{Decline}
 use Rattle.faults.specs.declared.Fault.{Fault}
-use Rattle.faults.specs.declared.Fault.the-variants.{ShortWork, ShortLists, BadTurnList, BadTurn}
+use Rattle.faults.specs.declared.Fault.the-variants.{BadTurnList, BadTurn}
 use Rattle.plan.specs.declared.Counts.{Counts}
 
 -- ---- the plan check
@@ -77,28 +74,12 @@ roundCall b l = record { run = roundRun b; turnList = []; before = l; most = 10 
 abbrev pub system : Call → System
 system c = systemAt (c .run .plan)
 
--- ---- the lent buffers
-
--- the buffer that is too short, and its fault
-pub data ShortBuffer (l : Lent) (f : Fault) : Type 0 where
-  -- 9
-  few-work-cells : length (l .work) < workNeed → f ≡ ShortWork → ShortBuffer l f
-  -- 10
-  few-list-cells : workNeed ≤ length (l .work) → length (l .lists) < listNeed → f ≡ ShortLists → ShortBuffer l f
-
--- what the checks of the buffers find
-pub record BuffersTell (l : Lent) : Type 0 where
-  -- nothing exactly if there are at least 24,576 work cells and 32 list cells
-  pub pass : (firstFault (bufferChecks l) ≡ none) ↔ ((workNeed ≤ length (l .work)) × (listNeed ≤ length (l .lists)))
-  -- otherwise the fault of the first that is too short
-  pub fail : (f : Fault) → (firstFault (bufferChecks l) ≡ some f) ↔ ShortBuffer l f
-
 -- ---- when a run reports
 
 -- no fault in the plan and the buffers of a run
 pub record PlanAndBuffersFit (c : Call) : Type 0 where
-  -- neither 9 nor 10: the buffers pass their checks (`BuffersTell`)
-  pub buffers : firstFault (c .run .checks (c .before)) ≡ none
+  -- not 9: at least 24,576 work cells; not 10: at least 32 list cells
+  pub buffers : LongEnough (c .run .buffers) (c .before)
   -- none of 1 to 8: the plan is accepted
   pub accepts : decode (c .run .plan) ≡ accepted (planOf (c .run .plan))
 
@@ -114,12 +95,12 @@ pub record TurnsFit (c : Call) : Type 0 where
 -- the fault that comes first in document 01's order, and its place
 pub data FirstFault (c : Call) (d : Decline) : Type 0 where
   -- 9 or 10: a buffer is too short, and none before it is
-  short-buffer : (f : Fault) → firstFault (c .run .checks (c .before)) ≡ some f → d ≡ decline f 0 → FirstFault c d
+  short-buffer : (f : Fault) → TooShort (c .run .buffers) (c .before) f → d ≡ decline f 0 → FirstFault c d
   -- 11
-  bad-list : firstFault (c .run .checks (c .before)) ≡ none → turnListFits (c .turnList) ≡ false → d ≡ decline BadTurnList 0
+  bad-list : LongEnough (c .run .buffers) (c .before) → turnListFits (c .turnList) ≡ false → d ≡ decline BadTurnList 0
       → FirstFault c d
   -- 1 to 8: the plan's first
-  bad-plan : firstFault (c .run .checks (c .before)) ≡ none → turnListFits (c .turnList) ≡ true → decode (c .run .plan) ≡ declined d
+  bad-plan : LongEnough (c .run .buffers) (c .before) → turnListFits (c .turnList) ≡ true → decode (c .run .plan) ≡ declined d
       → FirstFault c d
   -- 12: turn i is not allowed, and all before it are
   bad-turn : PlanAndBuffersFit c → turnListFits (c .turnList) ≡ true

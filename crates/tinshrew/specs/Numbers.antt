@@ -6,7 +6,7 @@ use mathlib.Core.Logic.{_↔_, _⊎_}
 use mathlib.Core.Path.{_≡_}
 use lib.ListN.{getD}
 use Rattle.disac4.specs.Demands.{RoundCloses}
-use Rattle.disac4.specs.Outcome.{Lent, Outcome, Gives}
+use Rattle.disac4.specs.Outcome.{Lent, Outcome}
 use Rattle.disac4.specs.System.{systemAt}
 use Rattle.disac4.specs.declared.Answer.the-variants.{Reported, Declined}
 use Rattle.disac4.specs.declared.Status.the-variants.{Open, Closed, Bare}
@@ -19,7 +19,7 @@ use Rattle.tinshrew.specs.Conclusions.{AcceptedPlan, DeclinedPlan, Call,
 -- `Gives`, with the answer as its numbers
 pub record GivesNumbers (o : Outcome) (out : List ℕ) (after : Lent) : Type 0 where
   pub numbers : out ≡ answerNumbers (o .answer)
-  pub gives : Gives o (o .answer) after
+  pub cells : after ≡ o .left
 
 -- what the numbers of an answer tell. `numbers` writes a success and a decline; `Fitting` is that nothing is at fault, and `Told` and
 -- `Refused` are what follows from each

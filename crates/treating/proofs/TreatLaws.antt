@@ -21,11 +21,11 @@ use Rattle.plan.specs.Network.{pairAllowed, shareConstraint, networkOf}
 use Rattle.plan.specs.Plan.{sizeOf}
 use Rattle.index.proofs.Linked.{supports-allowed}
 use Rattle.rows.specs.Permits.{Loaded}
-use Rattle.cells.specs.Layout.{WORKERS, WORK, DOMAIN, COUNTERS, HEAD, TAIL, LABELROOM}
+use Rattle.cells.specs.Layout.{WORKERS, WORK, DOMAIN, COUNTERS, HEAD, TAIL, LABELROOM, LISTED}
 use Rattle.cells.specs.Queues.{deleteM}
 use Rattle.cells.specs.Memory.{Mem, store}
 use Rattle.treating.specs.Treat.{SupportRow, loseM, touchM, touchVariableM, touchVariablesM, hasWork, HeadLoaded, treatM}
-use Rattle.cells.specs.View.{LISTED, inDomain, counterRow, labelOf}
+use Rattle.cells.specs.View.{inDomain, counterRow, labelOf}
 
 -- ---- a count goes down
 
@@ -71,10 +71,10 @@ module _ (sys : System) (i y w x v : ℕ) (m : Mem) where
 -- whether a label had the treated one as a support, and its domain cell: one test on their sum tells both
 module _ (sys : System) (i y w x v t d : ℕ) (m : Mem) (cell : d ≡ m DOMAIN x v) (small : d < 65536)
     (odd : isOdd t ≡ sys .net .allows x v y w) where
-  pub sum-touched : (n : Mem) → t % 2 + d ≡ 65536 → n ≡ loseM i x v y m → n ≡ touchM sys i y w x v m
+  pub sum-touched : (n : Mem) → t % 2 + d ≡ LISTED + 1 → n ≡ loseM i x v y m → n ≡ touchM sys i y w x v m
   sum-touched n e = touched sys i y w x v m n (omega arith) (sym odd ∙ eq-eqb (t % 2) 1 (omega arith))
 
-  pub sum-passed : (t % 2 + d ≡ 65536 → ⊥) → m ≡ touchM sys i y w x v m
+  pub sum-passed : (t % 2 + d ≡ LISTED + 1 → ⊥) → m ≡ touchM sys i y w x v m
   sum-passed e =
       ⊎-elim (λ p. not-listed sys i y w x v m (λ l. e (omega (arith, eqb-true (t % 2) 1 p))))
       (λ p. not-allowed sys i y w x v m (sym odd ∙ p)) (decided (isOdd t))

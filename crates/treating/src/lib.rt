@@ -1,5 +1,6 @@
 // Treating a label: which labels lose it as a support, and which of them are deleted.
 use cells::layout;
+use cells::layout::LISTED;
 use cells::layout::VALUEROOM;
 use cells::queues;
 use index::parts;
@@ -34,14 +35,14 @@ fn lose(cells: &mut [u16], i: usize, x: usize, v: usize, row: usize)
     }
 }
 
-// Label v of x, if it had the treated one as a support and is in its domain. Its bit and its domain cell sum to 65,536
-// only then: one test, since two that go either way would cost more.
+// Label v of x, if it had the treated one as a support and is in its domain. Its bit and its domain cell sum to one more
+// than LISTED only then: one test, since two that go either way would cost more.
 fn touch(cells: &mut [u16], i: usize, x: usize, v: usize, supported: usize, row: usize)
     requires { ⌜ (workNeed ≤ length (now cells)) × (i < maxWorkers) × (x < maxVariables) × (v < VALUEROOM) × (row ≤ COUNTERMAX) ⌝ }
     ensures { λ _. ⌜ ((sys : System) (y w : ℕ) → bit supported v ≡ sys .net .allows x v y w → row ≡ counterRow (memOf (now (cells .entry))) x y → memOf (now (cells .exit)) ≡ touchM sys i y w x v (memOf (now (cells .entry)))) ⌝ }
 {
     let listed = layout::get(cells, layout::DOMAIN, x, v);
-    if (supported >> v) % 2 + listed == 65536 {
+    if (supported >> v) % 2 + listed == LISTED + 1 {
         lose(cells, i, x, v, row);
     }
 }

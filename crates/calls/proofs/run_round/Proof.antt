@@ -46,9 +46,9 @@ play-until-closed-requires : tie.Need-play-until-closed-requires
 play-until-closed-requires c κs =
     let accepted : tie.After-f = search in
     let passes = turn-passed _ _ _ (nothing accepted) in (
-      passes .2,
-      passes .0,
       passes .1,
+      passes .0 .0,
+      passes .0 .1 .0,
       workers accepted,
     )
 

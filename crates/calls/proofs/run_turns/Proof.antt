@@ -42,11 +42,11 @@ play-list-requires : tie.Need-play-list-requires
 play-list-requires c κs =
     let accepted : tie.After-f = search in
     let passes = turn-passed _ _ _ (nothing accepted) in (
-      passes .2,
-      passes .0,
       passes .1,
+      passes .0 .0,
+      passes .0 .1 .0,
       workers accepted,
-      rw (workers accepted) (passes .3),
+      rw (workers accepted) (passes .2),
     )
 
 same-length : tie.Need-same-length

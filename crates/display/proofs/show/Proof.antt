@@ -3,6 +3,7 @@ use Prim.Native.Nat.{_≤_}
 use native.Mathlib.Omega.{arith}
 use denote.Ref.{now}
 use lib.ListN.{length}
+use Rattle.text.specs.Printed.{textRoom}
 use Rattle.disac4.specs.Need.{workNeed, listNeed}
 use Rattle.base.specs.Bytes.{byteAt}
 use Rattle.display.proofs.Fits.{shown-fits}
@@ -14,7 +15,7 @@ use Rattle.display.proofs.show.Tie as tie
 
 -- the text has at most 4,096 bytes: both inputs are slices, and the plan is of bytes
 fits : (k : tie.After-shared-slice-known2) → let a = k .before .before .args in
-    length (shown (now (a .plan)) (now (a .turns)) (a .rounds)) ≤ 4096
+    length (shown (now (a .plan)) (now (a .turns)) (a .rounds)) ≤ textRoom
 unfolding byteAt
 fits k =
     let a = k .before .before .args in

@@ -10,8 +10,7 @@ use Rattle.index.proofs.Kept.{ready-kept}
 use Rattle.index.proofs.Labels.{located, label-small}
 use Rattle.loading.proofs.LoadLaws.{label-deleted, label-kept}
 use Rattle.cells.proofs.Ranges.{may-put}
-use Rattle.cells.specs.Layout.{DOMAIN}
-use Rattle.cells.specs.View.{LISTED}
+use Rattle.cells.specs.Layout.{DOMAIN, LISTED}
 use Rattle.loading.proofs.list_label.Statement.{statement}
 use Rattle.loading.proofs.list_label.Tie as tie
 

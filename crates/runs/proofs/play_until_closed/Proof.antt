@@ -2,6 +2,7 @@
 use borrow.Author.Needs.{needs}
 use mathlib.Core.Path.{_∙_}
 use native.Mathlib.Omega.{arith}
+use Rattle.disac4.specs.Outcome.{played}
 use Rattle.refinement.proofs.Underway.{goes-after}
 use Rattle.runs.proofs.Runs.{begun, ends}
 use Rattle.runs.proofs.play_until_closed.Statement.{statement}
@@ -33,6 +34,7 @@ same-length-2 : tie.Need-same-length-2
 same-length-2 c = search needs
 
 returns : tie.Need-returns
+unfolding played
 returns c =
     let finished : tie.After-finish = search in
     let played : tie.After-play-rounds = search in

@@ -15,6 +15,9 @@ shr-if1 c = search needs
 add-if1 : tie.Need-add-if1
 add-if1 c = omega (arith, c .get .ensures .1)
 
+add-if1-2 : tie.Need-add-if1-2
+add-if1-2 c = omega arith
+
 lose-requires : tie.Need-lose-requires
 lose-requires c κs = search needs
 
@@ -49,6 +52,7 @@ touch-spec =
     get-requires
     shr-if1
     add-if1
+    add-if1-2
     lose-requires
     same-length
     returns
