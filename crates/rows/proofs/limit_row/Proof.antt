@@ -1,4 +1,4 @@
--- `pairs::limit_row` gives the row of the values that a limit permits. Invariant: the row holds those from w on,
+-- `rows::limit_row` gives the row of the values that a limit permits. Invariant: the row holds those from w on,
 -- counted from there; the measure is w. Assumes nothing.
 use Prim.Native.Nat.{_+_, _-_, _*_}
 use denote.Ref.{now}

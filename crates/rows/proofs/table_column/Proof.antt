@@ -1,4 +1,4 @@
--- `pairs::table_column` gives the row of the values whose rows in a table hold a value. Invariant: the row holds
+-- `rows::table_column` gives the row of the values whose rows in a table hold a value. Invariant: the row holds
 -- those from w on, counted from there; the measure is w. Assumes nothing.
 use Prim.Native.Nat.{ℕ, _+_, _-_, _*_, _%_}
 use denote.Ref.{now}

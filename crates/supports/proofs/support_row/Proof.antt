@@ -1,4 +1,4 @@
--- `pairs::support_row` gives the row of supports. Invariant: the row holds the values that the constraints so far
+-- `supports::support_row` gives the row of supports. Invariant: the row holds the values that the constraints so far
 -- permit; the measure is the next constraint, since a chain goes down. Assumes nothing.
 use Prim.Native.Nat.{ℕ, suc, _+_, _-_, _<_, _≤_}
 use borrow.Author.Needs.{needs}

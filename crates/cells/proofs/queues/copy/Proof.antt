@@ -1,4 +1,4 @@
--- `cells::lists::copy` copies labels of a log to a work list. The loop's invariant: as many as were passed are copied. The
+-- `cells::queues::copy` copies labels of a log to a work list. The loop's invariant: as many as were passed are copied. The
 -- measure is what is left. Assumes nothing.
 use Prim.Native.Nat.{ℕ, _-_}
 use mathlib.Core.Path.{refl, _∙_, ap}

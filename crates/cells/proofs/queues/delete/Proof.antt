@@ -1,4 +1,4 @@
--- `cells::lists::delete` takes a label out of its domain, to the end of the log and of the work list. Assumes nothing.
+-- `cells::queues::delete` takes a label out of its domain, to the end of the log and of the work list. Assumes nothing.
 use mathlib.Core.Path.{refl}
 use native.Mathlib.Omega.{arith}
 use borrow.Author.Needs.{needs}

@@ -1,4 +1,4 @@
--- `cells::lists::push` puts a number at the end of a row's list. Assumes nothing.
+-- `cells::queues::push` puts a number at the end of a row's list. Assumes nothing.
 use mathlib.Core.Path.{refl}
 use native.Mathlib.Omega.{arith}
 use borrow.Author.Needs.{needs}

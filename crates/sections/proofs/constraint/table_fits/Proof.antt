@@ -1,4 +1,4 @@
--- `relations::table_fits` says whether each row of a table fits the second variable's count. Assumes nothing.
+-- `sections::constraint::table_fits` says whether each row of a table fits the second variable's count. Assumes nothing.
 use borrow.Author.Tests.{eq-eqb, ne-eqb}
 use native.Mathlib.Omega.{arith}
 use Rattle.plan.proofs.InOrder.{ordered}
