@@ -115,11 +115,11 @@ returns : tie.Need-returns Inv-loop μ-loop
 unfolding networkOf
 returns c =
     let at-loop = c .before in
-    let at-size : tie.After-size Inv-loop μ-loop = search in
+    let size-read : tie.After-size Inv-loop μ-loop = search in
     let start : tie.Start Inv-loop μ-loop = search in
     let b = now (start .args .plan) in
-    let e : at-loop .loop .v ≡ at-size .size .result = omega (arith, c .loop-test .left, at-loop .loop .inv .0) in
-    let all = e ∙ at-size .size .ensures .0 in (
+    let e : at-loop .loop .v ≡ size-read .size .result = omega (arith, c .loop-test .left, at-loop .loop .inv .0) in
+    let all = e ∙ size-read .size .ensures .0 in (
       rw all at (at-loop .loop .inv .1),
       gathered-all (planOf b) (start .args .x) (start .args .y) (at-loop .loop .others)
           (size-low b (start .pre .0 .sound) (start .args .x) (start .args .y) (start .pre .1)) (rw all at (at-loop .loop .inv .2)),

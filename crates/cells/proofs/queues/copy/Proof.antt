@@ -37,12 +37,12 @@ loop-less c = omega arith
 
 loop-again : tie.Need-loop-again Inv-loop μ-loop
 loop-again c =
-    let at-push = c .before .before in
-    let at-get = at-push .before .before in
-    let at-loop = at-get .before .before .before in
-    done-more (at-loop .loop .inv) (omega arith) (at-push .push .kept .0)
-    (at-push .push .ensures
-    ∙ ap (λ (l : ℕ). pushM WORK TAIL (at-loop .before .before .args .i) l (memOf (at-loop .loop .cells))) (at-get .get .ensures .0))
+    let label-pushed = c .before .before in
+    let label-read = label-pushed .before .before in
+    let at-loop = label-read .before .before .before in
+    done-more (at-loop .loop .inv) (omega arith) (label-pushed .push .kept .0)
+    (label-pushed .push .ensures
+    ∙ ap (λ (l : ℕ). pushM WORK TAIL (at-loop .before .before .args .i) l (memOf (at-loop .loop .cells))) (label-read .get .ensures .0))
 
 same-length : tie.Need-same-length Inv-loop μ-loop
 same-length c = omega arith
