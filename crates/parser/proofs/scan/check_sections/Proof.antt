@@ -9,7 +9,8 @@ use native.Mathlib.Omega.{arith}
 use lib.ListN.{length, length-set}
 use Rattle.sections.specs.Known.{startCount}
 use Rattle.format.specs.Format.{sectionStart, sectionCount}
-use Rattle.parser.proofs.Scanned.{variables-known, next-within, next-start, passed-more, fault-answer, end-answer, verdict-passes, verdict-fails}
+use Rattle.parser.proofs.Scanned.{variables-known, next-within, next-start, passed-more, fault-answer, end-answer}
+use Rattle.faults.proofs.Checks.{verdict-passes, verdict-fails}
 use Rattle.faults.specs.CheckList.{firstFault}
 use Rattle.plan.specs.Check.{sectionChecks}
 use Rattle.plan.specs.Decode.{planEnd}
