@@ -6,7 +6,7 @@ use mathlib.Core.Path.{_≡_}
 use borrow.Author.Tests.{lt-ltb, le-ltb}
 use Rattle.disac4.specs.Outcome.{Lent, bufferChecks, inputFault, runFault, turnRun}
 use Rattle.inputs.specs.Bad.{badTurn}
-use Rattle.parser.proofs.Scanned.{verdict-passes, verdict-fails}
+use Rattle.faults.proofs.Checks.{verdict-passes, verdict-fails}
 use Rattle.faults.specs.CheckList.{firstFault, verdictOf}
 use Rattle.faults.specs.Fault.{decline}
 use Rattle.faults.specs.declared.Fault.{Fault}

@@ -25,7 +25,7 @@ use Rattle.index.proofs.Linked.{linked-inside}
 use Rattle.index.proofs.Places.{few-values}
 use Rattle.counting.specs.Count.{FirstRows, supportRow, countPairM, countAgainstM, countBothM}
 
--- a variable has at most 16 values, so a row of them fits a cell
+-- a variable has no more values than there is room for, so a row of them fits a cell
 module _ (b : List ℕ) (sound : planFault b ≡ none) (x y : ℕ) (e : shareConstraint (planOf b) x y ≡ true) where
   pub size-low : networkOf (planOf b) .size y ≤ VALUEROOM
   unfolding networkOf

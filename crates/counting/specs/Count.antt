@@ -16,7 +16,7 @@ use Rattle.cells.specs.View.{counterRow}
 abbrev pub supportRow : Network → ℕ → ℕ → ℕ → ℕ
 supportRow net x y v = rowOf (net .size y) (supports net x v y)
 
--- sixteen rows, of which the first `n` are those that `f` gives
+-- a row for each value there is room for, of which the first `n` are those that `f` gives
 pub record FirstRows (f : ℕ → ℕ) (n : ℕ) (rows : List ℕ) : Type 0 where
   pub long : length rows ≡ VALUEROOM
   pub each : (v : ℕ) → v < n → getD rows v 0 ≡ f v

@@ -29,7 +29,7 @@ abbrev pub faultAt : ℕ → Option Fault → Option Decline
 faultAt at none = none
 faultAt at (some f) = some (decline f at)
 
--- what checks find, as the functions that make them answer it: the fault without its place
+-- what the checks find, as a verdict: the fault without its place
 abbrev pub verdictOf : Option Fault → Verdict
 verdictOf none = Passes
 verdictOf (some f) = Fails f

@@ -30,7 +30,7 @@ pub enum Fault {
     BadTurn,
 }
 
-// What the checks of one section find.
+// What a list of checks finds.
 pub enum Verdict {
     Passes,
     Fails(Fault),

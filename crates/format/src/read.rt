@@ -1,4 +1,5 @@
-// The parts of the head, and those of a variable, read by the place of its section.
+// The parts of the head, and those of a variable, read by the place of its section. Document 01 says kitchen for worker,
+// slot for variable, rule for constraint and dish for value.
 use reader::byte_at;
 use reader::word_at;
 ghost use mathlib.Core.Path.{_≡_};
@@ -35,14 +36,14 @@ pub fn constraint_count(plan: &[u8]) -> usize
     byte_at(plan, 5)
 }
 
-// How many sections the head calls for.
+// How many sections the head calls for: one, and as many as two of its bytes say, so fewer than 512.
 pub fn section_count(plan: &[u8]) -> usize
     ensures { λ r. ⌜ (r ≡ sectionCount (now (plan .entry))) × (r < 512) ⌝ }
 {
     1 + variable_count(plan) + constraint_count(plan)
 }
 
-// A slot's owning kitchen.
+// The worker that owns a variable.
 pub fn owner(plan: &[u8], at: usize) -> usize
     requires { ⌜ at ≤ length (now plan) ⌝ }
     ensures { λ r. ⌜ (r ≡ ownerAt (now (plan .entry)) at) × (r < 256) ⌝ }
@@ -50,7 +51,7 @@ pub fn owner(plan: &[u8], at: usize) -> usize
     byte_at(plan, at + 2)
 }
 
-// A slot's number of dishes.
+// A variable's number of values.
 pub fn size(plan: &[u8], at: usize) -> usize
     requires { ⌜ at ≤ length (now plan) ⌝ }
     ensures { λ r. ⌜ (r ≡ sizeAt (now (plan .entry)) at) × (r < 256) ⌝ }
@@ -58,7 +59,7 @@ pub fn size(plan: &[u8], at: usize) -> usize
     byte_at(plan, at + 2 + 1)
 }
 
-// The code of a slot's dish.
+// The code of a variable's value.
 pub fn code(plan: &[u8], at: usize, v: usize) -> usize
     requires { ⌜ (at ≤ length (now plan)) × (v < 256) ⌝ }
     ensures { λ r. ⌜ (r ≡ codeAt (now (plan .entry)) at v) × (r < 65536) ⌝ }
@@ -66,7 +67,7 @@ pub fn code(plan: &[u8], at: usize, v: usize) -> usize
     word_at(plan, at + 4 + 4 * v)
 }
 
-// The sodium figure of a slot's dish.
+// The sodium figure of a variable's value.
 pub fn figure(plan: &[u8], at: usize, v: usize) -> usize
     requires { ⌜ (at ≤ length (now plan)) × (v < 256) ⌝ }
     ensures { λ r. ⌜ (r ≡ figureAt (now (plan .entry)) at v) × (r < 65536) ⌝ }

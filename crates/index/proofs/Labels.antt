@@ -45,7 +45,7 @@ pub located : (b cells : List ℕ) → Ready b cells → Located b cells
 located b cells r = record { sound = r .sound; places = r .index .places; long = r .long }
 
 module _ (b : List ℕ) (sound : planFault b ≡ none) where
-  -- a label is one of 32 variables and of 16 values
+  -- a label's variable and value are within the room for them
   pub label-small : (x v : ℕ) → Loaded b x v → (x < maxVariables) × (v < VALUEROOM)
   label-small x v l =
       omega (arith, few-sections b sound, few-values b sound x (l .variable), size-read b x (l .variable))

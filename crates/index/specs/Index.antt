@@ -65,7 +65,7 @@ pub record Ready (b cells : List ℕ) : Type 0 where
   pub index : Indexed b (memOf cells)
   pub long : workNeed ≤ length cells
 
--- the index gives each two linked variables a number of their own, from 1 to 128
+-- the index gives each two linked variables a number of their own, from 1 to the most pairs there can be
 pub record Paired (sys : System) (m : Mem) : Type 0 where
   pub low : (x y : ℕ) → sys .net .linked x y ≡ true → 0 < m HEADS x y
   pub high : (x y : ℕ) → sys .net .linked x y ≡ true → m HEADS x y ≤ maxPairs

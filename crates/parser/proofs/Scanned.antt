@@ -2,8 +2,8 @@
 use Prim.Native.Nat.{ℕ, _+_, _<_, _≤_}
 use mathlib.Core.Logic.{⊎-elim}
 use mathlib.Core.List.{List}
-use mathlib.Core.Option.{Option, none, some}
-use mathlib.Core.Path.{_≡_, refl, sym, _∙_, ap}
+use mathlib.Core.Option.{none, some}
+use mathlib.Core.Path.{_≡_, sym, _∙_, ap}
 use borrow.Author.Tests.{leb-true, le-leb, ne-eqb}
 use native.Mathlib.Numerals.{add-one}
 use native.Mathlib.Omega.{arith}
@@ -16,7 +16,7 @@ use Rattle.format.specs.Limits.{maxVariables, maxValues}
 use Rattle.plan.proofs.SectionSays.{variable-says}
 use Rattle.plan.proofs.Head.{head-fits}
 use Rattle.plan.proofs.Sections.{passed-before, start-within}
-use Rattle.faults.specs.CheckList.{firstFault, faultAt, verdictOf}
+use Rattle.faults.specs.CheckList.{firstFault, faultAt}
 use Rattle.plan.specs.Check.{sectionChecks, sectionFault}
 use Rattle.plan.specs.Decode.{trailingFault, sectionsFault}
 use Rattle.faults.specs.Fault.{decline}
@@ -25,8 +25,6 @@ use Rattle.parser.specs.Known.{PassedBefore}
 use Rattle.plan.specs.Answer.{checkOf}
 use Rattle.plan.specs.declared.Checked.the-variants.{Declined}
 use Rattle.faults.specs.declared.Fault.{Fault}
-use Rattle.faults.specs.declared.Verdict.{Verdict}
-use Rattle.faults.specs.declared.Verdict.the-variants.{Passes, Fails}
 
 -- the section behind section k starts where that one ends
 pub next-start : (b : List ℕ) (k at next : ℕ) → at ≡ sectionStart b k → next ≡ behind b at → next ≡ sectionStart b (k + 1)
@@ -92,12 +90,3 @@ module _ (b starts : List ℕ) (k : ℕ) (known : PassedBefore b starts k) where
   pub end-answer : k ≡ sectionCount b → checkOf b (trailingFault b) ≡ checkOf b (sectionsFault b)
   unfolding sectionsFault
   end-answer e = rw (← e, known .passed)
-
--- a section's answer
-pub verdict-passes : (o : Option Fault) (v : Verdict) → v ≡ verdictOf o → v ≡ Passes → o ≡ none
-verdict-passes none v p q = refl
-verdict-passes (some f) v p q = let z : _≡_ {A = ℕ} 0 1 = cc in absurd (omega arith)
-
-pub verdict-fails : (o : Option Fault) (v : Verdict) (f : Fault) → v ≡ verdictOf o → v ≡ Fails f → o ≡ some f
-verdict-fails none v f p q = let z : _≡_ {A = ℕ} 0 1 = cc in absurd (omega arith)
-verdict-fails (some g) v f p q = let e : g ≡ f = cc in ap {B = Option Fault} some e

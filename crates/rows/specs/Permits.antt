@@ -1,4 +1,5 @@
--- What a constraint's bytes permit, which two variables it is over, and which values can be asked for.
+-- What a constraint's bytes permit, which two variables it is over, which values can be asked for (`Loaded`), and where a
+-- section starts (`Placed`).
 use Prim.Native.Nat.{ℕ, _<_, _≤_}
 use mathlib.Core.Bool.{Bool, cond}
 use mathlib.Core.List.{List}

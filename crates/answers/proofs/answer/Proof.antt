@@ -48,12 +48,12 @@ same-length-4 c = search needs
 
 returns-4 : tie.Need-returns-4
 returns-4 c =
-    let at-same-count = c .before in
-    let at-list-counter = at-same-count .before in
-    let at-held-poll = at-list-counter .before .before .before in
+    let counts-compared = c .before in
+    let lists-read = counts-compared .before in
+    let poll-read = lists-read .before .before .before in
     idle _ _ (answer-idle _ _ (λ may.
-    counts-differ _ _ (at-list-counter .list-counter .ensures) (at-held-poll .held-poll .ensures)
-    (at-same-count .same-count .ensures) (c .if4 .taken) (may .wanted)))
+    counts-differ _ _ (lists-read .list-counter .ensures) (poll-read .held-poll .ensures)
+    (counts-compared .same-count .ensures) (c .if4 .taken) (may .wanted)))
 
 get-requires-2 : tie.Need-get-requires-2
 get-requires-2 c κs = may-get _ _ _ refl _ (omega arith)
@@ -72,28 +72,28 @@ same-length-6 c = search needs
 
 returns-6 : tie.Need-returns-6
 returns-6 c =
-    let at-put-reply = c .before .before in
-    let at-if5 = at-put-reply .before .before .before in
-    let at-get2 = at-if5 .before in
-    let at-if4 = at-get2 .before .before in
-    let at-same-count = at-if4 .before in
-    let at-list-counter = at-same-count .before in
-    let at-held-poll = at-list-counter .before .before .before in
-    let at-if3 = at-held-poll .before .before in
-    let at-both-empty = at-if3 .before in
-    let at-if2 = at-both-empty .before .before in
-    let at-if1 = at-if2 .before in
-    let at-get = at-if1 .before in
+    let reply-put = c .before .before in
+    let out-fits = reply-put .before .before .before in
+    let outs-read = out-fits .before in
+    let counts-match = outs-read .before .before in
+    let counts-compared = counts-match .before in
+    let lists-read = counts-compared .before in
+    let poll-read = lists-read .before .before .before in
+    let both-are-empty = poll-read .before .before in
+    let lists-tested = both-are-empty .before in
+    let known-poll = lists-tested .before .before in
+    let some-held = known-poll .before in
+    let held-read = some-held .before in
     acts _ _ _ _
     (answer-goes _ _ (record {
-      holds = λ e. at-if1 .if1 .left (cc);
-      known = omega (arith, at-get .get .ensures .0, at-if2 .if2 .left);
-      empty = sym (at-both-empty .both-empty .ensures) ∙ not-false _ (at-if3 .if3 .left);
-      wanted = counts-agree _ _ (at-list-counter .list-counter .ensures) (at-held-poll .held-poll .ensures)
-          (at-same-count .same-count .ensures) (at-if4 .if4 .left);
-      out-room = omega (arith, at-get2 .get2 .ensures .0);
+      holds = λ e. some-held .if1 .left (cc);
+      known = omega (arith, held-read .get .ensures .0, known-poll .if2 .left);
+      empty = sym (lists-tested .both-empty .ensures) ∙ not-false _ (both-are-empty .if3 .left);
+      wanted = counts-agree _ _ (lists-read .list-counter .ensures) (poll-read .held-poll .ensures)
+          (counts-compared .same-count .ensures) (counts-match .if4 .left);
+      out-room = omega (arith, outs-read .get2 .ensures .0);
     }))
-    (answered-from _ _ (at-held-poll .held-poll .ensures) (at-get2 .get2 .ensures .0) (at-put-reply .put-reply .ensures))
+    (answered-from _ _ (poll-read .held-poll .ensures) (outs-read .get2 .ensures .0) (reply-put .put-reply .ensures))
 
 pub answer-spec : {M : Type 1} → statement M
 answer-spec =

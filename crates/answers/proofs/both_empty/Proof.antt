@@ -29,10 +29,10 @@ get-requires-5 c κs = may-get _ _ _ refl _ (omega arith)
 
 returns-3 : tie.Need-returns-3
 returns-3 c =
-    let at-get4 = c .before in
-    let at-if2 = at-get4 .before in
-    let at-get3 = at-if2 .before in
-    empty-by _ _ (cc) (at-if2 .if2 .left) (at-get3 .get3 .ensures .0) (at-get4 .get4 .ensures .0) (c .get5 .ensures .0)
+    let start-read = c .before in
+    let sends-fit = start-read .before in
+    let sends-read = sends-fit .before in
+    empty-by _ _ (cc) (sends-fit .if2 .left) (sends-read .get3 .ensures .0) (start-read .get4 .ensures .0) (c .get5 .ensures .0)
 
 pub both-empty-spec : {M : Type 1} → statement M
 both-empty-spec =

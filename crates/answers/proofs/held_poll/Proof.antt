@@ -21,8 +21,8 @@ cast-t8 c = search needs
 
 returns : tie.Need-returns
 returns c =
-    let at-get = c .before in
-    held-as _ _ (at-get .get .ensures .0) (c .get2 .ensures .0)
+    let number-read = c .before in
+    held-as _ _ (number-read .get .ensures .0) (c .get2 .ensures .0)
 
 pub held-poll-spec : {M : Type 1} → statement M
 held-poll-spec = tie.close (tie.spec get-requires get-requires-2 cast-t6 cast-t8 returns)

@@ -27,12 +27,12 @@ same-length c = search needs
 
 returns : tie.Need-returns
 returns c =
-    let at-put3 : tie.After-put3 = search in
-    let at-put2 : tie.After-put2 = search in
-    let at-put : tie.After-put = search in
+    let poll-released : tie.After-put3 = search in
+    let out-counted : tie.After-put2 = search in
+    let reply-put : tie.After-put = search in
     let start : tie.Start = search in
-    answered _ _ _ _ (start .args .i) (start .args .number .0) (start .args .outs) (at-put .put .ensures)
-    (at-put2 .put2 .ensures) (at-put3 .put3 .ensures)
+    answered _ _ _ _ (start .args .i) (start .args .number .0) (start .args .outs) (reply-put .put .ensures)
+    (out-counted .put2 .ensures) (poll-released .put3 .ensures)
 
 pub put-reply-spec : {M : Type 1} → statement M
 put-reply-spec =

@@ -114,10 +114,10 @@ push-number-returns-2 : (t : ℕ) → push-number-lts.Need-returns-2 (
   push-number.Post,
 ) (push-number-at t) push-number.Post
 push-number-returns-2 t c =
-    let at-push = c .before .before in
-    let at-number = at-push .before .before .before .before in
-    let start = at-number .before .before .before .before in
-    rw (decimal-high (start .args .n) (omega arith)) (at-number .push-number .ensures then at-push .push2 .ensures)
+    let at-digit = c .before .before in
+    let at-tenth = at-digit .before .before .before .before in
+    let start = at-tenth .before .before .before .before in
+    rw (decimal-high (start .args .n) (omega arith)) (at-tenth .push-number .ensures then at-digit .push2 .ensures)
 
 pub +push-number-spec : {M : Type 1} → statement M
 +push-number-spec = close μ-push-number λ t. push-number-lts.spec (

@@ -36,10 +36,10 @@ loop-less c = omega arith
 
 loop-again : tie.Need-loop-again Inv-loop μ-loop
 loop-again c =
-    let at-push : tie.After-push Inv-loop μ-loop = search in
+    let at-byte : tie.After-push Inv-loop μ-loop = search in
     let at-loop : tie.At-loop Inv-loop μ-loop = search in
     let word = at-loop .before .before .before .args .word .now in
-    (omega arith, omega arith, then-next word (at-loop .loop .i) (omega arith) (at-loop .loop .inv .2) (at-push .push .ensures))
+    (omega arith, omega arith, then-next word (at-loop .loop .i) (omega arith) (at-loop .loop .inv .2) (at-byte .push .ensures))
 
 same-length : tie.Need-same-length Inv-loop μ-loop
 same-length c = omega arith

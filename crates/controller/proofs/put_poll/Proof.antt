@@ -20,8 +20,8 @@ same-length c = search needs
 
 returns : tie.Need-returns
 returns c =
-    let at-put = c .before .before in
-    at-put .put .ensures
+    let wanted-put = c .before .before in
+    wanted-put .put .ensures
 
 pub put-poll-spec : {M : Type 1} → statement M
 put-poll-spec = tie.close (tie.spec cast-put cast-put-2 put-requires same-length returns)

@@ -25,21 +25,21 @@ same-length c = search needs
 returns : tie.Need-returns
 returns c =
     let at-has-out = c .before in
-    let at-get2 = at-has-out .before in
-    let at-get = at-get2 .before .before in
-    λ sys e. idle _ _ (controller-read-idle _ _ _ (at-has-out .has-out .ensures) _ _ _ (at-get .get .ensures .0)
-    (at-get2 .get2 .ensures .0) (c .if1 .taken))
+    let end-read = at-has-out .before in
+    let cursor-read = end-read .before .before in
+    λ sys e. idle _ _ (controller-read-idle _ _ _ (at-has-out .has-out .ensures) _ _ _ (cursor-read .get .ensures .0)
+    (end-read .get2 .ensures .0) (c .if1 .taken))
 
 -- a message is there
 module _ (c : tie.Else1) where
-  abbrev at-get : tie.After-get
-  at-get = c .before .before .before .before
+  abbrev cursor-of : tie.After-get
+  cursor-of = c .before .before .before .before
 
-  abbrev start : tie.Start
-  start = at-get .before .before .before .before
+  abbrev start-of : tie.Start
+  start-of = cursor-of .before .before .before .before
 
-  room : (at-get .get .result < OUTROOM) × (start .args .t .lists .0 < LISTSMAX)
-  room = read-room (start .args .t) _ _ (c .before .has-out .ensures) (c .if1 .left)
+  room : (cursor-of .get .result < OUTROOM) × (start-of .args .t .lists .0 < LISTSMAX)
+  room = read-room (start-of .args .t) _ _ (c .before .has-out .ensures) (c .if1 .left)
 
 get-requires-3 : tie.Need-get-requires-3
 get-requires-3 c κs = may-get _ _ _ refl _ (omega (arith, room (c .before)))
@@ -60,15 +60,15 @@ same-length-2 c = search needs
 
 returns-2 : tie.Need-returns-2
 returns-2 c =
-    let at-put : tie.After-put = search in
-    let at-get3 : tie.After-get3 = search in
+    let cursor-moved : tie.After-put = search in
+    let message-read : tie.After-get3 = search in
     let message : tie.Else1 = search in
     let at-has-out : tie.After-has-out = search in
-    let at-get2 : tie.After-get2 = search in
-    let at-get : tie.After-get = search in
-    λ sys e. acts _ _ _ _ (controller-takes _ _ _ (at-has-out .has-out .ensures) _ _ _ (at-get .get .ensures .0)
-    (at-get2 .get2 .ensures .0) (message .if1 .left) (at-get3 .get3 .ensures .0) e)
-    (stands _ _ _ (at-put .put .ensures) (c .told .ensures))
+    let end-read : tie.After-get2 = search in
+    let cursor-read : tie.After-get = search in
+    λ sys e. acts _ _ _ _ (controller-takes _ _ _ (at-has-out .has-out .ensures) _ _ _ (cursor-read .get .ensures .0)
+    (end-read .get2 .ensures .0) (message .if1 .left) (message-read .get3 .ensures .0) e)
+    (stands _ _ _ (cursor-moved .put .ensures) (c .told .ensures))
 
 pub read-message-spec : {M : Type 1} → statement M
 read-message-spec =

@@ -22,15 +22,15 @@ linked-requires c κs =
 
 -- the test of the index says whether the two are linked, in either order
 module _ (c : tie.After-linked) where
-  abbrev s : tie.Start
-  s = c .before .before .before .before
+  abbrev start-of : tie.Start
+  start-of = c .before .before .before .before
 
   found : (t : Bool) → c .linked .result ≡ t
-      → (shareConstraint (planOf (now (s .args .plan))) (s .args .x) (s .args .y) ≡ t)
-      × (shareConstraint (planOf (now (s .args .plan))) (s .args .y) (s .args .x) ≡ t)
+      → (shareConstraint (planOf (now (start-of .args .plan))) (start-of .args .x) (start-of .args .y) ≡ t)
+      × (shareConstraint (planOf (now (start-of .args .plan))) (start-of .args .y) (start-of .args .x) ≡ t)
   found t e =
-      let p = sym (c .linked .ensures (now (s .args .plan)) (s .pre .0 .index)) ∙ e in
-      (p, sym (linked-symmetric (planOf (now (s .args .plan))) (s .args .x) (s .args .y)) ∙ p)
+      let p = sym (c .linked .ensures (now (start-of .args .plan)) (start-of .pre .0 .index)) ∙ e in
+      (p, sym (linked-symmetric (planOf (now (start-of .args .plan))) (start-of .args .x) (start-of .args .y)) ∙ p)
 
 no-rows-requires : tie.Need-no-rows-requires
 no-rows-requires c κs = tt
@@ -39,7 +39,7 @@ support-rows-requires : tie.Need-support-rows-requires
 support-rows-requires c κs =
     let n = c .before .before in
     let t = n .before in
-    (s (t .before) .pre .0, found (t .before) _ (t .if1 .taken) .0, n .no-rows .ensures)
+    (start-of (t .before) .pre .0, found (t .before) _ (t .if1 .taken) .0, n .no-rows .ensures)
 
 -- the branch in which the rows were found
 abbrev branch : tie.After-support-rows → tie.Then1
@@ -49,14 +49,14 @@ put-counts-requires : tie.Need-put-counts-requires
 put-counts-requires c κs =
     let r = c .before .before in
     let t = branch r in
-    (s (t .before) .pre .0, found (t .before) _ (t .if1 .taken) .0, r .support-rows .ensures .0)
+    (start-of (t .before) .pre .0, found (t .before) _ (t .if1 .taken) .0, r .support-rows .ensures .0)
 
 put-counts-requires-2 : tie.Need-put-counts-requires-2
 put-counts-requires-2 c κs =
     let one-put : tie.After-put-counts = search in
     let rows-read : tie.After-support-rows = search in
     let t = branch rows-read in
-    let a = s (t .before) in (
+    let a = start-of (t .before) in (
       ready-kept (now (a .args .plan)) (now (a .args .cells)) _ (a .pre .0) (one-put .put-counts .kept .1 .0) (one-put .put-counts .ensures)
           (counters-alone (pair-else (systemAt (now (a .args .plan))) (a .args .x) (a .args .y) _)),
       found (t .before) _ (t .if1 .taken) .1,
@@ -72,7 +72,7 @@ returns c =
     let both-put : tie.After-put-counts2 = search in
     let one-put : tie.After-put-counts = search in
     let t = branch (one-put .before .before .before) in
-    let a = s (t .before) .args in
+    let a = start-of (t .before) .args in
     let f = found (t .before) _ (t .if1 .taken) in
     both-linked (systemAt (now (a .plan))) (a .x) (a .y) _ _ _ (f .0) (f .1) (one-put .put-counts .ensures) (both-put .put-counts2 .ensures)
 
@@ -82,7 +82,7 @@ same-length-2 c = search needs
 returns-2 : tie.Need-returns-2
 unfolding systemOf networkOf
 returns-2 c =
-    let a = s (c .before) .args in
+    let a = start-of (c .before) .args in
     let f = found (c .before) _ (c .if1 .left) in
     both-apart (systemAt (now (a .plan))) (a .x) (a .y) _ (f .0) (f .1)
 

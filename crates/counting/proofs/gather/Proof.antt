@@ -35,28 +35,28 @@ row-if-requires c κs = omega (arith, c .before .before .before .pre .1)
 
 -- row w, and what is put into it
 module _ (c : tie.After-row-if Inv-loop μ-loop) where
-  abbrev l : tie.At-loop Inv-loop μ-loop
-  l = c .before .before .before
+  abbrev loop-of : tie.At-loop Inv-loop μ-loop
+  loop-of = c .before .before .before
 
-  abbrev s : tie.Start Inv-loop μ-loop
-  s = l .before
+  abbrev start-of : tie.Start Inv-loop μ-loop
+  start-of = loop-of .before
 
-  put : getD (l .loop .rows) (l .loop .w) 0 + c .row-if .result
-      ≡ getD (now (s .args .rows)) (l .loop .w) 0 + cond (bit (s .args .row) (l .loop .w)) (2 ^ s .args .v) 0
+  put : getD (loop-of .loop .rows) (loop-of .loop .w) 0 + c .row-if .result
+      ≡ getD (now (start-of .args .rows)) (loop-of .loop .w) 0 + cond (bit (start-of .args .row) (loop-of .loop .w)) (2 ^ start-of .args .v) 0
   put =
       omega (
         arith,
-        l .loop .inv .2 (l .loop .w) (omega arith),
-        c .row-if .ensures ∙ ap (λ (t : Bool). cond t (2 ^ s .args .v) 0) (c .before .row-holds .ensures),
+        loop-of .loop .inv .2 (loop-of .loop .w) (omega arith),
+        c .row-if .ensures ∙ ap (λ (t : Bool). cond t (2 ^ start-of .args .v) 0) (c .before .row-holds .ensures),
       )
 
-  fits : getD (l .loop .rows) (l .loop .w) 0 + c .row-if .result < 65536
+  fits : getD (loop-of .loop .rows) (loop-of .loop .w) 0 + c .row-if .result < 65536
   fits =
       omega (
         arith,
         put,
-        put-small (s .args .v) _ (bit (s .args .row) (l .loop .w)) (s .pre .2 (l .loop .w) (c .before .before .loop-test .taken)),
-        pow-mono (s .pre .1),
+        put-small (start-of .args .v) _ (bit (start-of .args .row) (loop-of .loop .w)) (start-of .pre .2 (loop-of .loop .w) (c .before .before .loop-test .taken)),
+        pow-mono (start-of .pre .1),
       )
 
 cast-rows : tie.Need-cast-rows Inv-loop μ-loop

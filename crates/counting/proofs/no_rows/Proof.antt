@@ -1,4 +1,4 @@
--- `counting::no_rows` gives sixteen zeros. Assumes nothing.
+-- `counting::no_rows` gives a zero for each value there is room for. Assumes nothing.
 use mathlib.Core.Path.{refl}
 use lib.ListN.{getD-replicate}
 use Rattle.cells.specs.Layout.{VALUEROOM}

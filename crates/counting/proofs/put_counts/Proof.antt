@@ -44,60 +44,66 @@ loop-holds c = done-none
 
 -- the value v that the loop has come to
 module _ (t : tie.In-loop Inv-loop μ-loop) where
-  abbrev l : tie.At-loop Inv-loop μ-loop
-  l = t .before
+  abbrev loop-of : tie.At-loop Inv-loop μ-loop
+  loop-of = t .before
 
   abbrev sized : tie.After-size Inv-loop μ-loop
-  sized = l .before .before .before
+  sized = loop-of .before .before .before
 
-  abbrev s : tie.Start Inv-loop μ-loop
-  s = sized .before .before .before .before
+  abbrev start-of : tie.Start Inv-loop μ-loop
+  start-of = sized .before .before .before .before
 
   -- its row
-  given : getD (now (s .args .rows)) (l .loop .v) 0
-      ≡ supportRow (networkOf (planOf (now (s .args .plan)))) (s .args .x) (s .args .y) (l .loop .v)
-  given = s .pre .2 .each (l .loop .v) (omega (arith, t .loop-test .taken, sized .size .ensures))
+  given : getD (now (start-of .args .rows)) (loop-of .loop .v) 0
+      ≡ supportRow (networkOf (planOf (now (start-of .args .plan)))) (start-of .args .x) (start-of .args .y) (loop-of .loop .v)
+  given = start-of .pre .2 .each (loop-of .loop .v) (omega (arith, t .loop-test .taken, sized .size .ensures))
 
 mul-row-count : tie.Need-mul-row-count Inv-loop μ-loop
 mul-row-count c = search needs
 
 element-copy-out-row-count : tie.Need-element-copy-out-row-count Inv-loop μ-loop
 element-copy-out-row-count c =
-    let t = c .before in omega (arith, t .loop-test .taken, sized t .size .ensures, s t .pre .2 .long)
+    let t = c .before in
+    omega (arith, t .loop-test .taken, sized t .size .ensures, start-of t .pre .2 .long)
 
 cast-row-count : tie.Need-cast-row-count Inv-loop μ-loop
 cast-row-count c =
     let t = c .before .before in
-    let a = s t .args in
-    omega (arith, supports-fit (now (a .plan)) (s t .pre .0 .sound) (a .x) (a .y) (s t .pre .1) (l t .loop .v) _ (given t))
+    let s = start-of t in
+    let a = s .args in
+    omega (arith, supports-fit (now (a .plan)) (s .pre .0 .sound) (a .x) (a .y) (s .pre .1) (loop-of t .loop .v) _ (given t))
 
 row-count-requires : tie.Need-row-count-requires Inv-loop μ-loop
 row-count-requires c κs = tt
 
 -- its count
 module _ (c : tie.After-row-count Inv-loop μ-loop) where
-  abbrev t : tie.In-loop Inv-loop μ-loop
-  t = c .before .before .before
+  abbrev in-loop-of : tie.In-loop Inv-loop μ-loop
+  in-loop-of = c .before .before .before
 
-  counted : (c .row-count .result ≡ supportCount (networkOf (planOf (now (s t .args .plan)))) (s t .args .x) (l t .loop .v) (s t .args .y))
+  counted : let s = start-of in-loop-of in
+      (c .row-count .result ≡ supportCount (networkOf (planOf (now (s .args .plan)))) (s .args .x) (loop-of in-loop-of .loop .v) (s .args .y))
       × (c .row-count .result ≤ VALUEROOM)
   unfolding networkOf
   counted =
-      let a = s t .args in
-      supports-counted (now (a .plan)) (s t .pre .0 .sound) (a .x) (l t .loop .v) (a .y) _ (c .row-count .result)
-      (linked-inside (now (a .plan)) (s t .pre .0 .sound) (a .x) (a .y) (s t .pre .1) .1) (given t) (c .row-count .ensures)
+      let t = in-loop-of in
+      let s = start-of t in
+      let a = s .args in
+      supports-counted (now (a .plan)) (s .pre .0 .sound) (a .x) (loop-of t .loop .v) (a .y) _ (c .row-count .result)
+      (linked-inside (now (a .plan)) (s .pre .0 .sound) (a .x) (a .y) (s .pre .1) .1) (given t) (c .row-count .ensures)
 
 put-requires : tie.Need-put-requires Inv-loop μ-loop
 put-requires c κs =
-    let at = t c in
+    let t = in-loop-of c in
+    let l = loop-of t in
     may-put _ _ _ refl _ _
     (omega (
       arith,
-      s at .pre .0 .long,
-      l at .loop .inv .size,
-      at .loop-test .taken,
-      sized at .size .ensures,
-      l at .before .counter-row .ensures,
+      start-of t .pre .0 .long,
+      l .loop .inv .size,
+      t .loop-test .taken,
+      sized t .size .ensures,
+      l .before .counter-row .ensures,
       counted c,
     ))
 
@@ -111,7 +117,7 @@ loop-again : tie.Need-loop-again Inv-loop μ-loop
 unfolding systemOf
 loop-again c =
     let p = c .before .before in
-    let l = l (t (p .before)) in
+    let l = loop-of (in-loop-of (p .before)) in
     done-more (l .loop .inv) (omega arith) (p .put .kept .0)
     (p .put .ensures
     ∙ ap₂ (λ (at n : ℕ). store (memOf (l .loop .cells)) COUNTERS at (l .loop .v) n) (l .before .counter-row .ensures .0) (counted (p .before) .0))
@@ -122,8 +128,8 @@ same-length c = omega arith
 returns : tie.Need-returns Inv-loop μ-loop
 unfolding countPairM systemOf networkOf
 returns c =
-    let at-size : tie.After-size Inv-loop μ-loop = search in
-    done-all _ (c .before .loop .inv) (omega (arith, c .loop-test .left, at-size .size .ensures .0))
+    let size-read : tie.After-size Inv-loop μ-loop = search in
+    done-all _ (c .before .loop .inv) (omega (arith, c .loop-test .left, size-read .size .ensures .0))
 
 pub put-counts-spec : {M : Type 1} → statement M
 put-counts-spec =

@@ -42,32 +42,32 @@ loop-holds c =
 
 -- the loop at value v, and what was known before it
 module _ (t : tie.In-loop Inv-loop μ-loop) where
-  abbrev l : tie.At-loop Inv-loop μ-loop
-  l = t .before
+  abbrev loop-of : tie.At-loop Inv-loop μ-loop
+  loop-of = t .before
 
   abbrev sized : tie.After-size Inv-loop μ-loop
-  sized = l .before .before
+  sized = loop-of .before .before
 
-  abbrev s : tie.Start Inv-loop μ-loop
-  s = sized .before .before .before
+  abbrev start-of : tie.Start Inv-loop μ-loop
+  start-of = sized .before .before .before
 
-  abbrev b : List ℕ
-  b = now (s .args .plan)
+  abbrev plan-of : List ℕ
+  plan-of = now (start-of .args .plan)
 
   abbrev row : ℕ
-  row = supportRow (networkOf (planOf b)) (s .args .x) (s .args .y) (l .loop .v)
+  row = supportRow (networkOf (planOf plan-of)) (start-of .args .x) (start-of .args .y) (loop-of .loop .v)
 
-  small : l .loop .v < VALUEROOM
+  small : loop-of .loop .v < VALUEROOM
   small = omega (arith, t .loop-test .taken, sized .size .ensures)
 
 support-row-requires : tie.Need-support-row-requires Inv-loop μ-loop
 support-row-requires c κs = (
-  s c .pre .0,
+  start-of c .pre .0,
   record {
-    variable = linked-inside (b c) (s c .pre .0 .sound) (s c .args .x) (s c .args .y) (s c .pre .1) .0;
+    variable = linked-inside (plan-of c) (start-of c .pre .0 .sound) (start-of c .args .x) (start-of c .args .y) (start-of c .pre .1) .0;
     value = omega (arith, c .loop-test .taken, sized c .size .ensures);
   },
-  s c .pre .1,
+  start-of c .pre .1,
 )
 
 found : (c : tie.After-support-row Inv-loop μ-loop) → c .support-row .result ≡ row (c .before)
@@ -79,7 +79,7 @@ cast-rows c =
     let t = c .before in
     omega (
       arith,
-      supports-fit (b t) (s t .pre .0 .sound) (s t .args .x) (s t .args .y) (s t .pre .1) (l t .loop .v) _ (found c),
+      supports-fit (plan-of t) (start-of t .pre .0 .sound) (start-of t .args .x) (start-of t .args .y) (start-of t .pre .1) (loop-of t .loop .v) _ (found c),
     )
 
 mul-rows : tie.Need-mul-rows Inv-loop μ-loop
@@ -91,8 +91,8 @@ array-write-rows c = small (c .before)
 gather-requires : tie.Need-gather-requires Inv-loop μ-loop
 gather-requires c κs =
     let t = c .before .before in
-    let g = l t .loop .inv .2 in
-    (g .long, small t, gathered-small (planOf (b t)) (s t .args .x) (s t .args .y) (l t .loop .v) (l t .loop .others) g)
+    let g = loop-of t .loop .inv .2 in
+    (g .long, small t, gathered-small (planOf (plan-of t)) (start-of t .args .x) (start-of t .args .y) (loop-of t .loop .v) (loop-of t .loop .others) g)
 
 add-v : tie.Need-add-v Inv-loop μ-loop
 add-v c = omega arith
@@ -104,10 +104,10 @@ loop-again : tie.Need-loop-again Inv-loop μ-loop
 loop-again c =
     let k = c .before .before in
     let t = k .before in
-    let at = l t .loop in (
+    let at = loop-of t .loop in (
       omega arith,
       rows-more _ (at .v) (at .rows) _ (small t) (at .inv .1) (found k),
-      gathered-more (planOf (b t)) (s t .args .x) (s t .args .y) (at .v) (at .others) _ (k .support-row .result) (at .inv .2) (found k)
+      gathered-more (planOf (plan-of t)) (start-of t .args .x) (start-of t .args .y) (at .v) (at .others) _ (k .support-row .result) (at .inv .2) (found k)
           (c .gather .ensures),
     )
 
@@ -115,11 +115,11 @@ returns : tie.Need-returns Inv-loop μ-loop
 unfolding networkOf
 returns c =
     let at-loop = c .before in
-    let at-size : tie.After-size Inv-loop μ-loop = search in
+    let size-read : tie.After-size Inv-loop μ-loop = search in
     let start : tie.Start Inv-loop μ-loop = search in
     let b = now (start .args .plan) in
-    let e : at-loop .loop .v ≡ at-size .size .result = omega (arith, c .loop-test .left, at-loop .loop .inv .0) in
-    let all = e ∙ at-size .size .ensures .0 in (
+    let e : at-loop .loop .v ≡ size-read .size .result = omega (arith, c .loop-test .left, at-loop .loop .inv .0) in
+    let all = e ∙ size-read .size .ensures .0 in (
       rw all at (at-loop .loop .inv .1),
       gathered-all (planOf b) (start .args .x) (start .args .y) (at-loop .loop .others)
           (size-low b (start .pre .0 .sound) (start .args .x) (start .args .y) (start .pre .1)) (rw all at (at-loop .loop .inv .2)),

@@ -58,7 +58,7 @@ loop-less c = omega arith
 
 loop-again : tie.Need-loop-again Inv-loop μ-loop
 loop-again c =
-    let at-push : tie.After-push-code Inv-loop μ-loop = search in
+    let at-code : tie.After-push-code Inv-loop μ-loop = search in
     let at-word : tie.After-word-at Inv-loop μ-loop = search in
     let at-loop : tie.At-loop Inv-loop μ-loop = search in
     let start : tie.Start Inv-loop μ-loop = search in (
@@ -66,7 +66,7 @@ loop-again c =
       omega arith,
       half-more (at-loop .loop .rest) (start .args .row) (at-loop .loop .v) (at-loop .loop .inv .2),
       codes-more (start .args .row) (at-loop .loop .rest) (at-loop .loop .v) (codeAt (now (start .args .plan)) (start .args .section))
-          (at-word .word-at .result) (at-loop .loop .inv .2) (at-word .word-at .ensures .0) (at-loop .loop .inv .3) (at-push .push-code .ensures),
+          (at-word .word-at .result) (at-loop .loop .inv .2) (at-word .word-at .ensures .0) (at-loop .loop .inv .3) (at-code .push-code .ensures),
     )
 
 same-length : tie.Need-same-length Inv-loop μ-loop

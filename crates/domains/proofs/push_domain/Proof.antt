@@ -33,7 +33,7 @@ same-length c = search needs
 returns : tie.Need-returns
 unfolding domainLine
 returns c =
-    let at-push : tie.After-push2 = search in
+    let at-line-end : tie.After-push2 = search in
     let at-codes : tie.After-push-codes = search in
     let at-colon : tie.After-push = search in
     let at-owner : tie.After-push-spaced = search in
@@ -43,7 +43,7 @@ returns c =
     then at-owner .push-spaced .ensures
     then at-colon .push .ensures
     then at-codes .push-codes .ensures
-    then at-push .push2 .ensures)
+    then at-line-end .push2 .ensures)
 
 pub push-domain-spec : {M : Type 1} → statement M
 push-domain-spec =

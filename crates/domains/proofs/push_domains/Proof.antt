@@ -69,7 +69,7 @@ loop-less c = omega arith
 
 loop-again : tie.Need-loop-again Inv-loop μ-loop
 loop-again c =
-    let at-push : tie.After-push-domain Inv-loop μ-loop = search in
+    let at-line : tie.After-push-domain Inv-loop μ-loop = search in
     let at-cell : tie.After-cell-at Inv-loop μ-loop = search in
     let at-loop : tie.At-loop Inv-loop μ-loop = search in
     let start : tie.Start Inv-loop μ-loop = search in
@@ -83,7 +83,7 @@ loop-again c =
       then-more x (variableLine (planOf plan) lists) (at-loop .loop .inv .4)
           (line-read plan lists x (at-loop .loop .section) (x + 1) (at-cell .cell-at .result)
           (omega (arith, at-loop .before .before .variable-count .ensures .0)) (at-loop .loop .inv .2) (add-one x) (at-cell .cell-at .ensures))
-          (at-push .push-domain .ensures),
+          (at-line .push-domain .ensures),
     )
 
 same-length : tie.Need-same-length Inv-loop μ-loop

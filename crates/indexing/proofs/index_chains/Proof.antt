@@ -1,7 +1,8 @@
 -- `indexing::index_chains` writes the chains. Invariant: those of the first c constraints are written. Assumes nothing.
-use Prim.Native.Nat.{ℕ, _-_, _<_}
+use Prim.Native.Nat.{ℕ, _-_, _<_, _≤_}
 use borrow.Author.Needs.{needs}
 use denote.Ref.{now}
+use mathlib.Core.List.{List}
 use mathlib.Core.Path.{_≡_, sym, _∙_, ap, ap₂, subst}
 use native.Mathlib.Omega.{arith}
 use Rattle.index.proofs.ConstraintChains.{link-keeps}
@@ -15,6 +16,7 @@ use Rattle.cells.specs.Memory.{memOf}
 use Rattle.plan.proofs.Constraints.{in-order}
 use Rattle.plan.proofs.InOrder.{InOrder}
 use Rattle.format.specs.Format.{sectionStart, constraintStart, variableCount, constraintCount, firstAt, secondAt}
+use Rattle.format.specs.Limits.{maxVariables, maxConstraints}
 
 abbrev Inv-loop : tie.InvT-loop
 Inv-loop b cells₀ variables count c₀ cells c =
@@ -32,47 +34,48 @@ constraint-count-requires c κs = search needs
 abbrev start-of : tie.At-loop Inv-loop μ-loop → tie.Start Inv-loop μ-loop
 start-of l = let counted = l .before .before in counted .before .before .before
 
--- while the chains grow, the sections' places are known
-places-known : (l : tie.At-loop Inv-loop μ-loop) → Located (now (start-of l .args .plan)) (l .loop .cells)
-places-known l =
-    let s = start-of l in
-    located-done (now (s .args .plan)) (s .pre) (l .loop .inv .2)
-    (λ c m k. link-keeps _ _ c m PLACES 0 k (λ e. omega arith) (λ e. omega arith))
+module _ (l : tie.At-loop Inv-loop μ-loop) where
+  -- while the chains grow, the sections' places are known
+  places-known : Located (now (start-of l .args .plan)) (l .loop .cells)
+  places-known =
+      let s = start-of l in
+      located-done (now (s .args .plan)) (s .pre) (l .loop .inv .2)
+      (λ c m k. link-keeps _ _ c m PLACES 0 k (λ e. omega arith) (λ e. omega arith))
+
+  -- the plan's variables and constraints are few
+  few : (variableCount (now (start-of l .args .plan)) ≤ maxVariables) × (constraintCount (now (start-of l .args .plan)) ≤ maxConstraints)
+  few = few-sections (now (start-of l .args .plan)) (start-of l .pre .sound)
 
 -- the constraint's place, and that the numbers of its variables are in order
 module _ (c : tie.After-place Inv-loop μ-loop) where
-  abbrev l : tie.At-loop Inv-loop μ-loop
-  l = c .before .before .before
+  abbrev loop-of : tie.At-loop Inv-loop μ-loop
+  loop-of = c .before .before .before
 
-  abbrev s : tie.Start Inv-loop μ-loop
-  s = start-of l
+  abbrev plan-of : List ℕ
+  plan-of = now (start-of loop-of .args .plan)
 
-  listed : l .loop .c < constraintCount (now (s .args .plan))
-  listed = omega (arith, l .loop .inv, c .before .before .loop-test .taken)
+  listed : loop-of .loop .c < constraintCount plan-of
+  listed = omega (arith, loop-of .loop .inv, c .before .before .loop-test .taken)
 
-  found : c .place .result ≡ constraintStart (now (s .args .plan)) (l .loop .c)
-  found = c .place .ensures .start ∙ ap (sectionStart (now (s .args .plan))) (omega (arith, l .loop .inv .0))
+  found : c .place .result ≡ constraintStart plan-of (loop-of .loop .c)
+  found = c .place .ensures .start ∙ ap (sectionStart plan-of) (omega (arith, loop-of .loop .inv .0))
 
-  numbers : InOrder (now (s .args .plan)) (c .place .result)
+  numbers : InOrder plan-of (c .place .result)
   numbers =
-      subst (InOrder (now (s .args .plan))) (sym found) (in-order (now (s .args .plan)) (s .pre .sound) (l .loop .c) listed)
+      subst (InOrder plan-of) (sym found) (in-order plan-of (start-of loop-of .pre .sound) (loop-of .loop .c) listed)
 
 loop-holds : tie.Need-loop-holds Inv-loop μ-loop
 loop-holds c = (c .before .variable-count .ensures .0, c .constraint-count .ensures .0, done-none)
 
 add-place : tie.Need-add-place Inv-loop μ-loop
 add-place c =
-    let at-loop : tie.At-loop Inv-loop μ-loop = search in
-    let start : tie.Start Inv-loop μ-loop = search in
-    let few = few-sections (now (start .args .plan)) (start .pre .sound) in
-    omega (arith, at-loop .loop .inv)
+    let l : tie.At-loop Inv-loop μ-loop = search in
+    omega (arith, l .loop .inv, few l)
 
 add-place-2 : tie.Need-add-place-2 Inv-loop μ-loop
 add-place-2 c =
-    let at-loop : tie.At-loop Inv-loop μ-loop = search in
-    let start : tie.Start Inv-loop μ-loop = search in
-    let few = few-sections (now (start .args .plan)) (start .pre .sound) in
-    omega (arith, at-loop .loop .inv)
+    let l : tie.At-loop Inv-loop μ-loop = search in
+    omega (arith, l .loop .inv, few l)
 
 place-requires : tie.Need-place-requires Inv-loop μ-loop
 place-requires c κs =
@@ -93,14 +96,12 @@ sub-link-2 c = omega (arith, numbers (c .before .before .before), c .second .ens
 
 link-requires : tie.Need-link-requires Inv-loop μ-loop
 link-requires c κs =
-    let at-loop : tie.At-loop Inv-loop μ-loop = search in
-    let start : tie.Start Inv-loop μ-loop = search in
-    let few = few-sections (now (start .args .plan)) (start .pre .sound) in
-    let order = numbers (c .before .before .before) in (
-      omega (arith, c .before .first .ensures),
-      omega (arith, c .second .ensures),
-      omega (arith, at-loop .loop .inv),
-      omega (arith, at-loop .loop .inv, start .pre .long),
+    let placed = c .before .before .before in
+    let l = loop-of placed in (
+      omega (arith, numbers placed, few l, c .before .first .ensures),
+      omega (arith, numbers placed, few l, c .second .ensures),
+      omega (arith, l .loop .inv, few l),
+      omega (arith, l .loop .inv, start-of l .pre .long),
     )
 
 add-c : tie.Need-add-c Inv-loop μ-loop
@@ -113,14 +114,15 @@ loop-again : tie.Need-loop-again Inv-loop μ-loop
 loop-again c =
     let first-read : tie.After-first Inv-loop μ-loop = search in
     let placed : tie.After-place Inv-loop μ-loop = search in
-    let inv = l placed .loop .inv in
-    let b = now (s placed .args .plan) in
+    let l = loop-of placed .loop in
+    let inv = l .inv in
+    let b = plan-of placed in
     let link = c .before .before .link in (
       inv .0,
       inv .1,
       done-more (inv .2) (omega arith) (link .kept .0)
           (link .ensures
-          ∙ ap₂ (λ (x y : ℕ). linkM (x - 1) (y - 1) (l placed .loop .c) (memOf (l placed .loop .cells)))
+          ∙ ap₂ (λ (x y : ℕ). linkM (x - 1) (y - 1) (l .c) (memOf (l .cells)))
           (first-read .first .ensures .0 ∙ ap (firstAt b) (found placed))
           (c .before .before .before .second .ensures .0 ∙ ap (secondAt b) (found placed))),
     )

@@ -50,23 +50,23 @@ sub-leads c = omega (arith, c .owner .ensures)
 
 -- the walk before a variable
 module _ (c : tie.After-owner Inv-loop μ-loop) where
-  abbrev l : tie.At-loop Inv-loop μ-loop
-  l = c .before .before .before .before
+  abbrev loop-of : tie.At-loop Inv-loop μ-loop
+  loop-of = c .before .before .before .before
 
-  abbrev s : tie.Start Inv-loop μ-loop
-  s = l .before .before .before .before
+  abbrev start-of : tie.Start Inv-loop μ-loop
+  start-of = loop-of .before .before .before .before
 
-  abbrev b : List ℕ
-  b = now (s .args .plan)
+  abbrev plan-of : List ℕ
+  plan-of = now (start-of .args .plan)
 
-  listed : l .loop .x - 1 < variableCount b
-  listed = omega (arith, l .loop .inv .0, c .before .before .before .loop-test .taken)
+  listed : loop-of .loop .x - 1 < variableCount plan-of
+  listed = omega (arith, loop-of .loop .inv .0, c .before .before .before .loop-test .taken)
 
 leads-requires : tie.Need-leads-requires Inv-loop μ-loop
 leads-requires c κs =
-    let inv = l c .loop .inv in
-    let few = few-sections (b c) (s c .pre .sound) in
-    omega (arith, c .owner .ensures, listed c, inv .1, inv .2 .size, s c .pre .long)
+    let inv = loop-of c .loop .inv in
+    let few = few-sections (plan-of c) (start-of c .pre .sound) in
+    omega (arith, c .owner .ensures, listed c, inv .1, inv .2 .size, start-of c .pre .long)
 
 loop-less : tie.Need-loop-less Inv-loop μ-loop
 loop-less c =
@@ -77,15 +77,15 @@ loop-again : tie.Need-loop-again Inv-loop μ-loop
 loop-again c =
     let p = c .before .before in
     let o = p .before in
-    let inv = l o .loop .inv in
-    let x = l o .loop .x in
-    let more : variableCount (b o) - (x - 1) ≡ variableCount (b o) - x + 1 = omega (arith, listed o) in (
+    let inv = loop-of o .loop .inv in
+    let x = loop-of o .loop .x in
+    let more : variableCount (plan-of o) - (x - 1) ≡ variableCount (plan-of o) - x + 1 = omega (arith, listed o) in (
       omega (arith, listed o),
       inv .1,
       rw more
           (done-more (inv .2) (omega (arith, listed o)) (p .leads .kept .0)
           (p .leads .ensures
-          ∙ leads-last (b o) (x - 1) (o .owner .result) _ (variableCount (b o) - x) _
+          ∙ leads-last (plan-of o) (x - 1) (o .owner .result) _ (variableCount (plan-of o) - x) _
           (omega (arith, inv .0, o .before .before .before .loop-test .taken)) (inv .1) (o .owner .ensures .0))),
     )
 

@@ -18,19 +18,19 @@ index-places-requires c κs = search needs
 
 -- the places are written
 module _ (p : tie.After-index-places) where
-  abbrev s : tie.Start
-  s = p .before .before .before .before
+  abbrev start-of : tie.Start
+  start-of = p .before .before .before .before
 
-  abbrev b : List ℕ
-  b = now (s .args .plan)
+  abbrev plan-of : List ℕ
+  plan-of = now (start-of .args .plan)
 
-  written : Located b (p .index-places .last .1 .0)
+  written : Located plan-of (p .index-places .last .1 .0)
   written = record {
-    sound = s .pre .0;
+    sound = start-of .pre .0;
     places = λ k h.
         ap (λ (m : Mem). m PLACES 0 k) (p .index-places .ensures)
-        ∙ places-at b (memOf (now (s .args .cells))) k h;
-    long = omega (arith, p .index-places .kept .1 .0, s .pre);
+        ∙ places-at plan-of (memOf (now (start-of .args .cells))) k h;
+    long = omega (arith, p .index-places .kept .1 .0, start-of .pre);
   }
 
 index-chains-requires : tie.Need-index-chains-requires
@@ -41,8 +41,8 @@ index-own-requires c κs =
     let chained : tie.After-index-chains = search in
     let placed : tie.After-index-places = search in
     let chains = chained .index-chains in
-    located-kept (b placed) (placed .index-places .last .1 .0) (chains .last .1 .0) _ (written placed) (chains .kept .1 .0)
-    (chains .ensures) (λ k. chains-keep (b placed) _ PLACES 0 k (λ e. omega arith) (λ e. omega arith))
+    located-kept (plan-of placed) (placed .index-places .last .1 .0) (chains .last .1 .0) _ (written placed) (chains .kept .1 .0)
+    (chains .ensures) (λ k. chains-keep (plan-of placed) _ PLACES 0 k (λ e. omega arith) (λ e. omega arith))
 
 same-length : tie.Need-same-length
 same-length c = search needs
@@ -53,7 +53,7 @@ returns c =
     let owned : tie.After-index-own = search in
     let chained : tie.After-index-chains = search in
     let placed : tie.After-index-places = search in
-    owned .index-own .ensures ∙ ap (ownM (b placed)) (chained .index-chains .ensures ∙ ap (chainsM (b placed)) (placed .index-places .ensures))
+    owned .index-own .ensures ∙ ap (ownM (plan-of placed)) (chained .index-chains .ensures ∙ ap (chainsM (plan-of placed)) (placed .index-places .ensures))
 
 pub index-plan-spec : {M : Type 1} → statement M
 index-plan-spec = tie.close (tie.spec index-places-requires index-chains-requires index-own-requires same-length returns)

@@ -29,23 +29,23 @@ same-length c = search needs
 
 returns : tie.Need-returns
 returns c =
-    let at-put2 : tie.After-put2 = search in
-    let at-put : tie.After-put = search in
-    let at-get2 : tie.After-get2 = search in
+    let first-put : tie.After-put2 = search in
+    let follow-put : tie.After-put = search in
+    let first-read : tie.After-get2 = search in
     let linked : tie.Then1 = search in
-    let at-get : tie.After-get = search in
-    let a = at-get .before .before .before .args in
-    lead-put (a .i) (a .x) (a .y) (memOf (now (a .cells))) _ _ _ _ (at-get .get .ensures .0) (linked .if1 .taken) (at-get2 .get2 .ensures .0)
-    (at-put .put .ensures) (at-put2 .put2 .ensures)
+    let head-read : tie.After-get = search in
+    let a = head-read .before .before .before .args in
+    lead-put (a .i) (a .x) (a .y) (memOf (now (a .cells))) _ _ _ _ (head-read .get .ensures .0) (linked .if1 .taken) (first-read .get2 .ensures .0)
+    (follow-put .put .ensures) (first-put .put2 .ensures)
 
 same-length-2 : tie.Need-same-length-2
 same-length-2 c = search needs
 
 returns-2 : tie.Need-returns-2
 returns-2 c =
-    let g = c .before in
-    let a = g .before .before .before .args in
-    lead-passed (a .i) (a .x) (a .y) (memOf (now (a .cells))) _ (g .get .ensures .0) (omega (arith, c .if1 .left))
+    let head-read = c .before in
+    let a = head-read .before .before .before .args in
+    lead-passed (a .i) (a .x) (a .y) (memOf (now (a .cells))) _ (head-read .get .ensures .0) (omega (arith, c .if1 .left))
 
 pub lead-spec : {M : Type 1} → statement M
 lead-spec =

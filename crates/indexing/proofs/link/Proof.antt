@@ -28,9 +28,9 @@ add-put-2 c = search needs
 
 put-requires-3 : tie.Need-put-requires-3
 put-requires-3 c κs =
-    let at-put2 : tie.After-put2 = search in
-    let at-put : tie.After-put = search in
-    may-put _ _ _ refl _ _ (omega (arith, at-put2 .put2 .kept .0, at-put .put .kept .0))
+    let head-put : tie.After-put2 = search in
+    let next-put : tie.After-put = search in
+    may-put _ _ _ refl _ _ (omega (arith, head-put .put2 .kept .0, next-put .put .kept .0))
 
 same-length : tie.Need-same-length
 same-length c = search needs
@@ -38,16 +38,16 @@ same-length c = search needs
 returns : tie.Need-returns
 unfolding linkM
 returns c =
-    let at-put3 : tie.After-put3 = search in
-    let at-put2 : tie.After-put2 = search in
-    let at-put : tie.After-put = search in
-    let at-get : tie.After-get = search in
-    let a = at-get .before .before .before .args in
-    at-put3 .put3 .ensures
+    let other-head-put : tie.After-put3 = search in
+    let head-put : tie.After-put2 = search in
+    let next-put : tie.After-put = search in
+    let head-read : tie.After-get = search in
+    let a = head-read .before .before .before .args in
+    other-head-put .put3 .ensures
     ∙ ap (λ (m : Mem). store m HEADS (a .y) (a .x) (a .c + 1))
-    (at-put2 .put2 .ensures
+    (head-put .put2 .ensures
     ∙ ap (λ (m : Mem). store m HEADS (a .x) (a .y) (a .c + 1))
-    (at-put .put .ensures ∙ ap (store (memOf (now (a .cells))) NEXT 0 (a .c)) (at-get .get .ensures .0)))
+    (next-put .put .ensures ∙ ap (store (memOf (now (a .cells))) NEXT 0 (a .c)) (head-read .get .ensures .0)))
 
 pub link-spec : {M : Type 1} → statement M
 link-spec =

@@ -1,4 +1,4 @@
--- `turns::allowed` tells the allowed turns. Assumes nothing.
+-- `inputs::allowed` tells the allowed turns. Assumes nothing.
 use borrow.Author.Tests.{le-leb, lt-leb, eq-eqb, ne-eqb}
 use Rattle.disac4.specs.Turn.{allowed}
 use borrow.Author.Needs.{needs}

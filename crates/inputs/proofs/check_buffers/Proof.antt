@@ -1,4 +1,4 @@
--- `turns::check_buffers` gives 9 for too few work cells, then 10 for too few list cells. Assumes nothing.
+-- `inputs::check_buffers` gives 9 for too few work cells, then 10 for too few list cells. Assumes nothing.
 use borrow.Author.Tests.{le-leb, lt-leb}
 use Rattle.disac4.specs.Outcome.{bufferChecks}
 use Rattle.disac4.specs.Need.{workNeed, listNeed}

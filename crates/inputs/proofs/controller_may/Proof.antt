@@ -1,4 +1,4 @@
--- `turns::controller_may` is the test of the controller's actions. Assumes nothing.
+-- `inputs::controller_may` is the test of the controller's actions. Assumes nothing.
 use borrow.Author.Needs.{needs}
 use lib.Dec.{eqb}
 use mathlib.Core.Bool.{Bool, _||_}

@@ -1,4 +1,4 @@
--- `turns::first_bad` finds the first turn that is not allowed. The loop's invariant: the turns passed are allowed. The
+-- `inputs::first_bad` finds the first turn that is not allowed. The loop's invariant: the turns passed are allowed. The
 -- measure is what is left. Assumes nothing.
 use Prim.Native.Nat.{_-_, _/_, _≤_}
 use borrow.Author.Tests.{not-true, not-false}

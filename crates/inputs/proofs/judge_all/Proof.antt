@@ -1,4 +1,4 @@
--- `turns::judge_all` fills a table of the turns that are allowed. Invariant: its first i cells are filled. Assumes nothing.
+-- `inputs::judge_all` fills a table of the turns that are allowed. Invariant: its first i cells are filled. Assumes nothing.
 use Prim.Native.Nat.{_-_, _≤_}
 use mathlib.Core.Path.{refl, _∙_, ap}
 use native.Mathlib.Omega.{arith}

@@ -1,4 +1,4 @@
--- `turns::judged` looks an allowed turn up. Assumes nothing.
+-- `inputs::judged` looks an allowed turn up. Assumes nothing.
 use borrow.Author.Needs.{needs}
 use mathlib.Core.Path.{_∙_}
 use Rattle.inputs.proofs.Judging.{one-tells}

@@ -1,4 +1,4 @@
--- `turns::list_fits` says whether a turn list is of even length and not too long. Assumes nothing.
+-- `inputs::list_fits` says whether a turn list is of even length and not too long. Assumes nothing.
 use borrow.Author.Tests.{eq-eqb, ne-eqb}
 use Rattle.disac4.specs.Turn.{turnListFits}
 use Rattle.inputs.proofs.list_fits.Statement.{statement}

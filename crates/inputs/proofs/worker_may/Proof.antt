@@ -1,4 +1,4 @@
--- `turns::worker_may` is the test of a worker's actions. Assumes nothing.
+-- `inputs::worker_may` is the test of a worker's actions. Assumes nothing.
 use borrow.Author.Needs.{needs}
 use lib.Dec.{leb, eqb}
 use mathlib.Core.Bool.{Bool, _&&_, _||_, not}

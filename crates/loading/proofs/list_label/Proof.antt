@@ -22,10 +22,10 @@ put-requires c κs =
 
 owner-requires : tie.Need-owner-requires
 owner-requires c κs =
-    let at-put : tie.After-put = search in
+    let listed : tie.After-put = search in
     let start : tie.Start = search in (
       located (now (start .args .plan)) _
-          (ready-kept (now (start .args .plan)) (now (start .args .cells)) _ (start .pre .0) (at-put .put .kept .0) (at-put .put .ensures)
+          (ready-kept (now (start .args .plan)) (now (start .args .cells)) _ (start .pre .0) (listed .put .kept .0) (listed .put .ensures)
           (kept-stored DOMAIN (start .args .x) (start .args .v) LISTED (omega arith) kept-same)),
       start .pre .1 .variable,
     )
@@ -35,12 +35,12 @@ sub-delete c = search needs
 
 delete-requires : tie.Need-delete-requires
 delete-requires c κs =
-    let at-put : tie.After-put = search in
+    let listed : tie.After-put = search in
     let start : tie.Start = search in
     omega (
       arith,
       start .pre .0 .long,
-      at-put .put .kept .0,
+      listed .put .kept .0,
       label-small (now (start .args .plan)) (start .pre .0 .sound) (start .args .x) (start .args .v) (start .pre .1),
       c .before .owner .ensures,
     )
@@ -52,10 +52,10 @@ returns : tie.Need-returns
 returns c =
     let owner-read : tie.After-owner = search in
     let unsupported : tie.Then1 = search in
-    let at-put : tie.After-put = search in
+    let listed : tie.After-put = search in
     let start : tie.Start = search in
     let a = start .args in
-    label-deleted (systemAt (now (a .plan))) (a .x) (a .v) _ _ (at-put .put .ensures) (a .supported) _ _
+    label-deleted (systemAt (now (a .plan))) (a .x) (a .v) _ _ (listed .put .ensures) (a .supported) _ _
     (not-true _ (unsupported .if1 .taken))
     (owner-read .owner .ensures .0) (c .before .before .delete .ensures)
 
@@ -64,10 +64,10 @@ same-length-2 c = search needs
 
 returns-2 : tie.Need-returns-2
 returns-2 c =
-    let at-put : tie.After-put = search in
+    let listed : tie.After-put = search in
     let start : tie.Start = search in
     let a = start .args in
-    label-kept (systemAt (now (a .plan))) (a .x) (a .v) _ _ (at-put .put .ensures) (a .supported)
+    label-kept (systemAt (now (a .plan))) (a .x) (a .v) _ _ (listed .put .ensures) (a .supported)
     (not-false _ (c .if1 .left))
 
 pub list-label-spec : {M : Type 1} → statement M

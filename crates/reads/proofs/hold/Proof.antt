@@ -20,9 +20,9 @@ same-length c = search needs
 
 returns : tie.Need-returns
 returns c =
-    let at-put2 : tie.After-put2 = search in
-    let at-put : tie.After-put = search in
-    rw (at-put2 .put2 .ensures, at-put .put .ensures)
+    let poll-held : tie.After-put2 = search in
+    let poll-read : tie.After-put = search in
+    rw (poll-held .put2 .ensures, poll-read .put .ensures)
 
 pub hold-spec : {M : Type 1} → statement M
 hold-spec = tie.close (tie.spec cast-n put-requires put-requires-2 same-length returns)

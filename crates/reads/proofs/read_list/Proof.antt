@@ -37,8 +37,8 @@ same-length-3 c = search needs
 
 returns-3 : tie.Need-returns-3
 returns-3 c =
-    let at-get : tie.After-get = search in
-    idle _ _ (list-idle _ _ _ (λ has. omega (arith, rw (← (at-get .get .ensures .0)) at (has .label-room))))
+    let cursor-read : tie.After-get = search in
+    idle _ _ (list-idle _ _ _ (λ has. omega (arith, rw (← (cursor-read .get .ensures .0)) at (has .label-room))))
 
 get-requires-4 : tie.Need-get-requires-4
 get-requires-4 c κs = may-get _ _ _ refl _ (omega arith)
@@ -60,22 +60,22 @@ same-length-5 c = search needs
 
 returns-5 : tie.Need-returns-5
 returns-5 c =
-    let at-take-list : tie.After-take-list = search in
-    let at-get5 : tie.After-get5 = search in
-    let at-get4 : tie.After-get4 = search in
-    let at-get3 : tie.After-get3 = search in
-    let at-if1 : tie.Else1 = search in
-    let at-get2 : tie.After-get2 = search in
-    let at-get : tie.After-get = search in
+    let list-taken : tie.After-take-list = search in
+    let start-read : tie.After-get5 = search in
+    let lists-read : tie.After-get4 = search in
+    let end-read : tie.After-get3 = search in
+    let more-sent : tie.Else1 = search in
+    let sends-read : tie.After-get2 = search in
+    let cursor-read : tie.After-get = search in
     acts _ _ _ _
     (list-goes _ _ _ (record {
-      unread = omega (arith, at-get .get .ensures .0, at-get2 .get2 .ensures .0, at-if1 .if1 .left);
-      bound-room = omega (arith, at-get .get .ensures .0);
-      label-room = rw (← (at-get .get .ensures .0)) (omega (arith, at-get3 .get3 .ensures .0));
-      count-room = omega (arith, at-get4 .get4 .ensures .0);
+      unread = omega (arith, cursor-read .get .ensures .0, sends-read .get2 .ensures .0, more-sent .if1 .left);
+      bound-room = omega (arith, cursor-read .get .ensures .0);
+      label-room = rw (← (cursor-read .get .ensures .0)) (omega (arith, end-read .get3 .ensures .0));
+      count-room = omega (arith, lists-read .get4 .ensures .0);
     }))
-    (taken-from _ _ _ (at-get .get .ensures .0) (at-get5 .get5 .ensures .0) (at-get3 .get3 .ensures .0)
-    (at-get4 .get4 .ensures .0) (at-take-list .take-list .ensures))
+    (taken-from _ _ _ (cursor-read .get .ensures .0) (start-read .get5 .ensures .0) (end-read .get3 .ensures .0)
+    (lists-read .get4 .ensures .0) (list-taken .take-list .ensures))
 
 pub read-list-spec : {M : Type 1} → statement M
 read-list-spec =

@@ -19,8 +19,8 @@ same-length c = search needs
 
 returns : tie.Need-returns
 returns c =
-    let at-get = c .before in
-    idle _ _ (read-no-poll _ _ _ (at-get .get .ensures .0) (c .if1 .taken))
+    let polls-read = c .before in
+    idle _ _ (read-no-poll _ _ _ (polls-read .get .ensures .0) (c .if1 .taken))
 
 cast-t13 : tie.Need-cast-t13
 cast-t13 c = search needs
@@ -36,10 +36,10 @@ same-length-2 c = search needs
 
 returns-2 : tie.Need-returns-2
 returns-2 c =
-    let at-hold = c .before .before in
-    let at-if1 = at-hold .before .before in
-    let at-get = at-if1 .before in
-    acts _ _ _ _ (read-holds _ _ _ (at-get .get .ensures .0) (at-if1 .if1 .left)) (at-hold .hold .ensures)
+    let poll-held = c .before .before in
+    let more-polls = poll-held .before .before in
+    let polls-read = more-polls .before in
+    acts _ _ _ _ (read-holds _ _ _ (polls-read .get .ensures .0) (more-polls .if1 .left)) (poll-held .hold .ensures)
 
 pub read-poll-spec : {M : Type 1} → statement M
 read-poll-spec =

@@ -27,12 +27,12 @@ same-length c = search needs
 
 returns : tie.Need-returns
 returns c =
-    let at-put2 : tie.After-put2 = search in
-    let at-put : tie.After-put = search in
-    let at-copy-between : tie.After-copy-between = search in
+    let list-counted : tie.After-put2 = search in
+    let cursor-moved : tie.After-put = search in
+    let labels-copied : tie.After-copy-between = search in
     let start : tie.Start = search in
     taken _ _ _ _ (start .args .j) (start .args .i) (start .args .read) (start .args .from) (start .args .to)
-    (start .args .lists) (at-copy-between .copy-between .ensures) (at-put .put .ensures) (at-put2 .put2 .ensures)
+    (start .args .lists) (labels-copied .copy-between .ensures) (cursor-moved .put .ensures) (list-counted .put2 .ensures)
 
 pub take-list-spec : {M : Type 1} → statement M
 take-list-spec =

@@ -46,8 +46,7 @@ long c =
 domain-row-requires : tie.Need-domain-row-requires Inv-loop μ-loop
 domain-row-requires c κs =
     let at-loop = c .before in
-    let start : tie.Start Inv-loop μ-loop = search in
-    (start .pre .0, omega (arith, at-loop .before .variable-count .ensures))
+    (start-of at-loop .pre .0, omega (arith, at-loop .before .variable-count .ensures))
 
 cast-lists : tie.Need-cast-lists Inv-loop μ-loop
 cast-lists c = omega (arith, c .domain-row .ensures)
@@ -67,7 +66,7 @@ loop-less c = omega arith
 loop-again : tie.Need-loop-again Inv-loop μ-loop
 loop-again c =
     let at-loop : tie.At-loop Inv-loop μ-loop = search in
-    let start : tie.Start Inv-loop μ-loop = search in (
+    let start = start-of at-loop in (
       omega arith,
       ap₂ (λ (a : List ℕ) (v : ℕ). set a (at-loop .loop .x) v) (at-loop .loop .inv .1) (c .domain-row .ensures .0)
           ∙ rows-next (now (start .args .plan)) (memOf (now (start .args .cells))) (at-loop .loop .x) (now (start .args .lists))
@@ -80,7 +79,7 @@ same-length c = long (c .before) .0
 returns : tie.Need-returns Inv-loop μ-loop
 returns c t =
     let at-loop = c .before in
-    let start : tie.Start Inv-loop μ-loop = search in
+    let start = start-of at-loop in
     at-loop .loop .inv .1
     ∙ rows-all (now (start .args .plan)) (memOf (now (start .args .cells))) (at-loop .loop .x) (now (start .args .lists))
     (omega (arith, at-loop .before .variable-count .ensures)) t

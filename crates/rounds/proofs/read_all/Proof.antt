@@ -1,4 +1,4 @@
--- `rounds::hear_all` reads from every worker. The loop's invariant: those passed are read from. The measure is what is
+-- `rounds::read_all` reads from every worker. The loop's invariant: those passed are read from. The measure is what is
 -- left. Assumes nothing.
 use Prim.Native.Nat.{suc, _-_}
 use mathlib.Core.List.{[], _∷_}

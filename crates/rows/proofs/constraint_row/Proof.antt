@@ -1,4 +1,4 @@
--- `pairs::constraint_row` gives the row of the values that a constraint permits. Assumes nothing.
+-- `rows::constraint_row` gives the row of the values that a constraint permits. Assumes nothing.
 use Prim.Native.Nat.{ℕ}
 use borrow.Author.Needs.{needs}
 use borrow.Author.Tests.{eq-eqb, ne-eqb}

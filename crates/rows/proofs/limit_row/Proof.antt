@@ -1,12 +1,12 @@
--- `pairs::limit_row` gives the row of the values that a limit permits. Invariant: the row holds those from w on,
+-- `rows::limit_row` gives the row of the values that a limit permits. Invariant: the row holds those from w on,
 -- counted from there; the measure is w. Assumes nothing.
-use Prim.Native.Nat.{_+_, _-_, _*_}
+use Prim.Native.Nat.{ℕ, _+_, _-_, _*_}
 use denote.Ref.{now}
+use mathlib.Core.Bool.{Bool}
 use mathlib.Core.Path.{_∙_, ap}
 use native.Mathlib.Omega.{arith}
-use Rattle.base.proofs.Below.{at-suc}
 use Rattle.base.specs.Below.{one}
-use Rattle.rows.proofs.Upper.{Upper, upper-start, upper-next, upper-small, upper-all}
+use Rattle.rows.proofs.Upper.{Upper, upper-start, upper-more, upper-small, upper-all}
 use Rattle.rows.proofs.limit_row.Statement.{statement}
 use Rattle.rows.proofs.limit_row.Tie as tie
 use Rattle.rows.specs.Permits.{limited}
@@ -21,24 +21,23 @@ abbrev μ-loop : tie.MeasureT-loop
 room-beside-requires : tie.Need-room-beside-requires Inv-loop μ-loop
 room-beside-requires c κs = c .before .pre .2
 
+-- the test that the row's values pass
+abbrev permitted : tie.Start Inv-loop μ-loop → ℕ → Bool
+permitted s = limited (now (s .args .plan)) (s .args .limit) (s .args .f) (s .args .place)
+
 loop-holds : tie.Need-loop-holds Inv-loop μ-loop
 loop-holds c =
-    let a = c .before .before .args in
-    upper-start (limited (now (a .plan)) (a .limit) (a .f) (a .place)) (a .values)
+    let s = c .before .before in
+    upper-start (permitted s) (s .args .values)
 
 sub-w : tie.Need-sub-w Inv-loop μ-loop
 sub-w c = omega (arith, c .loop-test .taken)
 
 mul-row : tie.Need-mul-row Inv-loop μ-loop
 mul-row c =
-    let at-loop = c .before in
-    let start : tie.Start Inv-loop μ-loop = search in
-    let a = start .args in
-    omega (
-      arith,
-      upper-small (limited (now (a .plan)) (a .limit) (a .f) (a .place)) (a .values) (at-loop .loop .row) (at-loop .loop .w) (start .pre .1)
-          (at-loop .loop .inv),
-    )
+    let l = c .before in
+    let s = l .before .before .before in
+    omega (arith, upper-small (permitted s) (s .args .values) (l .loop .row) (l .loop .w) (s .pre .1) (l .loop .inv))
 
 figure-requires : tie.Need-figure-requires Inv-loop μ-loop
 figure-requires c κs =
@@ -50,33 +49,26 @@ row-if-requires c κs = omega arith
 
 -- the row with the next value in it or not
 module _ (c : tie.After-row-if Inv-loop μ-loop) where
-  abbrev l : tie.At-loop Inv-loop μ-loop
-  l = c .before .before .before
+  abbrev loop-of : tie.At-loop Inv-loop μ-loop
+  loop-of = c .before .before .before
 
-  abbrev s : tie.Start Inv-loop μ-loop
-  s = l .before .before .before
+  abbrev start-of : tie.Start Inv-loop μ-loop
+  start-of = loop-of .before .before .before
 
-  more : Upper (limited (now (s .args .plan)) (s .args .limit) (s .args .f) (s .args .place)) (s .args .values)
-      (2 * l .loop .row + c .row-if .result) (l .loop .w - 1)
+  more : Upper (permitted start-of) (start-of .args .values) (2 * loop-of .loop .row + c .row-if .result) (loop-of .loop .w - 1)
   unfolding limited
   more =
-      let t = limited (now (s .args .plan)) (s .args .limit) (s .args .f) (s .args .place) in
-      upper-next t (s .args .values) (l .loop .row) (l .loop .w - 1)
-      (at-suc (Upper t (s .args .values) (l .loop .row)) (l .loop .w) (c .before .before .loop-test .taken) (l .loop .inv))
-      (c .row-if .result)
+      upper-more (permitted start-of) (start-of .args .values) (loop-of .loop .row) (loop-of .loop .w) (c .before .before .loop-test .taken)
+      (loop-of .loop .inv) (c .row-if .result)
       (c .row-if .ensures
       ∙ ap one
-      (l .before .room-beside .ensures (c .before .figure .result)
-      ∙ ap (withinLimit (s .args .limit) (s .args .f)) (c .before .figure .ensures .0)))
+      (loop-of .before .room-beside .ensures (c .before .figure .result)
+      ∙ ap (withinLimit (start-of .args .limit) (start-of .args .f)) (c .before .figure .ensures .0)))
 
 add-row : tie.Need-add-row Inv-loop μ-loop
 add-row c =
-    let a = s c .args in
-    omega (
-      arith,
-      upper-small (limited (now (a .plan)) (a .limit) (a .f) (a .place)) (a .values) (2 * l c .loop .row + c .row-if .result)
-          (l c .loop .w - 1) (s c .pre .1) (more c),
-    )
+    let s = start-of c in
+    omega (arith, upper-small (permitted s) (s .args .values) _ _ (s .pre .1) (more c))
 
 loop-less : tie.Need-loop-less Inv-loop μ-loop
 loop-less c = omega (arith, c .before .before .loop-test .taken)
@@ -87,9 +79,8 @@ loop-again c = more c
 returns : tie.Need-returns Inv-loop μ-loop
 returns c =
     let l = c .before in
-    let a = l .before .before .before .args in
-    upper-all (limited (now (a .plan)) (a .limit) (a .f) (a .place)) (a .values) (l .loop .row) (l .loop .w)
-    (omega (arith, c .loop-test .left)) (l .loop .inv)
+    let s = l .before .before .before in
+    upper-all (permitted s) (s .args .values) (l .loop .row) (l .loop .w) (omega (arith, c .loop-test .left)) (l .loop .inv)
 
 pub limit-row-spec : {M : Type 1} → statement M
 limit-row-spec =

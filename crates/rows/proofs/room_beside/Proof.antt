@@ -1,4 +1,4 @@
--- `pairs::room_beside` gives the room that a limit leaves beside a figure. Assumes nothing.
+-- `rows::room_beside` gives the room that a limit leaves beside a figure. Assumes nothing.
 use Prim.Native.Nat.{_+_, _-_}
 use borrow.Author.Needs.{needs}
 use native.Mathlib.Omega.{arith}

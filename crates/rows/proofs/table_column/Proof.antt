@@ -1,15 +1,15 @@
--- `pairs::table_column` gives the row of the values whose rows in a table hold a value. Invariant: the row holds
+-- `rows::table_column` gives the row of the values whose rows in a table hold a value. Invariant: the row holds
 -- those from w on, counted from there; the measure is w. Assumes nothing.
 use Prim.Native.Nat.{ℕ, _+_, _-_, _*_, _%_}
 use denote.Ref.{now}
+use mathlib.Core.Bool.{Bool}
 use mathlib.Core.Path.{_∙_, ap}
 use native.Mathlib.Omega.{arith}
-use Rattle.base.proofs.Below.{at-suc}
 use Rattle.base.specs.Below.{one}
 use Rattle.base.specs.Bytes.{byteAt}
 use Rattle.base.specs.Row.{bit}
 use Rattle.rows.proofs.Rows.{column-byte}
-use Rattle.rows.proofs.Upper.{Upper, upper-start, upper-next, upper-small, upper-all}
+use Rattle.rows.proofs.Upper.{Upper, upper-start, upper-more, upper-small, upper-all}
 use Rattle.rows.proofs.table_column.Statement.{statement}
 use Rattle.rows.proofs.table_column.Tie as tie
 use Rattle.rows.specs.Permits.{inColumn}
@@ -26,10 +26,14 @@ sub-part c = omega (arith, c .before .pre .1)
 sub-part-2 : tie.Need-sub-part-2 Inv-loop μ-loop
 sub-part-2 c = omega (arith, c .before .pre .1)
 
+-- the test that the row's values pass
+abbrev permitted : tie.Start Inv-loop μ-loop → ℕ → Bool
+permitted s = inColumn (now (s .args .plan)) (s .args .at) (s .args .v)
+
 loop-holds : tie.Need-loop-holds Inv-loop μ-loop
 loop-holds c =
-    let a = c .before .args in
-    upper-start (inColumn (now (a .plan)) (a .at) (a .v)) (a .values)
+    let s = c .before in
+    upper-start (permitted s) (s .args .values)
 
 sub-w : tie.Need-sub-w Inv-loop μ-loop
 sub-w c = omega (arith, c .loop-test .taken)
@@ -38,12 +42,7 @@ mul-row : tie.Need-mul-row Inv-loop μ-loop
 mul-row c =
     let l = c .before in
     let s = l .before .before in
-    let a = s .args in
-    omega (
-      arith,
-      upper-small (inColumn (now (a .plan)) (a .at) (a .v)) (a .values) (l .loop .row) (l .loop .w) (s .pre .2)
-          (l .loop .inv),
-    )
+    omega (arith, upper-small (permitted s) (s .args .values) (l .loop .row) (l .loop .w) (s .pre .2) (l .loop .inv))
 
 table-byte-requires : tie.Need-table-byte-requires Inv-loop μ-loop
 table-byte-requires c κs = omega (arith, c .before .before .before .pre, c .before .loop .inv .low)
@@ -58,35 +57,28 @@ row-if-requires c κs = omega arith
 
 -- the row with the next value in it or not
 module _ (c : tie.After-row-if Inv-loop μ-loop) where
-  abbrev l : tie.At-loop Inv-loop μ-loop
-  l = c .before .before .before .before
+  abbrev loop-of : tie.At-loop Inv-loop μ-loop
+  loop-of = c .before .before .before .before
 
-  abbrev s : tie.Start Inv-loop μ-loop
-  s = l .before .before
+  abbrev start-of : tie.Start Inv-loop μ-loop
+  start-of = loop-of .before .before
 
-  more : Upper (inColumn (now (s .args .plan)) (s .args .at) (s .args .v)) (s .args .values)
-      (2 * l .loop .row + c .row-if .result) (l .loop .w - 1)
+  more : Upper (permitted start-of) (start-of .args .values) (2 * loop-of .loop .row + c .row-if .result) (loop-of .loop .w - 1)
   unfolding byteAt
   more =
-      let t = inColumn (now (s .args .plan)) (s .args .at) (s .args .v) in
-      upper-next t (s .args .values) (l .loop .row) (l .loop .w - 1)
-      (at-suc (Upper t (s .args .values) (l .loop .row)) (l .loop .w) (c .before .before .before .loop-test .taken) (l .loop .inv))
-      (c .row-if .result)
+      upper-more (permitted start-of) (start-of .args .values) (loop-of .loop .row) (loop-of .loop .w) (c .before .before .before .loop-test .taken)
+      (loop-of .loop .inv) (c .row-if .result)
       (c .row-if .ensures
       ∙ ap one
       (c .before .row-holds .ensures
-      ∙ ap (λ (r : ℕ). bit r (s .args .v % 8)) (c .before .before .table-byte .ensures .0)
-      ∙ column-byte (now (s .args .plan)) (λ i. l .before .shared-slice-known .given i .fits) (s .args .at) (s .args .v)
-      (s .pre .1) (l .loop .w - 1)))
+      ∙ ap (λ (r : ℕ). bit r (start-of .args .v % 8)) (c .before .before .table-byte .ensures .0)
+      ∙ column-byte (now (start-of .args .plan)) (λ i. loop-of .before .shared-slice-known .given i .fits) (start-of .args .at) (start-of .args .v)
+      (start-of .pre .1) (loop-of .loop .w - 1)))
 
 add-row : tie.Need-add-row Inv-loop μ-loop
 add-row c =
-    let a = s c .args in
-    omega (
-      arith,
-      upper-small (inColumn (now (a .plan)) (a .at) (a .v)) (a .values) (2 * l c .loop .row + c .row-if .result)
-          (l c .loop .w - 1) (s c .pre .2) (more c),
-    )
+    let s = start-of c in
+    omega (arith, upper-small (permitted s) (s .args .values) _ _ (s .pre .2) (more c))
 
 loop-less : tie.Need-loop-less Inv-loop μ-loop
 loop-less c = omega (arith, c .before .before .before .loop-test .taken)
@@ -97,9 +89,8 @@ loop-again c = more c
 returns : tie.Need-returns Inv-loop μ-loop
 returns c =
     let l = c .before in
-    let a = l .before .before .args in
-    upper-all (inColumn (now (a .plan)) (a .at) (a .v)) (a .values) (l .loop .row) (l .loop .w)
-    (omega (arith, c .loop-test .left)) (l .loop .inv)
+    let s = l .before .before in
+    upper-all (permitted s) (s .args .values) (l .loop .row) (l .loop .w) (omega (arith, c .loop-test .left)) (l .loop .inv)
 
 pub table-column-spec : {M : Type 1} → statement M
 table-column-spec =

@@ -42,15 +42,15 @@ same-length c = search needs
 
 returns : tie.Need-returns
 returns c =
-    let at-put5 : tie.After-put5 = search in
-    let at-put4 : tie.After-put4 = search in
-    let at-put3 : tie.After-put3 = search in
-    let at-put2 : tie.After-put2 = search in
-    let at-put : tie.After-put = search in
+    let list-counted : tie.After-put5 = search in
+    let out-counted : tie.After-put4 = search in
+    let send-counted : tie.After-put3 = search in
+    let message-put : tie.After-put2 = search in
+    let bound-put : tie.After-put = search in
     let start : tie.Start = search in
     sent _ _ _ _ (start .args .i) (start .args .sends) (start .args .end) (start .args .outs)
-    (start .args .lists) _ _ (at-put .put .ensures) (at-put2 .put2 .ensures) (at-put3 .put3 .ensures)
-    (at-put4 .put4 .ensures) (at-put5 .put5 .ensures)
+    (start .args .lists) _ _ (bound-put .put .ensures) (message-put .put2 .ensures) (send-counted .put3 .ensures)
+    (out-counted .put4 .ensures) (list-counted .put5 .ensures)
 
 pub put-list-spec : {M : Type 1} → statement M
 put-list-spec =

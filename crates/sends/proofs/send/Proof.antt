@@ -55,21 +55,21 @@ same-length-5 c = search needs
 
 returns-5 : tie.Need-returns-5
 returns-5 c =
-    let at-put-list : tie.After-put-list = search in
-    let at-get5 : tie.After-get5 = search in
-    let at-get4 : tie.After-get4 = search in
-    let at-if2 : tie.Else2 = search in
-    let at-get3 : tie.After-get3 = search in
-    let at-get : tie.After-get = search in
+    let list-put : tie.After-put-list = search in
+    let lists-read : tie.After-get5 = search in
+    let outs-read : tie.After-get4 = search in
+    let some-unsent : tie.Else2 = search in
+    let end-read : tie.After-get3 = search in
+    let sends-read : tie.After-get = search in
     acts _ _ _ _
     (send-goes _ _ (record {
-      unsent = λ e. at-if2 .if2 .left (cc);
+      unsent = λ e. some-unsent .if2 .left (cc);
       send-room = omega arith;
       out-room = omega arith;
       count-room = omega arith;
     }))
-    (sent-from _ _ (at-get .get .ensures .0) (at-get3 .get3 .ensures .0) (at-get4 .get4 .ensures .0)
-    (at-get5 .get5 .ensures .0) (at-put-list .put-list .ensures))
+    (sent-from _ _ (sends-read .get .ensures .0) (end-read .get3 .ensures .0) (outs-read .get4 .ensures .0)
+    (lists-read .get5 .ensures .0) (list-put .put-list .ensures))
 
 pub send-spec : {M : Type 1} → statement M
 send-spec =

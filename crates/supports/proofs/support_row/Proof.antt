@@ -1,4 +1,4 @@
--- `pairs::support_row` gives the row of supports. Invariant: the row holds the values that the constraints so far
+-- `supports::support_row` gives the row of supports. Invariant: the row holds the values that the constraints so far
 -- permit; the measure is the next constraint, since a chain goes down. Assumes nothing.
 use Prim.Native.Nat.{ℕ, suc, _+_, _-_, _<_, _≤_}
 use borrow.Author.Needs.{needs}
@@ -95,74 +95,74 @@ module _ (l : tie.At-loop Inv-loop μ-loop) where
   abbrev counted : tie.After-variable-count Inv-loop μ-loop
   counted = sized .before .before .before
 
-  abbrev s : tie.Start Inv-loop μ-loop
-  s = counted .before .before .before
+  abbrev start-of : tie.Start Inv-loop μ-loop
+  start-of = counted .before .before .before
 
-  here-placed : Placed (now (s .args .plan)) (sized .before .before .place .result) (suc (s .args .x))
-  here-placed = subst (Placed (now (s .args .plan)) _) (add-one (s .args .x)) (sized .before .before .place .ensures)
+  here-placed : Placed (now (start-of .args .plan)) (sized .before .before .place .result) (suc (start-of .args .x))
+  here-placed = subst (Placed (now (start-of .args .plan)) _) (add-one (start-of .args .x)) (sized .before .before .place .ensures)
 
-  there-placed : Placed (now (s .args .plan)) (sized .before .place2 .result) (suc (s .args .y))
-  there-placed = subst (Placed (now (s .args .plan)) _) (add-one (s .args .y)) (sized .before .place2 .ensures)
+  there-placed : Placed (now (start-of .args .plan)) (sized .before .place2 .result) (suc (start-of .args .y))
+  there-placed = subst (Placed (now (start-of .args .plan)) _) (add-one (start-of .args .y)) (sized .before .place2 .ensures)
 
 add-place-3 : tie.Need-add-place-3 Inv-loop μ-loop
 add-place-3 c =
     let l = c .before in
-    omega (arith, few (s l), l .loop .inv .along .low, counted l .variable-count .ensures)
+    omega (arith, few (start-of l), l .loop .inv .along .low, counted l .variable-count .ensures)
 
 place-requires-3 : tie.Need-place-requires-3 Inv-loop μ-loop
 place-requires-3 c κs =
     let l = c .before in
-    let st = s l in (
-      located (now (st .args .plan)) (now (st .args .cells)) (st .pre .0),
+    let s = start-of l in (
+      located (now (s .args .plan)) (now (s .args .cells)) (s .pre .0),
       omega (arith, l .loop .inv .along .low, counted l .variable-count .ensures),
     )
 
 -- the walk at the constraint that it has come to, and that constraint
 module _ (c : tie.After-place3 Inv-loop μ-loop) where
-  abbrev l : tie.At-loop Inv-loop μ-loop
-  l = c .before .before
+  abbrev loop-of : tie.At-loop Inv-loop μ-loop
+  loop-of = c .before .before
 
-  abbrev b : List ℕ
-  b = now (s l .args .plan)
+  abbrev plan-of : List ℕ
+  plan-of = now (start-of loop-of .args .plan)
 
   abbrev x : ℕ
-  x = s l .args .x
+  x = start-of loop-of .args .x
 
   abbrev v : ℕ
-  v = s l .args .v
+  v = start-of loop-of .args .v
 
   abbrev y : ℕ
-  y = s l .args .y
+  y = start-of loop-of .args .y
 
-  left : Left b x v y (sized l .size .result) (l .loop .row) (suc (l .loop .next - 1))
-  left = at-suc (Left b x v y (sized l .size .result) (l .loop .row)) (l .loop .next) (c .before .loop-test .taken) (l .loop .inv)
+  left : Left plan-of x v y (sized loop-of .size .result) (loop-of .loop .row) (suc (loop-of .loop .next - 1))
+  left = at-suc (Left plan-of x v y (sized loop-of .size .result) (loop-of .loop .row)) (loop-of .loop .next) (c .before .loop-test .taken) (loop-of .loop .inv)
 
-  at-placed : Placed b (c .place3 .result) (suc (variableCount b + (l .loop .next - 1)))
+  at-placed : Placed plan-of (c .place3 .result) (suc (variableCount plan-of + (loop-of .loop .next - 1)))
   at-placed =
-      subst (Placed b (c .place3 .result)) (omega (arith, counted l .variable-count .ensures, c .before .loop-test .taken))
+      subst (Placed plan-of (c .place3 .result)) (omega (arith, counted loop-of .variable-count .ensures, c .before .loop-test .taken))
       (c .place3 .ensures)
 
-  at-over : over b x y (l .loop .next - 1) ≡ true
-  at-over = along-over b x y (l .loop .next - 1) (left .along)
+  at-over : over plan-of x y (loop-of .loop .next - 1) ≡ true
+  at-over = along-over plan-of x y (loop-of .loop .next - 1) (left .along)
 
   -- its row holds the values that it accepts
   accepted : (r : ℕ)
-      → ((w : ℕ) → w < sized l .size .result
-      → bit r w ≡ permitsFrom b (c .place3 .result) (ltb x y) (sized l .before .before .place .result) v (sized l .before .place2 .result) w)
-      → (w : ℕ) → w < sized l .size .result → bit r w ≡ acceptsAt b x v y w (l .loop .next - 1)
+      → ((w : ℕ) → w < sized loop-of .size .result
+      → bit r w ≡ permitsFrom plan-of (c .place3 .result) (ltb x y) (sized loop-of .before .before .place .result) v (sized loop-of .before .place2 .result) w)
+      → (w : ℕ) → w < sized loop-of .size .result → bit r w ≡ acceptsAt plan-of x v y w (loop-of .loop .next - 1)
   accepted r f w h =
       f w h
-      ∙ permitted-from b (s l .pre .0 .sound) (l .loop .next - 1) x v y w (c .place3 .result) (sized l .before .before .place .result)
-      (sized l .before .place2 .result) at-placed (here-placed l) (there-placed l) (left .along .low) at-over (s l .pre .1)
-      (record { variable = inside (s l); value = omega (arith, h, sized l .size .ensures) })
+      ∙ permitted-from plan-of (start-of loop-of .pre .0 .sound) (loop-of .loop .next - 1) x v y w (c .place3 .result) (sized loop-of .before .before .place .result)
+      (sized loop-of .before .place2 .result) at-placed (here-placed loop-of) (there-placed loop-of) (left .along .low) at-over (start-of loop-of .pre .1)
+      (record { variable = inside (start-of loop-of); value = omega (arith, h, sized loop-of .size .ensures) })
 
 constraint-row-requires : tie.Need-constraint-row-requires Inv-loop μ-loop
 constraint-row-requires c κs = (
   at-placed c .within,
-  here-placed (l c) .within,
-  there-placed (l c) .within,
-  label-small (b c) (s (l c) .pre .0 .sound) (x c) (v c) (s (l c) .pre .1) .1,
-  sized (l c) .size .ensures .1,
+  here-placed (loop-of c) .within,
+  there-placed (loop-of c) .within,
+  label-small (plan-of c) (start-of (loop-of c) .pre .0 .sound) (x c) (v c) (start-of (loop-of c) .pre .1) .1,
+  sized (loop-of c) .size .ensures .1,
 )
 
 sub-get : tie.Need-sub-get Inv-loop μ-loop
@@ -171,35 +171,35 @@ sub-get c = omega (arith, left (c .before) .along)
 get-requires-2 : tie.Need-get-requires-2 Inv-loop μ-loop
 get-requires-2 c κs =
     let g = c .before in
-    may-get _ _ _ refl _ (omega (arith, few (s (l g)), left g .along .low, s (l g) .pre .0 .long))
+    may-get _ _ _ refl _ (omega (arith, few (start-of (loop-of g)), left g .along .low, start-of (loop-of g) .pre .0 .long))
 
 follows : (c : tie.After-get2 Inv-loop μ-loop)
-    → c .get2 .result ≡ chainBelow (b (c .before .before)) (x (c .before .before)) (y (c .before .before)) (l (c .before .before) .loop .next - 1)
+    → c .get2 .result ≡ chainBelow (plan-of (c .before .before)) (x (c .before .before)) (y (c .before .before)) (loop-of (c .before .before) .loop .next - 1)
 follows c =
     let g = c .before .before in
-    c .get2 .ensures .0 ∙ s (l g) .pre .0 .index .nexts (l g .loop .next - 1) (left g .along .low) (x g) (y g) (at-over g)
+    c .get2 .ensures .0 ∙ start-of (loop-of g) .pre .0 .index .nexts (loop-of g .loop .next - 1) (left g .along .low) (x g) (y g) (at-over g)
 
 loop-less : tie.Need-loop-less Inv-loop μ-loop
 loop-less c =
     let g = c .before .before in
-    omega (arith, follows c, last-low (over (b g) (x g) (y g)) (l g .loop .next - 1), g .before .loop-test .taken)
+    omega (arith, follows c, last-low (over (plan-of g) (x g) (y g)) (loop-of g .loop .next - 1), g .before .loop-test .taken)
 
 loop-again : tie.Need-loop-again Inv-loop μ-loop
 loop-again c =
     let g = c .before .before in
     let r = c .before .constraint-row in
-    left-next (b g) (x g) (v g) (y g) (sized (l g) .size .result) (l g .loop .row) (l g .loop .next - 1) (left g) (r .result)
+    left-next (plan-of g) (x g) (v g) (y g) (sized (loop-of g) .size .result) (loop-of g .loop .row) (loop-of g .loop .next - 1) (left g) (r .result)
     (accepted g (r .result) (r .ensures)) (c .get2 .result) (follows c)
 
 returns : tie.Need-returns Inv-loop μ-loop
 returns c =
     let l = c .before in
-    let a = s l .args in
+    let a = start-of l .args in
     let b = now (a .plan) in
     let n : l .loop .next ≡ 0 = omega (arith, c .loop-test .left) in
     left-all b (a .x) (a .v) (a .y) (sized l .size .result) (l .loop .row) (rw n at (l .loop .inv))
     ∙ ap (λ (k : ℕ). rowOf k (pairAllowed (planOf b) (a .x) (a .v) (a .y))) (sized l .size .ensures .0)
-    ∙ sym (supports-allowed b (sizeOf (planOf b) (a .y)) (a .x) (a .v) (a .y) (s l .pre .2))
+    ∙ sym (supports-allowed b (sizeOf (planOf b) (a .y)) (a .x) (a .v) (a .y) (start-of l .pre .2))
 
 pub support-row-spec : {M : Type 1} → statement M
 support-row-spec =

@@ -27,14 +27,14 @@ same-length c = search needs
 
 returns : tie.Need-returns
 returns c =
-    let at-put : tie.After-put = search in
+    let zeroed : tie.After-put = search in
     let last-one : tie.Then1 = search in
-    let at-get : tie.After-get = search in
-    let a = at-get .before .before .before .args in
+    let count-read : tie.After-get = search in
+    let a = count-read .before .before .before .args in
     λ y e.
-    lost-last (a .i) (a .x) (a .v) y _ _ _ _ e (at-get .get .ensures .0) _
+    lost-last (a .i) (a .x) (a .v) y _ _ _ _ e (count-read .get .ensures .0) _
     (last-one .if1 .taken)
-    (at-put .put .ensures) (c .before .before .delete .ensures)
+    (zeroed .put .ensures) (c .before .before .delete .ensures)
 
 same-length-2 : tie.Need-same-length-2
 same-length-2 c = search needs
@@ -42,10 +42,10 @@ same-length-2 c = search needs
 returns-2 : tie.Need-returns-2
 returns-2 c =
     let more-left : tie.Else1 = search in
-    let at-get : tie.After-get = search in
-    let a = at-get .before .before .before .args in
+    let count-read : tie.After-get = search in
+    let a = count-read .before .before .before .args in
     λ y e.
-    lost-one (a .i) (a .x) (a .v) y _ _ _ _ e (at-get .get .ensures .0) (more-left .if1 .left)
+    lost-one (a .i) (a .x) (a .v) y _ _ _ _ e (count-read .get .ensures .0) (more-left .if1 .left)
     (c .before .before .put2 .ensures)
 
 pub lose-spec : {M : Type 1} → statement M

@@ -28,10 +28,10 @@ returns : tie.Need-returns
 unfolding bit
 returns c =
     let affected : tie.Then1 = search in
-    let at-get : tie.After-get = search in
-    let a = at-get .before .before .before .args in
+    let domain-read : tie.After-get = search in
+    let a = domain-read .before .before .before .args in
     λ sys y w e r.
-    sum-touched sys (a .i) y w (a .x) (a .v) _ _ _ (at-get .get .ensures .0) (at-get .get .ensures .1) e _ (affected .if1 .taken)
+    sum-touched sys (a .i) y w (a .x) (a .v) _ _ _ (domain-read .get .ensures .0) (domain-read .get .ensures .1) e _ (affected .if1 .taken)
     (c .before .before .lose .ensures y r)
 
 same-length-2 : tie.Need-same-length-2
@@ -40,10 +40,10 @@ same-length-2 c = search needs
 returns-2 : tie.Need-returns-2
 unfolding bit
 returns-2 c =
-    let g = c .before in
-    let a = g .before .before .before .args in
+    let domain-read = c .before in
+    let a = domain-read .before .before .before .args in
     λ sys y w e r.
-    sum-passed sys (a .i) y w (a .x) (a .v) _ _ _ (g .get .ensures .0) (g .get .ensures .1) e (c .if1 .left)
+    sum-passed sys (a .i) y w (a .x) (a .v) _ _ _ (domain-read .get .ensures .0) (domain-read .get .ensures .1) e (c .if1 .left)
 
 pub touch-spec : {M : Type 1} → statement M
 touch-spec =

@@ -23,23 +23,23 @@ use Rattle.treating.proofs.touch_variable.Tie as tie
 
 -- what is known of the two variables
 module _ (s : tie.Start) where
-  abbrev b : List ℕ
-  b = now (s .args .plan)
+  abbrev plan-of : List ℕ
+  plan-of = now (s .args .plan)
 
-  both : owns b (s .args .i) (s .args .x) && shareConstraint (planOf b) (s .args .x) (s .args .y) ≡ true
-  both = sym (own-linked b (s .args .i) (s .args .y) (s .args .x)) ∙ s .pre .3
+  both : owns plan-of (s .args .i) (s .args .x) && shareConstraint (planOf plan-of) (s .args .x) (s .args .y) ≡ true
+  both = sym (own-linked plan-of (s .args .i) (s .args .y) (s .args .x)) ∙ s .pre .3
 
-  owned : owns b (s .args .i) (s .args .x) ≡ true
-  owned = and-left (owns b (s .args .i) (s .args .x)) (shareConstraint (planOf b) (s .args .x) (s .args .y)) both
+  owned : owns plan-of (s .args .i) (s .args .x) ≡ true
+  owned = and-left (owns plan-of (s .args .i) (s .args .x)) (shareConstraint (planOf plan-of) (s .args .x) (s .args .y)) both
 
-  linked : shareConstraint (planOf b) (s .args .x) (s .args .y) ≡ true
-  linked = and-right (owns b (s .args .i) (s .args .x)) (shareConstraint (planOf b) (s .args .x) (s .args .y)) both
+  linked : shareConstraint (planOf plan-of) (s .args .x) (s .args .y) ≡ true
+  linked = and-right (owns plan-of (s .args .i) (s .args .x)) (shareConstraint (planOf plan-of) (s .args .x) (s .args .y)) both
 
-  linked-too : shareConstraint (planOf b) (s .args .y) (s .args .x) ≡ true
-  linked-too = linked-symmetric (planOf b) (s .args .y) (s .args .x) ∙ linked
+  linked-too : shareConstraint (planOf plan-of) (s .args .y) (s .args .x) ≡ true
+  linked-too = linked-symmetric (planOf plan-of) (s .args .y) (s .args .x) ∙ linked
 
-  known : (s .args .x < variableCount b) × (s .args .y < variableCount b) × Numbered (memOf (now (s .args .cells))) (s .args .x) (s .args .y)
-  known = numbered b (s .pre .0 .sound) _ (s .pre .0 .index) (s .args .x) (s .args .y) linked
+  known : (s .args .x < variableCount plan-of) × (s .args .y < variableCount plan-of) × Numbered (memOf (now (s .args .cells))) (s .args .x) (s .args .y)
+  known = numbered plan-of (s .pre .0 .sound) _ (s .pre .0 .index) (s .args .x) (s .args .y) linked
 
 size-requires : tie.Need-size-requires
 size-requires c κs =
@@ -54,7 +54,7 @@ support-row-requires c κs =
 counter-row-requires : tie.Need-counter-row-requires
 counter-row-requires c κs =
     let start : tie.Start = search in
-    let few = few-sections (b start) (start .pre .0 .sound) in
+    let few = few-sections (plan-of start) (start .pre .0 .sound) in
     (start .pre .0 .long, omega (arith, known start .0), omega (arith, known start .1), known start .2)
 
 touch-values-requires : tie.Need-touch-values-requires
@@ -62,7 +62,7 @@ touch-values-requires c κs =
     let row-found = c .before in
     let sized : tie.After-size = search in
     let start : tie.Start = search in
-    let few = few-sections (b start) (start .pre .0 .sound) in
+    let few = few-sections (plan-of start) (start .pre .0 .sound) in
     omega (arith, known start .0, sized .size .ensures, row-found .counter-row .ensures)
 
 same-length : tie.Need-same-length
@@ -76,11 +76,11 @@ returns c =
     let sized : tie.After-size = search in
     let start : tie.Start = search in
     let a = start .args in
-    let sys = systemAt (b start) in
+    let sys = systemAt (plan-of start) in
     variable-touched sys (a .i) (a .y) (a .w) (a .x) _ _ (sized .size .result) (owned start) (linked start)
-    (sized .size .ensures .0 ∙ size-is (b start) (a .x))
+    (sized .size .ensures .0 ∙ size-is (plan-of start) (a .x))
     (c .before .before .touch-values .ensures sys (a .y) (a .w)
-    (supported (b start) _ (a .y) (a .w) (a .x) _ _ _ (linked-too start) (sized .size .ensures .0) (supports-read .support-row .ensures)
+    (supported (plan-of start) _ (a .y) (a .w) (a .x) _ _ _ (linked-too start) (sized .size .ensures .0) (supports-read .support-row .ensures)
     (row-found .counter-row .ensures .0)))
 
 pub touch-variable-spec : {M : Type 1} → statement M

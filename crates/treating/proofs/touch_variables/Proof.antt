@@ -47,26 +47,26 @@ loop-holds c =
 
 -- the variable that the chain has come to
 module _ (t : tie.In-loop Inv-loop μ-loop) where
-  abbrev l : tie.At-loop Inv-loop μ-loop
-  l = t .before
+  abbrev loop-of : tie.At-loop Inv-loop μ-loop
+  loop-of = t .before
 
-  abbrev s : tie.Start Inv-loop μ-loop
-  s = let led = l .before in led .before .before .before .before
+  abbrev start-of : tie.Start Inv-loop μ-loop
+  start-of = let led = loop-of .before in led .before .before .before .before
 
-  abbrev b : List ℕ
-  b = now (s .args .plan)
+  abbrev plan-of : List ℕ
+  plan-of = now (start-of .args .plan)
 
-  abbrev x : ℕ
-  x = l .loop .next - 1
+  abbrev variable-of : ℕ
+  variable-of = loop-of .loop .next - 1
 
-  here : l .loop .next ≡ suc x
+  here : loop-of .loop .next ≡ suc variable-of
   here = omega (arith, t .loop-test .taken)
 
-  inside : x < variableCount b
-  inside = l .loop .inv .2 .inside x here
+  inside : variable-of < variableCount plan-of
+  inside = loop-of .loop .inv .2 .inside variable-of here
 
-  mine : ownLinked b (s .args .i) (s .args .y) x ≡ true
-  mine = l .loop .inv .2 .mine x here
+  mine : ownLinked plan-of (start-of .args .i) (start-of .args .y) variable-of ≡ true
+  mine = loop-of .loop .inv .2 .mine variable-of here
 
 sub-touch-variable : tie.Need-sub-touch-variable Inv-loop μ-loop
 sub-touch-variable c = omega (arith, here (c .before))
@@ -74,7 +74,7 @@ sub-touch-variable c = omega (arith, here (c .before))
 touch-variable-requires : tie.Need-touch-variable-requires Inv-loop μ-loop
 touch-variable-requires c κs =
     let t = c .before in
-    (l t .loop .inv .0, s t .pre .1, s t .pre .2, mine t)
+    (loop-of t .loop .inv .0, start-of t .pre .1, start-of t .pre .2, mine t)
 
 sub-get : tie.Need-sub-get Inv-loop μ-loop
 sub-get c =
@@ -83,56 +83,59 @@ sub-get c =
 
 -- when it is done, the index is as it was
 module _ (v : tie.After-touch-variable Inv-loop μ-loop) where
-  abbrev t : tie.In-loop Inv-loop μ-loop
-  t = v .before .before
+  abbrev in-loop-of : tie.In-loop Inv-loop μ-loop
+  in-loop-of = v .before .before
 
-  same-size : length (v .touch-variable .last .1 .0) ≡ length (l t .loop .cells)
+  same-size : length (v .touch-variable .last .1 .0) ≡ length (loop-of in-loop-of .loop .cells)
   same-size = v .touch-variable .kept .1 .0
 
-  ready : Ready (b t) (v .touch-variable .last .1 .0)
+  ready : Ready (plan-of in-loop-of) (v .touch-variable .last .1 .0)
   ready =
-      let a = s t .args in
-      ready-kept (b t) (l t .loop .cells) _ (l t .loop .inv .0) same-size (v .touch-variable .ensures)
-      (touch-variable-kept (systemAt (b t)) (a .i) (a .y) (a .w) (x t) _)
+      let t = in-loop-of in
+      let a = start-of t .args in
+      ready-kept (plan-of t) (loop-of t .loop .cells) _ (loop-of t .loop .inv .0) same-size (v .touch-variable .ensures)
+      (touch-variable-kept (systemAt (plan-of t)) (a .i) (a .y) (a .w) (variable-of t) _)
 
 get-requires-2 : tie.Need-get-requires-2 Inv-loop μ-loop
 get-requires-2 c κs =
     let v : tie.After-touch-variable Inv-loop μ-loop = search in
-    let s = s (t v) in
+    let t = in-loop-of v in
+    let s = start-of t in
     may-get _ _ _ refl _
-    (omega (arith, ready v .long, inside (t v), s .pre .2 .variable, few-sections (now (s .args .plan)) (s .pre .0 .sound)))
+    (omega (arith, ready v .long, inside t, s .pre .2 .variable, few-sections (now (s .args .plan)) (s .pre .0 .sound)))
 
 -- what the chain goes on with
 abbrev touched : tie.After-get2 Inv-loop μ-loop → tie.After-touch-variable Inv-loop μ-loop
 touched c = c .before .before .before .before
 
-follows : (c : tie.After-get2 Inv-loop μ-loop) → let t = t (touched c) in
-    c .get2 .result ≡ nextOwn (b t) (s t .args .i) (s t .args .y) (variableCount (b t) - suc (x t))
+follows : (c : tie.After-get2 Inv-loop μ-loop) → let t = in-loop-of (touched c) in
+    c .get2 .result ≡ nextOwn (plan-of t) (start-of t .args .i) (start-of t .args .y) (variableCount (plan-of t) - suc (variable-of t))
 follows c =
     let v = touched c in
-    let s = s (t v) in
+    let t = in-loop-of v in
+    let s = start-of t in
     c .get2 .ensures .0
-    ∙ ready v .index .follow (s .args .i) (s .pre .1) (x (t v)) (s .args .y) (inside (t v)) (s .pre .2 .variable) (mine (t v))
+    ∙ ready v .index .follow (s .args .i) (s .pre .1) (variable-of t) (s .args .y) (inside t) (s .pre .2 .variable) (mine t)
 
 loop-less : tie.Need-loop-less Inv-loop μ-loop
 loop-less c =
-    let t = t (touched c) in
-    let a = s t .args in
+    let t = in-loop-of (touched c) in
+    let a = start-of t .args in
     omega (
       arith,
-      chain-falls (b t) (a .i) (a .y) (x t) (c .get2 .result) (inside t) (follows c),
-      ap (chainLeft (variableCount (b t))) (here t),
+      chain-falls (plan-of t) (a .i) (a .y) (variable-of t) (c .get2 .result) (inside t) (follows c),
+      ap (chainLeft (variableCount (plan-of t))) (here t),
     )
 
 loop-again : tie.Need-loop-again Inv-loop μ-loop
 loop-again c =
     let v = touched c in
-    let t = t v in
-    let a = s t .args in
-    let inv = l t .loop .inv in (
+    let t = in-loop-of v in
+    let a = start-of t .args in
+    let inv = loop-of t .loop .inv in (
       ready v,
       same-size v ∙ inv .1,
-      reached-next (b t) (a .i) (a .y) (a .w) _ _ _ (x t) (c .get2 .result) (inside t) (inv .2 .before (x t) (here t))
+      reached-next (plan-of t) (a .i) (a .y) (a .w) _ _ _ (variable-of t) (c .get2 .result) (inside t) (inv .2 .before (variable-of t) (here t))
           (v .touch-variable .ensures) (follows c),
     )
 

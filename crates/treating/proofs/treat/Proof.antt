@@ -41,19 +41,32 @@ add-put c = search needs
 put-requires : tie.Need-put-requires
 put-requires c κs = search needs
 
+-- what was read before the head moved on
+module _ (moved : tie.After-put) where
+  abbrev label-read : tie.After-get3
+  label-read = moved .before .before
+
+  abbrev untreated : tie.Else1
+  untreated = label-read .before .before .before
+
+  abbrev tail-read : tie.After-get2
+  tail-read = untreated .before
+
+  abbrev head-read : tie.After-get
+  head-read = tail-read .before .before
+
+  abbrev start-of : tie.Start
+  start-of = head-read .before .before .before .before
+
 touch-variables-requires : tie.Need-touch-variables-requires
 touch-variables-requires c κs =
-    let at-put : tie.After-put = search in
-    let at-get3 : tie.After-get3 = search in
-    let untreated : tie.Else1 = search in
-    let at-get2 : tie.After-get2 = search in
-    let at-get : tie.After-get = search in
-    let start : tie.Start = search in (
-      ready-kept (now (start .args .plan)) (now (start .args .cells)) _ (start .pre .0) (at-put .put .kept .0) (at-put .put .ensures)
+    let moved : tie.After-put = search in
+    let start = start-of moved in (
+      ready-kept (now (start .args .plan)) (now (start .args .cells)) _ (start .pre .0) (moved .put .kept .0) (moved .put .ensures)
           (kept-stored WORKERS (start .args .i) HEAD _ (omega arith) kept-same),
       start .pre .1,
-      head-loaded (now (start .args .plan)) (start .args .i) (memOf (now (start .args .cells))) (at-get .get .ensures .0) (at-get2 .get2 .ensures .0)
-          (untreated .if1 .left) (at-get3 .get3 .ensures .0) (start .pre .2),
+      head-loaded (now (start .args .plan)) (start .args .i) (memOf (now (start .args .cells))) (head-read moved .get .ensures .0)
+          (tail-read moved .get2 .ensures .0) (untreated moved .if1 .left) (label-read moved .get3 .ensures .0) (start .pre .2),
     )
 
 same-length-3 : tie.Need-same-length-3
@@ -62,20 +75,15 @@ same-length-3 c = search needs
 returns-3 : tie.Need-returns-3
 returns-3 c =
     let touched : tie.After-touch-variables = search in
-    let at-put : tie.After-put = search in
-    let at-get3 : tie.After-get3 = search in
-    let untreated : tie.Else1 = search in
-    let at-get2 : tie.After-get2 = search in
-    let at-get : tie.After-get = search in
-    let start : tie.Start = search in
-    let a = start .args in
+    let moved : tie.After-put = search in
+    let a = start-of moved .args in
     let sys = systemAt (now (a .plan)) in
     acts _ _ _ _
-    (treat-goes sys (a .i) _ (at-get .get .ensures .0) (at-get3 .get3 .ensures .0) (record {
-      untreated = omega (arith, at-get .get .ensures .0, at-get2 .get2 .ensures .0, untreated .if1 .left);
-      head-room = omega (arith, at-get .get .ensures .0, at-get3 .before .before .if2 .left);
+    (treat-goes sys (a .i) _ (head-read moved .get .ensures .0) (label-read moved .get3 .ensures .0) (record {
+      untreated = omega (arith, head-read moved .get .ensures .0, tail-read moved .get2 .ensures .0, untreated moved .if1 .left);
+      head-room = omega (arith, head-read moved .get .ensures .0, label-read moved .before .before .if2 .left);
     }))
-    (touched .touch-variables .ensures ∙ ap (touchVariablesM sys (a .i) _ _) (at-put .put .ensures))
+    (touched .touch-variables .ensures ∙ ap (touchVariablesM sys (a .i) _ _) (moved .put .ensures))
 
 pub treat-spec : {M : Type 1} → statement M
 treat-spec =

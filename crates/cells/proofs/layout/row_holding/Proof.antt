@@ -34,20 +34,20 @@ row-if-requires c κs = omega arith
 
 -- after a value: its place in the row
 module _ (c : tie.After-row-if Inv-loop μ-loop) where
-  abbrev l : tie.At-loop Inv-loop μ-loop
-  l = c .before .before .before
+  abbrev loop-of : tie.At-loop Inv-loop μ-loop
+  loop-of = c .before .before .before
 
   abbrev test : ℕ → Bool
-  test w = let a = l .before .before .args in eqb (memOf (now (a .cells)) (a .g .id) (a .i) w) (a .c)
+  test w = let a = loop-of .before .before .args in eqb (memOf (now (a .cells)) (a .g .id) (a .i) w) (a .c)
 
-  longer : l .loop .row + c .row-if .result ≡ rowOf (l .loop .v + 1) test
+  longer : loop-of .loop .row + c .row-if .result ≡ rowOf (loop-of .loop .v + 1) test
   longer =
-      row-more (l .loop .v) (l .loop .row) (c .row-if .result) test (l .loop .inv .1)
+      row-more (loop-of .loop .v) (loop-of .loop .row) (c .row-if .result) test (loop-of .loop .inv .1)
       (c .row-if .ensures
-      ∙ ap (λ (k : ℕ). cond (eqb k (l .before .before .args .c)) (2 ^ l .loop .v) 0) (c .before .get .ensures .0))
+      ∙ ap (λ (k : ℕ). cond (eqb k (loop-of .before .before .args .c)) (2 ^ loop-of .loop .v) 0) (c .before .get .ensures .0))
 
 add-row : tie.Need-add-row Inv-loop μ-loop
-add-row c = omega (arith, longer c, row-low (l c .loop .v + 1) (test c) (omega arith))
+add-row c = omega (arith, longer c, row-low (loop-of c .loop .v + 1) (test c) (omega arith))
 
 add-v : tie.Need-add-v Inv-loop μ-loop
 add-v c = omega arith

@@ -1,4 +1,4 @@
--- `cells::lists::copy` copies labels of a log to a work list. The loop's invariant: as many as were passed are copied. The
+-- `cells::queues::copy` copies labels of a log to a work list. The loop's invariant: as many as were passed are copied. The
 -- measure is what is left. Assumes nothing.
 use Prim.Native.Nat.{ℕ, _-_}
 use mathlib.Core.Path.{refl, _∙_, ap}
@@ -37,12 +37,12 @@ loop-less c = omega arith
 
 loop-again : tie.Need-loop-again Inv-loop μ-loop
 loop-again c =
-    let at-push = c .before .before in
-    let at-get = at-push .before .before in
-    let at-loop = at-get .before .before .before in
-    done-more (at-loop .loop .inv) (omega arith) (at-push .push .kept .0)
-    (at-push .push .ensures
-    ∙ ap (λ (l : ℕ). pushM WORK TAIL (at-loop .before .before .args .i) l (memOf (at-loop .loop .cells))) (at-get .get .ensures .0))
+    let label-pushed = c .before .before in
+    let label-read = label-pushed .before .before in
+    let at-loop = label-read .before .before .before in
+    done-more (at-loop .loop .inv) (omega arith) (label-pushed .push .kept .0)
+    (label-pushed .push .ensures
+    ∙ ap (λ (l : ℕ). pushM WORK TAIL (at-loop .before .before .args .i) l (memOf (at-loop .loop .cells))) (label-read .get .ensures .0))
 
 same-length : tie.Need-same-length Inv-loop μ-loop
 same-length c = omega arith

@@ -1,4 +1,4 @@
--- `cells::lists::delete` takes a label out of its domain, to the end of the log and of the work list. Assumes nothing.
+-- `cells::queues::delete` takes a label out of its domain, to the end of the log and of the work list. Assumes nothing.
 use mathlib.Core.Path.{refl}
 use native.Mathlib.Omega.{arith}
 use borrow.Author.Needs.{needs}
@@ -27,12 +27,12 @@ same-length c = search needs
 
 returns : tie.Need-returns
 returns c =
-    let at-push2 : tie.After-push2 = search in
-    let at-push : tie.After-push = search in
-    let at-put : tie.After-put = search in
+    let work-listed : tie.After-push2 = search in
+    let logged : tie.After-push = search in
+    let domain-cleared : tie.After-put = search in
     let start : tie.Start = search in
-    deleted (start .args .i) (start .args .x) (start .args .v) _ _ _ _ (at-put .put .ensures)
-    (at-push .push .ensures) (at-push2 .push2 .ensures)
+    deleted (start .args .i) (start .args .x) (start .args .v) _ _ _ _ (domain-cleared .put .ensures)
+    (logged .push .ensures) (work-listed .push2 .ensures)
 
 pub delete-spec : {M : Type 1} → statement M
 delete-spec =

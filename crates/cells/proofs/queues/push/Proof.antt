@@ -1,4 +1,4 @@
--- `cells::lists::push` puts a number at the end of a row's list. Assumes nothing.
+-- `cells::queues::push` puts a number at the end of a row's list. Assumes nothing.
 use mathlib.Core.Path.{refl}
 use native.Mathlib.Omega.{arith}
 use borrow.Author.Needs.{needs}
@@ -26,23 +26,23 @@ same-length c = search needs
 
 returns : tie.Need-returns
 returns c =
-    let at-put2 : tie.After-put2 = search in
-    let at-put : tie.After-put = search in
-    let at-if1 : tie.Then1 = search in
-    let at-get : tie.After-get = search in
+    let end-moved : tie.After-put2 = search in
+    let number-put : tie.After-put = search in
+    let room : tie.Then1 = search in
+    let end-read : tie.After-get = search in
     let start : tie.Start = search in
     pushed (start .args .g .id) (start .args .col) (start .args .i) (start .args .c) _ _
-    (at-get .get .ensures .0) _ _ (at-if1 .if1 .taken) (at-put .put .ensures) (at-put2 .put2 .ensures)
+    (end-read .get .ensures .0) _ _ (room .if1 .taken) (number-put .put .ensures) (end-moved .put2 .ensures)
 
 same-length-2 : tie.Need-same-length-2
 same-length-2 c = search needs
 
 returns-2 : tie.Need-returns-2
 returns-2 c =
-    let at-get = c .before in
+    let end-read = c .before in
     let start : tie.Start = search in
     unpushed (start .args .g .id) (start .args .col) (start .args .i) (start .args .c) _ _
-    (at-get .get .ensures .0) (c .if1 .left)
+    (end-read .get .ensures .0) (c .if1 .left)
 
 pub push-spec : {M : Type 1} → statement M
 push-spec =

@@ -1,6 +1,6 @@
 -- `engine::run::advance` plays one turn more. Assumes nothing.
 use mathlib.Core.Path.{refl, sym, ap}
-use Prim.Native.Nat.{ℕ, _+_}
+use Prim.Native.Nat.{ℕ, _+_, _<_}
 use native.Mathlib.Omega.{arith}
 use lib.Dec.{eqb}
 use denote.Ref.{now}
@@ -11,6 +11,11 @@ use Rattle.engine.proofs.Working.{running-by, worked-plays}
 use borrow.Author.Needs.{needs}
 use Rattle.engine.proofs.run.advance.Statement.{statement}
 use Rattle.engine.proofs.run.advance.Tie as tie
+
+-- there is room to count one turn more
+module _ (s : tie.Start) where
+  room : (s .args .g .changes < 65536) × (s .args .g .sends < 65536) × (s .args .g .polls < 65536)
+  room = going-small (now (s .args .plan)) (now (s .args .cells)) (s .args .g) (s .pre .0)
 
 control-requires : tie.Need-control-requires
 control-requires c κs =
@@ -41,8 +46,7 @@ add-t14 : tie.Need-add-t14
 add-t14 c =
     let worked : tie.After-work-turn = search in
     let start : tie.Start = search in
-    let room = going-small (now (start .args .plan)) (now (start .args .cells)) (start .args .g) (start .pre .0) in
-    omega (arith, room .0, worked .work-turn .ensures .1)
+    omega (arith, room start .0, worked .work-turn .ensures .1)
 
 if-action-requires : tie.Need-if-action-requires
 if-action-requires c κs = search needs
@@ -52,10 +56,9 @@ add-t16 c =
     let counted = c .before in
     let worked : tie.After-work-turn = search in
     let start : tie.Start = search in
-    let room = going-small (now (start .args .plan)) (now (start .args .cells)) (start .args .g) (start .pre .0) in
     omega (
       arith,
-      room .1,
+      room start .1,
       worked .work-turn .ensures .1,
       part-of (eqb (start .args .action) sendAction) (worked .work-turn .result) (counted .if-action .result) (counted .if-action .ensures),
     )

@@ -1,5 +1,5 @@
 -- `engine::run::control` plays one turn more of the controller. Assumes nothing.
-use Prim.Native.Nat.{ℕ, _+_}
+use Prim.Native.Nat.{ℕ, _+_, _<_}
 use mathlib.Core.Path.{refl, ap}
 use native.Mathlib.Omega.{arith}
 use lib.Dec.{eqb}
@@ -12,6 +12,11 @@ use borrow.Author.Needs.{needs}
 use Rattle.engine.proofs.run.control.Statement.{statement}
 use Rattle.engine.proofs.run.control.Tie as tie
 
+-- there is room to count one turn more
+module _ (s : tie.Start) where
+  room : (s .args .g .changes < 65536) × (s .args .g .sends < 65536) × (s .args .g .polls < 65536)
+  room = going-small (now (s .args .plan)) (now (s .args .cells)) (s .args .g) (s .pre .0)
+
 control-turn-requires : tie.Need-control-turn-requires
 control-turn-requires c κs =
     let start : tie.Start = search in
@@ -21,8 +26,7 @@ add-t12 : tie.Need-add-t12
 add-t12 c =
     let played : tie.After-control-turn = search in
     let start : tie.Start = search in
-    let room = going-small (now (start .args .plan)) (now (start .args .cells)) (start .args .g) (start .pre .0) in
-    omega (arith, room .0, acts-few (played .control-turn .ensures))
+    omega (arith, room start .0, acts-few (played .control-turn .ensures))
 
 if-action-requires : tie.Need-if-action-requires
 if-action-requires c κs = search needs
@@ -32,10 +36,9 @@ add-t14 c =
     let counted = c .before in
     let played : tie.After-control-turn = search in
     let start : tie.Start = search in
-    let room = going-small (now (start .args .plan)) (now (start .args .cells)) (start .args .g) (start .pre .0) in
     omega (
       arith,
-      room .2,
+      room start .2,
       acts-few (played .control-turn .ensures),
       part-of (eqb (start .args .d) pollAction) (played .control-turn .result .changed) (counted .if-action .result)
           (counted .if-action .ensures),

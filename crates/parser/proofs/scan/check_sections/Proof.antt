@@ -1,14 +1,16 @@
 -- `parser::scan::check_sections` gives the first fault of the sections in turn, or what follows them.
 -- Invariant: the sections before k passed, and section k starts at `at`. Assumes nothing.
-use Prim.Native.Nat.{_+_, _-_, _≤_}
+use Prim.Native.Nat.{ℕ, _+_, _-_, _≤_}
 use borrow.Author.Needs.{needs}
+use mathlib.Core.List.{List}
 use mathlib.Core.Path.{_≡_, refl, _∙_, ap}
 use native.Mathlib.Nat.{not-suc-le-zero}
 use native.Mathlib.Omega.{arith}
 use lib.ListN.{length, length-set}
 use Rattle.sections.specs.Known.{startCount}
 use Rattle.format.specs.Format.{sectionStart, sectionCount}
-use Rattle.parser.proofs.Scanned.{variables-known, next-within, next-start, passed-more, fault-answer, end-answer, verdict-passes, verdict-fails}
+use Rattle.parser.proofs.Scanned.{variables-known, next-within, next-start, passed-more, fault-answer, end-answer}
+use Rattle.faults.proofs.Checks.{verdict-passes, verdict-fails}
 use Rattle.faults.specs.CheckList.{firstFault}
 use Rattle.plan.specs.Check.{sectionChecks}
 use Rattle.plan.specs.Decode.{planEnd}
@@ -23,10 +25,19 @@ Inv-loop b count starts₀ at₀ k₀ starts at k =
 abbrev μ-loop : tie.MeasureT-loop
 μ-loop b count starts₀ at₀ k₀ starts at k = count - k
 
--- the loop goes over as many sections as the head calls for
-ended : (l : tie.At-loop Inv-loop μ-loop) → l .before .before .section-count .result ≤ l .loop .k
-    → l .loop .k ≡ sectionCount (l .before .before .before .before .args .plan .now)
-ended l h = omega (arith, l .before .before .section-count .ensures .0)
+module _ (at-loop : tie.At-loop Inv-loop μ-loop) where
+  abbrev start-of : tie.Start Inv-loop μ-loop
+  start-of = at-loop .before .before .before .before
+
+  abbrev plan-of : List ℕ
+  plan-of = start-of .args .plan .now
+
+  counted : at-loop .before .before .section-count .result ≡ sectionCount plan-of
+  counted = at-loop .before .before .section-count .ensures .0
+
+  -- the loop goes over as many sections as the head calls for
+  ended : at-loop .before .before .section-count .result ≤ at-loop .loop .k → at-loop .loop .k ≡ sectionCount plan-of
+  ended h = omega (arith, counted)
 
 section-count-requires : tie.Need-section-count-requires Inv-loop μ-loop
 section-count-requires c κs = search needs
@@ -42,8 +53,8 @@ loop-holds c =
 check-section-requires : tie.Need-check-section-requires Inv-loop μ-loop
 check-section-requires c κs =
     let at-loop : tie.At-loop Inv-loop μ-loop = search in
-    let start : tie.Start Inv-loop μ-loop = search in
-    (at-loop .loop .inv .0, at-loop .loop .inv .2, at-loop .loop .inv .3, start .pre)
+    let inv = at-loop .loop .inv in
+    (inv .0, inv .2, inv .3, start-of at-loop .pre)
 
 enum-known-verdict : tie.Need-enum-known-verdict Inv-loop μ-loop
 enum-known-verdict c = search needs
@@ -56,14 +67,12 @@ returns c =
     let fault-told : tie.After-verdict Inv-loop μ-loop = search in
     let checked : tie.After-check-section Inv-loop μ-loop = search in
     let at-loop : tie.At-loop Inv-loop μ-loop = search in
-    let start : tie.Start Inv-loop μ-loop = search in
     let l = at-loop .loop in
-    let b = start .args .plan .now in
+    let b = plan-of at-loop in
     let fails = verdict-fails (firstFault (sectionChecks b (l .k))) (checked .check-section .result) _ (checked .check-section .ensures)
     (fault-told .verdict .given .1) in
     c .declined .ensures
-    ∙ fault-answer b (l .starts) (l .k) (l .inv .0) _ (l .at) _ (at-loop .before .before .section-count .ensures .0) (omega arith)
-    (l .inv .2) fails
+    ∙ fault-answer b (l .starts) (l .k) (l .inv .0) _ (l .at) _ (counted at-loop) (omega arith) (l .inv .2) fails
 
 enum-told : tie.Need-enum-told Inv-loop μ-loop
 enum-told c = search needs
@@ -85,9 +94,8 @@ loop-again c =
     let pass-told : tie.After-enum-told Inv-loop μ-loop = search in
     let checked : tie.After-check-section Inv-loop μ-loop = search in
     let at-loop : tie.At-loop Inv-loop μ-loop = search in
-    let start : tie.Start Inv-loop μ-loop = search in
     let l = at-loop .loop in
-    let b = start .args .plan .now in
+    let b = plan-of at-loop in
     let passes = verdict-passes (firstFault (sectionChecks b (l .k))) (checked .check-section .result) (checked .check-section .ensures)
     (pass-told .enum-told .given .1) in
     let more = passed-more b (l .starts) (l .k) (l .inv .0) (l .at) (l .inv .1) (l .inv .2) passes in
@@ -95,7 +103,7 @@ loop-again c =
       rw (c .before .keep-start .ensures) more,
       rw (c .before .keep-start .ensures, length-set) (l .inv .1),
       next,
-      rw next (next-within b _ (l .k + 1) more (start .pre)),
+      rw next (next-within b _ (l .k + 1) more (start-of at-loop .pre)),
       omega arith,
     )
 
@@ -103,20 +111,18 @@ check-end-requires : tie.Need-check-end-requires Inv-loop μ-loop
 unfolding planEnd
 check-end-requires c κs =
     let at-loop : tie.At-loop Inv-loop μ-loop = search in
-    let start : tie.Start Inv-loop μ-loop = search in
     let l = at-loop .loop in
-    let b = start .args .plan .now in (
-      variables-known b (l .starts) (l .k) (l .inv .0) (start .pre) (omega (arith, at-loop .before .before .section-count .ensures .0)),
+    let b = plan-of at-loop in (
+      variables-known b (l .starts) (l .k) (l .inv .0) (start-of at-loop .pre) (omega (arith, counted at-loop)),
       l .inv .2 ∙ ap (sectionStart b) (ended at-loop (c .before .loop-test .left)),
     )
 
 returns-2 : tie.Need-returns-2 Inv-loop μ-loop
 returns-2 c =
     let at-loop : tie.At-loop Inv-loop μ-loop = search in
-    let start : tie.Start Inv-loop μ-loop = search in
     let l = at-loop .loop in
     c .check-end .ensures
-    ∙ end-answer (start .args .plan .now) (l .starts) (l .k) (l .inv .0) (ended at-loop (c .before .before .loop-test .left))
+    ∙ end-answer (plan-of at-loop) (l .starts) (l .k) (l .inv .0) (ended at-loop (c .before .before .loop-test .left))
 
 pub check-sections-spec : {M : Type 1} → statement M
 check-sections-spec =

@@ -1,4 +1,4 @@
--- `ends::finish` ends a run. Assumes nothing.
+-- `runs::ends::finish` ends a run. Assumes nothing.
 use denote.Ref.{now}
 use Rattle.runs.proofs.Finishing.{finishes}
 use Rattle.refinement.proofs.Underway.{going-ready}

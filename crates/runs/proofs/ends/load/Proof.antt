@@ -1,4 +1,4 @@
--- `ends::load` loads an accepted plan. Assumes nothing.
+-- `runs::ends::load` loads an accepted plan. Assumes nothing.
 use borrow.Author.Needs.{needs}
 use Rattle.runs.proofs.Starting.{begins}
 use Rattle.runs.proofs.ends.load.Statement.{statement}

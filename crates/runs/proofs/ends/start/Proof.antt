@@ -1,4 +1,4 @@
--- `ends::start` loads the plan. Assumes nothing.
+-- `runs::ends::start` loads the plan. Assumes nothing.
 use native.Mathlib.Omega.{arith}
 use denote.Ref.{now}
 use Rattle.runs.proofs.Starting.{start-ready, start-made}

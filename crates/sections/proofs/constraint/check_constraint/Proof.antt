@@ -1,4 +1,4 @@
--- `relations::check_constraint` gives the first fault of a constraint's section, in the order of its checks. Assumes nothing.
+-- `sections::constraint::check_constraint` gives the first fault of a constraint's section, in the order of its checks. Assumes nothing.
 use borrow.Author.Needs.{needs}
 use borrow.Author.Tests.{le-leb, lt-leb, eq-eqb, ne-eqb}
 use mathlib.Core.Bool.{true}

@@ -1,4 +1,4 @@
--- `relations::constraint_length` gives the length that a constraint's content calls for. Assumes nothing.
+-- `sections::constraint::constraint_length` gives the length that a constraint's content calls for. Assumes nothing.
 use borrow.Author.Tests.{eq-eqb, ne-eqb}
 use native.Mathlib.Omega.{arith}
 use Rattle.plan.proofs.InOrder.{ordered}

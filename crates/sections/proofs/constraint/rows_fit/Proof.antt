@@ -1,4 +1,4 @@
--- `relations::rows_fit` says whether all rows of a table are below 2 ^ width.
+-- `sections::constraint::rows_fit` says whether all rows of a table are below 2 ^ width.
 -- Invariant: those before `v` are. Assumes nothing.
 use Prim.Native.Nat.{ℕ, _+_, _-_, _^_, _<_, _≤_}
 use borrow.Author.Needs.{needs}

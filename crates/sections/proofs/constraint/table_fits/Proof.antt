@@ -1,7 +1,7 @@
--- `relations::table_fits` says whether each row of a table fits the second variable's count. Assumes nothing.
+-- `sections::constraint::table_fits` says whether each row of a table fits the second variable's count. Assumes nothing.
 use borrow.Author.Tests.{eq-eqb, ne-eqb}
 use native.Mathlib.Omega.{arith}
-use Rattle.plan.proofs.InOrder.{ordered}
+use Rattle.plan.proofs.InOrder.{InOrder, ordered}
 use Rattle.plan.specs.Check.{tableFits}
 use borrow.Author.Needs.{needs}
 use Rattle.sections.proofs.constraint.table_fits.Statement.{statement}
@@ -17,11 +17,14 @@ returns c = rw (← c .before .kind .ensures .0, ne-eqb _ 0 (c .if1 .taken))
 first-requires : tie.Need-first-requires
 first-requires c κs = search needs
 
+-- the numbers of both variables are in order
+order : (s : tie.Start) → InOrder (s .args .plan .now) (s .args .at)
+order s = ordered (s .args .plan .now) (s .args .at) (s .pre .2)
+
 numbered-size-requires : tie.Need-numbered-size-requires
 numbered-size-requires c κs =
     let start : tie.Start = search in
-    let o = ordered (start .args .plan .now) (start .args .at) (start .pre .2) in
-    (start .pre .0, omega (arith, o, c .first .ensures .0), omega (arith, o, c .first .ensures .0))
+    (start .pre .0, omega (arith, order start, c .first .ensures .0), omega (arith, order start, c .first .ensures .0))
 
 second-requires : tie.Need-second-requires
 second-requires c κs = search needs
@@ -29,8 +32,7 @@ second-requires c κs = search needs
 numbered-size-requires-2 : tie.Need-numbered-size-requires-2
 numbered-size-requires-2 c κs =
     let start : tie.Start = search in
-    let o = ordered (start .args .plan .now) (start .args .at) (start .pre .2) in
-    (start .pre .0, omega (arith, o, c .second .ensures .0), omega (arith, o, c .second .ensures .0))
+    (start .pre .0, omega (arith, order start, c .second .ensures .0), omega (arith, order start, c .second .ensures .0))
 
 rows-fit-requires : tie.Need-rows-fit-requires
 rows-fit-requires c κs = search needs

@@ -1,4 +1,4 @@
--- `relations::variables_in_order` says whether a constraint's variables are in range and in order. Assumes nothing.
+-- `sections::constraint::variables_in_order` says whether a constraint's variables are in range and in order. Assumes nothing.
 use borrow.Author.Tests.{le-leb, lt-leb, lt-ltb, le-ltb}
 use Rattle.plan.specs.Check.{variablesInOrder}
 use borrow.Author.Needs.{needs}

@@ -30,7 +30,7 @@ same-length c = search needs
 returns : tie.Need-returns
 unfolding declineLine declinedWord
 returns c =
-    let at-push : tie.After-push = search in
+    let at-line-end : tie.After-push = search in
     let at-place : tie.After-push-spaced2 = search in
     let at-number : tie.After-push-spaced = search in
     let at-word : tie.After-push-word = search in
@@ -38,7 +38,7 @@ returns c =
     (at-word .push-word .ensures
     then at-number .push-spaced .ensures
     then at-place .push-spaced2 .ensures
-    then at-push .push .ensures)
+    then at-line-end .push .ensures)
 
 pub push-decline-spec : {M : Type 1} → statement M
 push-decline-spec =

@@ -29,7 +29,7 @@ same-length c = search needs
 returns : tie.Need-returns
 unfolding reportLine
 returns c =
-    let at-push : tie.After-push = search in
+    let at-line-end : tie.After-push = search in
     let at-empty : tie.After-push-spaced4 = search in
     let at-polls : tie.After-push-spaced3 = search in
     let at-sends : tie.After-push-spaced2 = search in
@@ -40,7 +40,7 @@ returns c =
     then at-sends .push-spaced2 .ensures
     then at-polls .push-spaced3 .ensures
     then at-empty .push-spaced4 .ensures
-    then at-push .push .ensures
+    then at-line-end .push .ensures
 
 pub push-report-spec : {M : Type 1} → statement M
 push-report-spec =
