@@ -25,7 +25,7 @@ use Rattle.calls.proofs.check_run.Tie as tie
 
 -- the arguments, from the test of the buffers on
 abbrev start : tie.After-check-buffers → tie.Start
-start k = let lent = k .before in lent .before .before .before .before
+start k = let borrowed = k .before in borrowed .before .before .before .before
 
 -- the first fault of the run
 abbrev fault : tie.Start → Option Decline
@@ -38,29 +38,29 @@ fits e = buffers-pass _ _ _ _ (e .before .before .check-buffers .ensures) (e .en
 list-fits : (e : tie.Else1) → turnListFits (now (start (e .before .before .before .before) .args .turns)) ≡ true
 list-fits e = holds (e .before .list-fits .ensures) (e .if1 .left)
 
--- the plan is accepted
-abbrev checked : tie.After-f → tie.Else1
-checked t = t .before .before .before
+-- the turn list passes, and the plan is accepted
+abbrev list-passed : tie.After-f → tie.Else1
+list-passed t = t .before .before .before
 
-abbrev given : tie.After-f → tie.Start
-given t = start (checked t .before .before .before .before)
+abbrev arguments : tie.After-f → tie.Start
+arguments t = start (list-passed t .before .before .before .before)
 
-known : (t : tie.After-f) → let b = now (given t .args .plan) in Accepted (t .f .given .0 .0) ≡ checkOf b (planFault b)
+known : (t : tie.After-f) → let b = now (arguments t .args .plan) in Accepted (t .f .given .0 .0) ≡ checkOf b (planFault b)
 known t = sym (t .f .given .1) ∙ t .before .before .check-plan .ensures ∙ plan-check _
 
-sound : (t : tie.After-f) → planFault (now (given t .args .plan)) ≡ none
+sound : (t : tie.After-f) → planFault (now (arguments t .args .plan)) ≡ none
 sound t = no-fault _ _ _ (known t) .0
 
-workers : (t : tie.After-f) → t .f .given .0 .0 .workers ≡ workerCount (now (given t .args .plan))
+workers : (t : tie.After-f) → t .f .given .0 .0 .workers ≡ workerCount (now (arguments t .args .plan))
 workers t = its-workers _ _ _ (known t)
 
 -- the turns are tried, and what is found decides
-tried : (l : tie.After-first-bad) (o : Option Decline) → let s = given (l .before .before) in
+tried : (l : tie.After-first-bad) (o : Option Decline) → let s = arguments (l .before .before) in
     badTurn (length (now (s .args .turns)) / 2) (l .first-bad .result) ≡ o → fault s ≡ o
 tried l o e =
     let t = l .before .before in
-    fits (checked t .before .before)
-    ∙ then-plan _ _ o (list-fits (checked t)) (rw (sound t, ← workers t) (l .first-bad .ensures .1 ∙ e))
+    fits (list-passed t .before .before)
+    ∙ then-plan _ _ o (list-fits (list-passed t)) (rw (sound t, ← workers t) (l .first-bad .ensures .1 ∙ e))
 
 -- ---- the calls and the answers
 
