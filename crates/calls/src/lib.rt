@@ -1,22 +1,20 @@
 // The runs that the library delivers: the turn run and the round run. Neither asks anything of its caller. The plan check, which is
 // delivered beside them, is the parser's.
 use disac4::Answer;
+use faults::Decline;
 use faults::Fault;
 use faults::Verdict;
 use plan::Checked;
 use plan::declined;
 ghost use mathlib.Core.Path.{_≡_};
-ghost use Rattle.disac4.specs.Outcome.{Gives, lent, runFault, runOf, turnRun, roundRun};
+ghost use Rattle.disac4.specs.Outcome.{Gives, lent, inputFault, runOf, turnRun, roundRun};
 ghost use Rattle.plan.specs.Answer.{checkOf};
+ghost use Rattle.faults.specs.Fault.{decline};
 
-// The tests of a run in their order: 9, 10, 11, the plan's own, 12. Gives the first fault, or the plan's counts.
-fn check_run(plan: &[u8], turns: &[u8], work: &[u16], lists: &[u16]) -> Checked
-    ensures { λ r. ⌜ r ≡ checkOf (now (plan .entry)) (runFault (turnRun (now (plan .entry)) (now (turns .entry))) (lent (now (work .entry)) (now (lists .entry)))) ⌝ }
+// The tests of a plan and a turn list in their order: 11, the plan's own, 12. Gives the first fault, or the plan's counts.
+fn check_inputs(plan: &[u8], turns: &[u8]) -> Checked
+    ensures { λ r. ⌜ r ≡ checkOf (now (plan .entry)) (inputFault (now (plan .entry)) (now (turns .entry))) ⌝ }
 {
-    let verdict = inputs::check_buffers(work, lists);
-    if let Verdict::Fails(fault) = verdict {
-        return declined(fault, 0);
-    }
     if !inputs::list_fits(turns) {
         return declined(Fault::BadTurnList, 0);
     }
@@ -32,11 +30,25 @@ fn check_run(plan: &[u8], turns: &[u8], work: &[u16], lists: &[u16]) -> Checked
     }
 }
 
-// Plays the turns of the list on a plan, and gives the report; declines as document 01 lists.
+// The answer of a run that finds one of its buffers too short.
+fn short(fault: Fault) -> Answer
+    ensures { λ r. ⌜ r ≡ Answer.Declined (decline fault 0) ⌝ }
+{
+    Answer::Declined(Decline {
+        fault: fault,
+        place: 0,
+    })
+}
+
+// Plays the turns of the list on a plan, and gives the report; declines as document 01 lists: 9, 10, 11, the plan's own, 12.
 pub fn run_turns(plan: &[u8], turns: &[u8], work: &mut [u16], lists: &mut [u16]) -> Answer
     ensures { λ r. ⌜ Gives (runOf (turnRun (now (plan .entry)) (now (turns .entry))) (lent (now (work .entry)) (now (lists .entry)))) r (lent (now (work .exit)) (now (lists .exit))) ⌝ }
 {
-    match check_run(plan, turns, work, lists) {
+    let verdict = inputs::check_buffers(work, lists);
+    if let Verdict::Fails(fault) = verdict {
+        return short(fault);
+    }
+    match check_inputs(plan, turns) {
         Checked::Declined(d) => Answer::Declined(d),
         Checked::Accepted(f) => {
             let p = f.workers;
@@ -45,11 +57,15 @@ pub fn run_turns(plan: &[u8], turns: &[u8], work: &mut [u16], lists: &mut [u16])
     }
 }
 
-// Plays rounds on a plan until it is closed, and gives the report; declines as with an empty turn list.
+// Plays rounds on a plan until it is closed, and gives the report; declines without a turn list: 9, 10, the plan's own.
 pub fn run_round(plan: &[u8], work: &mut [u16], lists: &mut [u16]) -> Answer
     ensures { λ r. ⌜ Gives (runOf (roundRun (now (plan .entry))) (lent (now (work .entry)) (now (lists .entry)))) r (lent (now (work .exit)) (now (lists .exit))) ⌝ }
 {
-    match check_run(plan, b"", work, lists) {
+    let verdict = inputs::check_buffers(work, lists);
+    if let Verdict::Fails(fault) = verdict {
+        return short(fault);
+    }
+    match parser::check_plan(plan) {
         Checked::Declined(d) => Answer::Declined(d),
         Checked::Accepted(f) => {
             let p = f.workers;

@@ -1,11 +1,11 @@
 -- The order of a run's declines: the buffers', 11, the plan's own, 12. `by-fault` takes apart what is found. A round run declines
--- as a run with an empty turn list does.
+-- as with an empty turn list (`no-turn-list`).
 use Prim.Native.Nat.{ℕ, _/_, _<_}
 use mathlib.Core.Bool.{Bool, true, false}
 use mathlib.Core.List.{List, [], _∷_}
 use mathlib.Core.Logic.{_↔_, inl, inr, ⊎-elim}
 use mathlib.Core.Option.{Option, none, some}
-use mathlib.Core.Path.{_≡_, refl, sym, _∙_, ap}
+use mathlib.Core.Path.{_≡_, refl, sym, _∙_}
 use borrow.Author.Tests.{le-leb, lt-leb, leb-true, leb-false}
 use lib.Dec.{leb}
 use lib.ListN.{length}
@@ -20,7 +20,7 @@ use Rattle.format.specs.Format.{workerCount}
 use Rattle.faults.specs.declared.Decline.{Decline}
 use Rattle.faults.specs.declared.Fault.{Fault}
 use Rattle.faults.specs.declared.Fault.the-variants.{BadTurnList, BadTurn}
-use Rattle.disac4.specs.Outcome.{Lent, Buffer, bufferChecks, LongEnough, TooShort, inputFault, runFault, turnRun, roundRun}
+use Rattle.disac4.specs.Outcome.{Lent, Buffer, bufferChecks, LongEnough, TooShort, inputFault, runFault, turnRun}
 use Rattle.disac4.specs.Turn.{allowed, turnAt, turnListFits, turnFault, faultOf}
 
 -- ---- the buffers
@@ -85,11 +85,6 @@ no-turn-list b = go (planFault b)
     go : (o : Option Decline) → firstOf o none ≡ o
     go none = refl
     go (some d) = refl
-
--- so a round run declines as a turn run with an empty turn list does
-pub round-without-list : (b : List ℕ) (l : Lent) → runFault (roundRun b) l ≡ runFault (turnRun b []) l
-unfolding runFault
-round-without-list b l = ap (firstOf (faultAt 0 (firstFault (bufferChecks (roundRun b .buffers) l)))) (sym (no-turn-list b))
 
 -- ---- 12
 

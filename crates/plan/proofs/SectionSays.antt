@@ -1,4 +1,5 @@
--- What a section that passed its checks says, each check by a name: where a check stands in its list is known here alone.
+-- What a section that passed its checks says, each check by a name. Where a check stands in its list is known here, and to the proof of
+-- the function that makes the checks.
 use Prim.Native.Nat.{ℕ, _+_, _*_}
 use mathlib.Core.Bool.{true, not}
 use mathlib.Core.List.{List}
