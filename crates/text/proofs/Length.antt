@@ -1,4 +1,4 @@
--- How long the printed text is: a buffer of 4,096 bytes takes the whole text of an accepted plan.
+-- How long the printed text is: a buffer of `textRoom` bytes takes the whole text of an accepted plan.
 use Prim.Native.Nat.{ℕ, suc, _+_, _*_, _^_, _<_, _≤_}
 use mathlib.Core.Bool.{Bool, true, false, cond}
 use mathlib.Core.List.{List, []}
@@ -77,8 +77,12 @@ codes-length size code row h = gather-length size 6 _ (λ v k. one (bit row v) (
     one true c k = spaced-length 4 c (omega arith)
     one false c k = omega arith
 
+-- the bytes of a variable's line: its number and its owner, and a code of five digits with a space for each value
+abbrev maxLine : ℕ
+maxLine = 6 + 6 * maxValues
+
 domain-length : (number owner size row : ℕ) (code : ℕ → ℕ) → number ≤ maxVariables → owner ≤ maxWorkers → size ≤ maxValues → ((v : ℕ) → v < size → code v < 65536)
-    → length (domainLine number owner size code row) ≤ 102
+    → length (domainLine number owner size code row) ≤ maxLine
 unfolding domainLine
 domain-length number owner size row code a b d h =
     simp length-append
@@ -116,13 +120,13 @@ module _ (b lists : List ℕ) where
           bytes (at + 1),
         )
 
-    lines-length : length (variableLines (planOf b) lists) ≤ 3264
+    lines-length : length (variableLines (planOf b) lists) ≤ maxVariables * maxLine
     unfolding variableLines variableLine
     lines-length =
         omega (
           arith,
           fits .variables-high,
-          gather-length (length (planOf b .variables)) 102 (variableLine (planOf b) lists)
+          gather-length (length (planOf b .variables)) maxLine (variableLine (planOf b) lists)
               (λ x h. domain-length (suc x) (variableOf (planOf b) x .owner) (sizeOf (planOf b) x) (getD lists x 0)
               (λ v. valueOf (planOf b) x v .code) (omega (arith, fits .variables-high))
               (omega (arith, fits .workers-high, fits .each-variable x h .owner-high))
