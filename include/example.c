@@ -32,6 +32,11 @@ static uint16_t work[TINSHREW_WORK_CELLS];
 static uint16_t lists[TINSHREW_LIST_CELLS];
 
 int main(void) {
+    if (tinshrew_version() != TINSHREW_VERSION) {
+        printf("the library has version %zu, this program was made for %d\n", tinshrew_version(), TINSHREW_VERSION);
+        return 1;
+    }
+
     size_t figures[TINSHREW_CHECK_OUT];
     tinshrew_check_plan(plan, sizeof plan, figures);
     if (figures[0] != 0) {

@@ -1,22 +1,27 @@
 /* Tinshrew: strikes dishes from the lists of a plan, between kitchens.
  *
- * Three calls, for x86-64 Linux. Link target/staticlib/libtinshrew.a, which `rt staticlib tinshrew` writes.
+ * Three calls, for x86-64 Linux, and two that say which library is linked. Link target/staticlib/libtinshrew.a, which
+ * `rt staticlib tinshrew` writes.
  *
  *   tinshrew_check_plan   checks a plan
  *   tinshrew_run_turns    plays a list of turns on a plan
  *   tinshrew_run_round    plays rounds on a plan until it is closed
+ *   tinshrew_version      the version of the linked library's interface
+ *   tinshrew_cells        how many cells of a buffer the linked library needs
  *
  * docs/FORMAT.md has the bytes of a plan and of a turn list, what each turn does, and the round. A sodium rule allows a
  * pair exactly if both figures are recorded (65,535 is "not recorded") and their sum is at most the rule's limit.
  *
  * Every call ends, whatever the bytes are. The library allocates nothing and keeps nothing between calls, so
- * calls on different buffers may run at the same time.
+ * calls on different buffers may run at the same time. It calls nothing of its caller's, and of other libraries memset
+ * alone. It has no unwind information: a debugger, a profiler or a signal handler that walks the stack stops at its frames.
  *
- * Each buffer is a pointer and the number of its cells. No pointer is null, not even one to no cells. A buffer that
- * is written (work, lists, out) overlaps no other buffer of the call.
+ * Each buffer is a pointer and the number of its cells. No pointer is null, not even one to no cells: of an empty list
+ * pass the address of any byte and the length 0. In C++ the data() of an empty vector may be null; tinshrew_bytes takes
+ * care of that. A buffer that is written (work, lists, out) overlaps no other buffer of the call.
  *
- * How each call answers: it writes every cell of `out`, and returns nothing. out[0] is 0 where the call did its
- * work. Otherwise the call is declined: out[0] is the decline's number, out[1] its place, and the cells behind are 0.
+ * How each of the three calls answers: it writes every cell of `out`, and returns nothing. out[0] is 0 where the call did
+ * its work. Otherwise the call is declined: out[0] is the decline's number, out[1] its place, and the cells behind are 0.
  * A declined call changes no lent cell except those of `out`.
  */
 #ifndef TINSHREW_H
@@ -29,13 +34,27 @@
 extern "C" {
 #endif
 
+/* The version of this interface. It goes up with each change of a signature, of a number or of what a call needs. Where
+ * tinshrew_version() gives another number, the linked library goes with another header: make no other call.
+ */
+#define TINSHREW_VERSION 1
+
 /* How many cells the buffers of a run have at least: work and lists have cells of 16 bits. */
 #define TINSHREW_WORK_CELLS 24576
 #define TINSHREW_LIST_CELLS 32
 
+/* How many bytes a turn list has at most. */
+#define TINSHREW_TURN_BYTES 65536
+
 /* How many cells `out` has: for the plan check, and for each of the two runs. */
 #define TINSHREW_CHECK_OUT 5
 #define TINSHREW_RUN_OUT 6
+
+/* The buffers of a run, as tinshrew_cells is asked for them. */
+enum {
+    TINSHREW_WORK = 1,
+    TINSHREW_LISTS = 2
+};
 
 /* The status of a run. */
 enum {
@@ -44,8 +63,9 @@ enum {
     TINSHREW_BARE = 2    /* closed, and some slot's list is empty */
 };
 
-/* Why a call is declined, and the place that goes with it. A section starts at its first length byte. The plan
- * check never gives 9 to 12, and a round run never gives 11 or 12.
+/* Why a call is declined, and the place that goes with it. A section starts at its first length byte, whether that is
+ * there or not: where a section is missing, the place is the plan's length. The plan check never gives 9 to 12, and a
+ * round run never gives 11 or 12.
  *
  * Where several apply, the first in this order is given: 9, 10, 11; 1 for an empty plan; 2; the sections in turn; 8; 12.
  * In each section 1 comes first, then
@@ -61,12 +81,26 @@ enum {
     TINSHREW_BAD_NUMBER = 5,     /* kitchen or slot number out of range, or first slot not below second (section start) */
     TINSHREW_REPEATED_CODE = 6,  /* a code stands twice in a slot (section start) */
     TINSHREW_BAD_RULE = 7,       /* kind above 1, or a table bit at or past the second slot's count (section start) */
-    TINSHREW_TRAILING_BYTES = 8, /* bytes after the last rule (first such byte) */
+    TINSHREW_TRAILING_BYTES = 8, /* bytes after the last section (first such byte) */
     TINSHREW_SHORT_WORK = 9,     /* fewer than TINSHREW_WORK_CELLS work cells (0) */
     TINSHREW_SHORT_LISTS = 10,   /* fewer than TINSHREW_LIST_CELLS list cells (0) */
-    TINSHREW_BAD_TURN_LIST = 11, /* turn list of odd length or over 65,536 bytes (0) */
+    TINSHREW_BAD_TURN_LIST = 11, /* turn list of odd length or over TINSHREW_TURN_BYTES (0) */
     TINSHREW_BAD_TURN = 12       /* a turn that is not allowed (number of the first such turn, from 0) */
 };
+
+/* The version of the linked library's interface. This call stays as it is in all versions. */
+size_t tinshrew_version(void);
+
+/* How many cells of a buffer the linked library needs: TINSHREW_WORK_CELLS for TINSHREW_WORK, TINSHREW_LIST_CELLS for
+ * TINSHREW_LISTS, and 0 for a number that no buffer has. This call stays as it is in all versions, too.
+ */
+size_t tinshrew_cells(size_t buffer);
+
+/* A pointer to bytes that may be passed for a plan or a turn list: never null, also where there are no bytes. */
+static inline const uint8_t *tinshrew_bytes(const uint8_t *bytes) {
+    static const uint8_t none = 0;
+    return bytes == NULL ? &none : bytes;
+}
 
 /* Checks a plan. On success
  *   out[0]  0
@@ -83,7 +117,7 @@ void tinshrew_check_plan(const uint8_t *plan, size_t plan_len, size_t out[TINSHR
  *   out[2]  turns that changed something
  *   out[3]  list messages sent, each send once
  *   out[4]  polls sent, each poll turn once
- *   out[5]  lowest slot, from 1, with an empty list; 0 if none
+ *   out[5]  lowest slot, from 1, with an empty list, whatever the status; 0 if none
  * and
  *   lists[s - 1] holds the listed dishes of slot s: lowest bit for its first dish, 1 where it is still listed.
  *                Cells from the number of slots on keep what they had.

@@ -6,6 +6,8 @@ pub type CheckOut = [usize; 5];
 pub type RunOut = [usize; 6];
 
 extern "C" {
+    pub fn tinshrew_version() -> usize;
+    pub fn tinshrew_cells(buffer: usize) -> usize;
     pub fn tinshrew_check_plan(plan: *const u8, plan_len: usize, out: *mut CheckOut);
     pub fn tinshrew_run_turns(
         plan: *const u8,

@@ -1,12 +1,23 @@
 // The same three calls for C, which include/tinshrew.h explains. Each writes its answer as numbers into `out`: 0 and the answer, or a
-// decline's number and place, and zeros behind them.
+// decline's number and place, and zeros behind them. Two more tell a caller that was compiled against another header which
+// library it is linked with.
+use disac4::LIST_NEED;
+use disac4::WORK_NEED;
 use numbers::answer_numbers;
 use numbers::checked_numbers;
 ghost use mathlib.Core.Path.{_≡_};
 ghost use Rattle.disac4.specs.Outcome.{lent, runOf, turnRun, roundRun};
 ghost use Rattle.plan.specs.Answer.{planCheck};
 ghost use Rattle.numbers.specs.Numbers.{checkedNumbers};
+ghost use Rattle.tinshrew.specs.Linked.{interfaceVersion, cellsNeeded};
 ghost use Rattle.tinshrew.specs.Numbers.{GivesNumbers};
+
+const VERSION: usize = 1;
+
+// The lent buffers, as tinshrew_cells is asked for them.
+const WORK: usize = 1;
+
+const LISTS: usize = 2;
 
 // `check_plan`, as numbers.
 #[no_mangle]
@@ -41,4 +52,26 @@ pub extern "C" fn tinshrew_run_round(
     ensures { λ _. ⌜ GivesNumbers (runOf (roundRun (now (plan .entry))) (lent (now (work .entry)) (now (lists .entry)))) (now (out .exit)) (lent (now (work .exit)) (now (lists .exit))) ⌝ }
 {
     *out = answer_numbers(calls::run_round(plan, work, lists));
+}
+
+// The version of this interface.
+#[no_mangle]
+pub extern "C" fn tinshrew_version() -> usize
+    ensures { λ r. ⌜ r ≡ interfaceVersion ⌝ }
+{
+    VERSION
+}
+
+// How many cells of a lent buffer the calls need; 0 for a number that no buffer has.
+#[no_mangle]
+pub extern "C" fn tinshrew_cells(buffer: usize) -> usize
+    ensures { λ r. ⌜ r ≡ cellsNeeded buffer ⌝ }
+{
+    if buffer == WORK {
+        WORK_NEED
+    } else if buffer == LISTS {
+        LIST_NEED
+    } else {
+        0
+    }
 }

@@ -1,0 +1,124 @@
+/* How much stack each call takes on the largest plan. Prints a line for each. */
+#include <stdio.h>
+#include <stdlib.h>
+#include <string.h>
+#include <ucontext.h>
+
+#include "tinshrew.h"
+
+enum { ROOM = 1 << 20, PAINT = 0xA5, KITCHENS = 8, SLOTS = 32, DISHES = 16, RULES = 128, TURN_BYTES = 65536 };
+
+static uint8_t plan[65536];
+static size_t plan_len;
+static uint8_t turns[TURN_BYTES];
+static uint16_t work[TINSHREW_WORK_CELLS];
+static uint16_t lists[TINSHREW_LIST_CELLS];
+static size_t out[TINSHREW_RUN_OUT];
+
+static void put(unsigned byte) {
+    plan[plan_len++] = (uint8_t)byte;
+}
+
+static void put_wide(unsigned number) {
+    put(number >> 8);
+    put(number & 255);
+}
+
+/* As many kitchens, slots, dishes and rules as there may be. A table allows a dish only those after it, so that dishes are
+ * struck one after the other until no list has one. */
+static void make_plan(void) {
+    put(1);
+    put_wide(3);
+    put(KITCHENS);
+    put(SLOTS);
+    put(RULES);
+    for (unsigned s = 0; s < SLOTS; s++) {
+        put_wide(2 + 4 * DISHES);
+        put(1 + s % KITCHENS);
+        put(DISHES);
+        for (unsigned d = 0; d < DISHES; d++) {
+            put_wide(d);
+            put_wide(0);
+        }
+    }
+    for (unsigned r = 0; r < RULES; r++) {
+        unsigned first = 1 + r % (SLOTS - 1);
+        put_wide(3 + 2 * DISHES);
+        put(first);
+        put(first + 1);
+        put(0);
+        for (unsigned d = 0; d < DISHES; d++) {
+            put_wide(0xFFFF & (0xFFFEu << d));
+        }
+    }
+}
+
+/* The turns of a round, over and over. */
+static void make_turns(void) {
+    size_t at = 0;
+    while (at < TURN_BYTES) {
+        for (unsigned k = 1; k <= KITCHENS; k++) {
+            for (unsigned deed = 0; deed <= 11 && at < TURN_BYTES; deed++) {
+                if (deed <= KITCHENS ? deed != k : deed >= 9) {
+                    turns[at++] = (uint8_t)k;
+                    turns[at++] = (uint8_t)deed;
+                }
+            }
+        }
+    }
+}
+
+static void check_plan(void) {
+    tinshrew_check_plan(plan, plan_len, out);
+}
+
+static void run_turns(void) {
+    tinshrew_run_turns(plan, plan_len, turns, sizeof turns, work, TINSHREW_WORK_CELLS, lists, TINSHREW_LIST_CELLS, out);
+}
+
+static void run_round(void) {
+    tinshrew_run_round(plan, plan_len, work, TINSHREW_WORK_CELLS, lists, TINSHREW_LIST_CELLS, out);
+}
+
+/* Runs a call on a painted stack of its own and gives the bytes that were written over. The few that entering and leaving
+ * take are counted too. */
+static size_t taken(void (*call)(void)) {
+    static uint8_t stack[ROOM];
+    ucontext_t here, there;
+    memset(stack, PAINT, ROOM);
+    if (getcontext(&there) != 0) {
+        perror("stack");
+        exit(1);
+    }
+    there.uc_stack.ss_sp = stack;
+    there.uc_stack.ss_size = ROOM;
+    there.uc_link = &here;
+    makecontext(&there, call, 0);
+    if (swapcontext(&here, &there) != 0) {
+        perror("stack");
+        exit(1);
+    }
+    size_t unused = 0;
+    while (unused < ROOM && stack[unused] == PAINT) {
+        unused++;
+    }
+    return ROOM - unused;
+}
+
+static void show(const char *name, void (*call)(void)) {
+    size_t bytes = taken(call);
+    if (out[0] != 0) {
+        printf("%s was declined with %zu at %zu\n", name, out[0], out[1]);
+        exit(1);
+    }
+    printf("%s: %zu bytes\n", name, bytes);
+}
+
+int main(void) {
+    make_plan();
+    make_turns();
+    show("tinshrew_check_plan", check_plan);
+    show("tinshrew_run_turns", run_turns);
+    show("tinshrew_run_round", run_round);
+    return 0;
+}
