@@ -7,5 +7,5 @@ fn main() {
     let (folder, name) = (archive.parent(), archive.file_name());
     let (folder, name) = folder.zip(name).expect("a file has a folder and a name");
     println!("cargo:rustc-link-search=native={}", folder.display());
-    println!("cargo:rustc-link-lib=static:+verbatim={}", name.display());
+    println!("cargo:rustc-link-lib=static:+verbatim={}", name.to_string_lossy());
 }

@@ -1,74 +1,109 @@
-//! Safe calls of Tinshrew, whose C interface `include/tinshrew.h` explains; `docs/FORMAT.md` has the bytes of a plan and
-//! of a turn list, what each turn does, and the order of the declines. `unsafe` stands only where the library is called:
-//! slices carry their own lengths, and Rust's borrows keep the lent buffers apart.
+//! Safe calls of Tinshrew, which strikes dishes from the lists of a plan, between kitchens.
+//!
+//! A plan has slots, each with a list of dishes and owned by a kitchen, and rules that say which dish of one slot may
+//! stand with which dish of another. [`check_plan`] checks a plan, [`run_turns`] plays a list of turns on it, and
+//! [`run_round`] plays rounds until it is closed. `docs/FORMAT.md` has the bytes of a plan and of a turn list, what
+//! each turn does, and the declines with their order; `include/tinshrew.h` is the same interface for C.
+//!
+//! From the bytes of a plan to its lists:
+//!
+//! ```
+//! use tinshrew::{check_plan, run_round, Status, LIST_CELLS, WORK_CELLS};
+//!
+//! let plan = [
+//!     1,                                        // version
+//!     0, 3, 2, 2, 1,                            // head: 2 kitchens, 2 slots, 1 rule
+//!     0, 10, 1, 2, 0, 11, 1, 44, 0, 12, 3, 132, // slot 1, kitchen 1: dish 11 with 300 mg, dish 12 with 900 mg
+//!     0, 10, 2, 2, 0, 21, 1, 244, 0, 22, 3, 32, // slot 2, kitchen 2: dish 21 with 500 mg, dish 22 with 800 mg
+//!     0, 5, 1, 2, 1, 4, 176,                    // slots 1 and 2: at most 1,200 mg together
+//! ];
+//! let counts = check_plan(&plan)?;
+//! assert_eq!((counts.slots, counts.dishes), (2, 4));
+//!
+//! let mut work = vec![0; WORK_CELLS];
+//! let mut lists = [0; LIST_CELLS];
+//! let report = run_round(&plan, &mut work, &mut lists)?;
+//! assert_eq!(report.status, Status::Closed);
+//!
+//! // A cell for each slot, lowest bit for its first dish. Slot 1 has lost its second, which is too salty for both of
+//! // slot 2.
+//! assert_eq!(lists[..counts.slots], [0b01, 0b11]);
+//! # Ok::<(), tinshrew::Decline>(())
+//! ```
+//!
+//! A call that is declined gives a [`Decline`], which can be printed, and asked for the [`Section`] of the plan or the
+//! [`Turn`] that it is about.
+//!
+//! The library allocates nothing and keeps nothing between calls: work cells can be used again for the next call, and
+//! calls may run at the same time. This package links `target/staticlib/libtinshrew.a` of the repository, or the file
+//! that the environment variable `TINSHREW_LIB` names when it is built. A call panics if that is a library of another
+//! [`version`], and for no other reason.
 
+#![warn(missing_docs)]
+
+mod decline;
+mod library;
+mod place;
+mod report;
+
+pub use decline::Decline;
+pub use place::{Section, Turn};
+pub use report::{Counts, Report, Status};
+
+/// The version of the interface that this package is written for.
+pub const VERSION: usize = 1;
 /// How many work cells a run needs.
 pub const WORK_CELLS: usize = 24_576;
 /// How many list cells a run needs.
 pub const LIST_CELLS: usize = 32;
+/// How many bytes a turn list has at most.
+pub const TURN_BYTES: usize = 65_536;
 
-mod library;
-
-/// A declined call: its number, 1 to 12 as the header lists them, and the place that goes with it. It changed no lent
-/// cell.
+/// A buffer that is lent to a run.
 #[derive(Clone, Copy, Debug, PartialEq, Eq)]
-pub struct Decline {
-    pub number: usize,
-    pub place: usize,
+pub enum Buffer {
+    /// The work cells.
+    Work = 1,
+    /// The list cells.
+    Lists = 2,
 }
 
-/// What a plan holds.
-#[derive(Clone, Copy, Debug, PartialEq, Eq)]
-pub struct Counts {
-    /// Kitchens, 1 to 8.
-    pub workers: usize,
-    /// Slots, 1 to 32.
-    pub variables: usize,
-    /// Rules, 0 to 128.
-    pub constraints: usize,
-    /// Dishes in all slots together, 0 to 512.
-    pub labels: usize,
+// `unsafe` stands only where the library is called: slices carry their own lengths, and Rust's borrows keep the lent
+// buffers apart.
+
+/// The version of the linked library's interface.
+pub fn version() -> usize {
+    // SAFETY: it takes nothing, in all versions.
+    unsafe { library::tinshrew_version() }
 }
 
-/// Where a run ends.
-#[derive(Clone, Copy, Debug, PartialEq, Eq)]
-pub enum Status {
-    /// Not closed yet.
-    Open,
-    /// Closed, and every variable has a value left.
-    Closed,
-    /// Closed, and some variable's list is empty.
-    Bare,
+/// How many cells of a buffer the linked library needs.
+pub fn cells(buffer: Buffer) -> usize {
+    // SAFETY: it takes any number, in all versions.
+    unsafe { library::tinshrew_cells(buffer as usize) }
 }
 
-/// The report of a run.
-#[derive(Clone, Copy, Debug, PartialEq, Eq)]
-pub struct Report {
-    pub status: Status,
-    /// Turns that changed something.
-    pub changes: usize,
-    /// List messages sent, each send once.
-    pub sends: usize,
-    /// Polls sent, each poll turn once.
-    pub polls: usize,
-    /// The lowest variable, from 1, with an empty list; 0 if none.
-    pub empty: usize,
+/// Stops where the linked library has another version: its calls may take other arguments.
+fn same_version() {
+    assert_eq!(version(), VERSION, "the linked libtinshrew.a has another version than its Rust wrapper");
 }
 
 /// Checks a plan.
 pub fn check_plan(plan: &[u8]) -> Result<Counts, Decline> {
+    same_version();
     let mut out = library::CheckOut::default();
     // SAFETY: the slice is valid for its length and never null, and `out` is a local of the size that is written.
     unsafe { library::tinshrew_check_plan(plan.as_ptr(), plan.len(), &mut out) };
-    let [number, workers, variables, constraints, labels] = out;
-    accepted(number, workers)?;
-    Ok(Counts { workers, variables, constraints, labels })
+    Counts::new(out)
 }
 
-/// Plays the turns of a list on a plan, two bytes each: the actor and the action. On success `lists` has a cell for
-/// each variable, lowest bit for its first value, 1 where it is still listed; the first `WORK_CELLS` work cells are 0;
-/// all later cells of both keep what they had. What `work` held before plays no part.
+/// Plays the turns of a list on a plan, two bytes each: the actor and the deed.
+///
+/// On success `lists[s - 1]` holds the listed dishes of slot s: lowest bit for its first dish, 1 where it is still
+/// listed. The first [`WORK_CELLS`] work cells are 0. All later cells of both keep what they had. What `work` held
+/// before plays no part.
 pub fn run_turns(plan: &[u8], turns: &[u8], work: &mut [u16], lists: &mut [u16]) -> Result<Report, Decline> {
+    same_version();
     let mut out = library::RunOut::default();
     // SAFETY: each slice is valid for its length and never null; those that are written are borrowed as `&mut`, so
     // overlap no other; `out` is a local of the size that is written.
@@ -85,11 +120,13 @@ pub fn run_turns(plan: &[u8], turns: &[u8], work: &mut [u16], lists: &mut [u16])
             &mut out,
         )
     };
-    report(out)
+    Report::new(out)
 }
 
-/// Plays rounds on a plan until it is closed, so that the status is never `Open`; the buffers are as in `run_turns`.
+/// Plays rounds on a plan until it is closed, so that the status is never [`Status::Open`]. The buffers are as in
+/// [`run_turns`].
 pub fn run_round(plan: &[u8], work: &mut [u16], lists: &mut [u16]) -> Result<Report, Decline> {
+    same_version();
     let mut out = library::RunOut::default();
     // SAFETY: as in `run_turns`.
     unsafe {
@@ -103,26 +140,7 @@ pub fn run_round(plan: &[u8], work: &mut [u16], lists: &mut [u16]) -> Result<Rep
             &mut out,
         )
     };
-    report(out)
-}
-
-/// The first two numbers of a call: 0 and a value, or a decline and its place.
-fn accepted(number: usize, place: usize) -> Result<(), Decline> {
-    match number {
-        0 => Ok(()),
-        _ => Err(Decline { number, place }),
-    }
-}
-
-fn report([number, second, changes, sends, polls, empty]: library::RunOut) -> Result<Report, Decline> {
-    accepted(number, second)?;
-    let status = match second {
-        0 => Status::Open,
-        1 => Status::Closed,
-        2 => Status::Bare,
-        _ => unreachable!("the library gives no other status"),
-    };
-    Ok(Report { status, changes, sends, polls, empty })
+    Report::new(out)
 }
 
 #[cfg(test)]
