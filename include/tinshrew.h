@@ -1,7 +1,7 @@
 /* Tinshrew: strikes dishes from the lists of a plan, between kitchens.
  *
- * Three calls, for x86-64 Linux, and two that say which library is linked. Link target/staticlib/libtinshrew.a, which
- * `rt staticlib tinshrew` writes.
+ * Three calls, for x86-64 Linux, and two that say which library is linked. For C from C99 on, and for C++. Link
+ * target/staticlib/libtinshrew.a, which `rt staticlib tinshrew` writes.
  *
  *   tinshrew_check_plan   checks a plan
  *   tinshrew_run_turns    plays a list of turns on a plan
@@ -13,8 +13,9 @@
  * pair exactly if both figures are recorded (65,535 is "not recorded") and their sum is at most the rule's limit.
  *
  * Every call ends, whatever the bytes are. The library allocates nothing and keeps nothing between calls, so
- * calls on different buffers may run at the same time. It calls nothing of its caller's, and of other libraries memset
- * alone. It has no unwind information: a debugger, a profiler or a signal handler that walks the stack stops at its frames.
+ * calls may run at the same time, if none writes a buffer of another. It calls nothing of its caller's, and of other
+ * libraries memset alone. It has no unwind information: what walks the stack by it, as a profiler or a signal handler may,
+ * does not get past the library's frames.
  *
  * Each buffer is a pointer and the number of its cells. No pointer is null, not even one to no cells: of an empty list
  * pass the address of any byte and the length 0. In C++ the data() of an empty vector may be null; tinshrew_bytes takes

@@ -1,5 +1,5 @@
-/* A read that breaks off, as on a failing disk: loaded ahead of the C library it stands in for read, which gives of the file
- * that BREAKS_OFF names its first four bytes and then fails. The numbers are those of x86-64 Linux. */
+/* A file that breaks off, as on a failing disk: loaded ahead of the C library it stands in for read and close. Of the file that
+ * BREAKS_OFF names read gives the first four bytes and then fails; close of it fails. */
 #define _GNU_SOURCE
 #include <errno.h>
 #include <stdio.h>
@@ -36,4 +36,12 @@ ssize_t read(int fd, void *buf, size_t count) {
         }
     }
     return syscall(SYS_read, fd, buf, count);
+}
+
+int close(int fd) {
+    if (is_named(fd)) {
+        errno = EIO;
+        return -1;
+    }
+    return (int)syscall(SYS_close, fd);
 }

@@ -21,6 +21,9 @@ int main() {
     expect(tinshrew_cells(TINSHREW_LISTS + 1) == 0, "no buffer has the next number");
 
     const std::vector<uint8_t> none;
+    const uint8_t one = 1;
+    expect(tinshrew_bytes(nullptr) != nullptr, "what is passed for no bytes is not null");
+    expect(tinshrew_bytes(&one) == &one, "what is passed for a byte is its address");
     std::size_t figures[TINSHREW_CHECK_OUT];
     tinshrew_check_plan(tinshrew_bytes(none.data()), none.size(), figures);
     expect(figures[0] == TINSHREW_TRUNCATED && figures[1] == 0, "an empty plan is declined with 1 at 0");

@@ -36,8 +36,8 @@
 //!
 //! The library allocates nothing and keeps nothing between calls: work cells can be used again for the next call, and
 //! calls may run at the same time. This package links `target/staticlib/libtinshrew.a` of the repository, or the file
-//! that the environment variable `TINSHREW_LIB` names when it is built. A call panics if that is a library of another
-//! [`version`], and for no other reason.
+//! that the environment variable `TINSHREW_LIB` names, seen from the repository's folder, when it is built. A call panics
+//! if that is a library of another [`version`], and for no other reason.
 
 #![warn(missing_docs)]
 

@@ -67,6 +67,6 @@ impl Turn {
 impl fmt::Display for Turn {
     fn fmt(&self, f: &mut fmt::Formatter<'_>) -> fmt::Result {
         let Turn { number, actor, deed } = self;
-        write!(f, "turn {number}: actor {actor}, deed {deed}")
+        write!(f, "turn {number}, counted from 0: actor {actor}, deed {deed}")
     }
 }

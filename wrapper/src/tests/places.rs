@@ -101,5 +101,5 @@ fn places_are_printed() {
     assert_eq!(Head.to_string(), "the head");
     assert_eq!(Slot(2).to_string(), "slot 2");
     assert_eq!(Rule(1).to_string(), "rule 1");
-    assert_eq!(Turn { number: 3, actor: 1, deed: 9 }.to_string(), "turn 3: actor 1, deed 9");
+    assert_eq!(Turn { number: 3, actor: 1, deed: 9 }.to_string(), "turn 3, counted from 0: actor 1, deed 9");
 }
