@@ -130,29 +130,28 @@ impl Decline {
     /// The decline's place, as the C interface gives it: a byte of the plan, the number of a turn, or 0.
     pub fn place(self) -> usize {
         match self {
-            Decline::Truncated { section_start }
-            | Decline::BadLength { section_start }
-            | Decline::BadCount { section_start }
-            | Decline::BadNumber { section_start }
-            | Decline::RepeatedCode { section_start }
-            | Decline::BadRule { section_start } => section_start,
             Decline::TrailingBytes { byte } => byte,
             Decline::BadTurn { turn } => turn,
             Decline::Unknown { place, .. } => place,
-            Decline::BadVersion | Decline::ShortWork | Decline::ShortLists | Decline::BadTurnList => 0,
+            _ => self.section_start().unwrap_or(0),
         }
     }
 
     /// Which section of the declined plan it is about. None if it is about no section, or if no section of this plan
     /// starts at its place.
     pub fn section(self, plan: &[u8]) -> Option<Section> {
+        Section::starting_at(self.section_start()?, plan)
+    }
+
+    /// The byte at which the section starts that it is about.
+    fn section_start(self) -> Option<usize> {
         match self {
             Decline::Truncated { section_start }
             | Decline::BadLength { section_start }
             | Decline::BadCount { section_start }
             | Decline::BadNumber { section_start }
             | Decline::RepeatedCode { section_start }
-            | Decline::BadRule { section_start } => Section::starting_at(section_start, plan),
+            | Decline::BadRule { section_start } => Some(section_start),
             _ => None,
         }
     }
