@@ -23,6 +23,12 @@ odd-rest r =
     ⊎-elim (λ p. ap one p ∙ sym (eqb-true (r % 2) 1 p)) (λ p. ap one p ∙ omega (arith, eqb-false (r % 2) 1 p))
     (decided (isOdd r))
 
+-- odd and even numbers take turns
+pub odd-next : (k : ℕ) → isOdd (suc k) ≡ not (isOdd k)
+odd-next k =
+    ⊎-elim (λ e. ne-eqb (suc k % 2) 1 (λ p. omega (arith, eqb-true (k % 2) 1 e)) ∙ sym (ap not e))
+    (λ e. eq-eqb (suc k % 2) 1 (omega (arith, eqb-false (k % 2) 1 e)) ∙ sym (ap not e)) (decided (isOdd k))
+
 -- a row whose lowest bit and rest are known
 odd-of : (r q : ℕ) (b : Bool) → r ≡ one b + 2 * q → isOdd r ≡ b
 odd-of r q true e = eq-eqb (r % 2) 1 (omega arith)
@@ -176,6 +182,12 @@ module _ (n : ℕ) (t : ℕ → Bool) where
       held : (w : ℕ) (b : Bool) → 0 < cond b (2 ^ w) 0 → b ≡ true
       held w true l = refl
       held w false l = absurd (omega arith)
+
+-- a row is not 0 exactly if some value passes its test
+pub row-any : (n : ℕ) (t : ℕ → Bool) → not (eqb (rowOf n t) 0) ≡ anyBelow n t
+row-any n t =
+    ⊎-elim (λ e. ap not e ∙ sym (row-none n t (eqb-true (rowOf n t) 0 e)))
+    (λ e. ap not e ∙ sym (row-some n t (eqb-false (rowOf n t) 0 e))) (decided (eqb (rowOf n t) 0))
 
 -- `2 ^ n - 1` is the row of all values below n
 pub row-full : (n : ℕ) → 2 ^ n - 1 ≡ rowOf n (λ w. true)

@@ -7,7 +7,8 @@ use faults::Verdict;
 use plan::Checked;
 use plan::declined;
 ghost use mathlib.Core.Path.{_≡_};
-ghost use Rattle.disac4.specs.Outcome.{Gives, lent, inputFault, runOf, turnRun, roundRun};
+ghost use Rattle.lending.specs.Call.{Gives};
+ghost use Rattle.disac4.specs.Outcome.{lent, inputFault, runOf, turnRun, roundRun};
 ghost use Rattle.plan.specs.Answer.{checkOf};
 ghost use Rattle.faults.specs.Fault.{decline};
 

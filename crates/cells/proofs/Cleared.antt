@@ -3,9 +3,9 @@ use Prim.Native.Nat.{ℕ, _+_, _<_, _≤_}
 use mathlib.Core.List.{List, _++_}
 use mathlib.Core.Path.{_≡_, _∙_, ap}
 use lib.ListN.{length, set, drop, replicate, length-replicate, replicate-append-replicate}
-use Rattle.disac4.specs.Outcome.{overwrite}
+use Rattle.lending.specs.Call.{overwrite}
 use Rattle.disac4.specs.Need.{workNeed}
-use Rattle.cells.proofs.Overwritten.{written-all, written-length, written-next}
+use Rattle.lending.proofs.Overwritten.{written-all, written-length, written-next}
 
 -- the first `k` cells are 0, the others as they were
 abbrev pub front : ℕ → List ℕ → List ℕ

@@ -1,7 +1,6 @@
 pub mod Acting
 pub mod Cleared
 pub mod Done
-pub mod Overwritten
 pub mod Pushing
 pub mod Queue
 pub mod Ranges

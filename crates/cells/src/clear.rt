@@ -3,7 +3,7 @@ use disac4::WORK_NEED;
 ghost use mathlib.Core.Path.{_≡_};
 ghost use Prim.Native.Nat.{_≤_};
 ghost use lib.ListN.{length, replicate};
-ghost use Rattle.disac4.specs.Outcome.{overwrite};
+ghost use Rattle.lending.specs.Call.{overwrite};
 ghost use Rattle.disac4.specs.Need.{workNeed};
 
 pub fn clear(cells: &mut [u16])

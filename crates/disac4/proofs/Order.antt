@@ -3,11 +3,8 @@
 use Prim.Native.Nat.{ℕ, _/_, _<_}
 use mathlib.Core.Bool.{Bool, true, false}
 use mathlib.Core.List.{List, [], _∷_}
-use mathlib.Core.Logic.{_↔_, inl, inr, ⊎-elim}
 use mathlib.Core.Option.{Option, none, some}
 use mathlib.Core.Path.{_≡_, refl, sym, _∙_}
-use borrow.Author.Tests.{le-leb, lt-leb, leb-true, leb-false}
-use lib.Dec.{leb}
 use lib.ListN.{length}
 use Rattle.base.proofs.Below.{first-below, first-at, none-first}
 use Rattle.base.proofs.Choice.{by-test, cond-true, cond-false, none≢some, some-same, unless-some}
@@ -20,49 +17,10 @@ use Rattle.format.specs.Format.{workerCount}
 use Rattle.faults.specs.declared.Decline.{Decline}
 use Rattle.faults.specs.declared.Fault.{Fault}
 use Rattle.faults.specs.declared.Fault.the-variants.{BadTurnList, BadTurn}
-use Rattle.disac4.specs.Outcome.{Lent, Buffer, bufferChecks, LongEnough, TooShort, inputFault, runFault, turnRun}
+use Rattle.lending.proofs.Buffers.{pass-exactly}
+use Rattle.lending.specs.Call.{bufferChecks, LongEnough, callFault}
+use Rattle.disac4.specs.Outcome.{Lent, inputFault, runFault, turnRun}
 use Rattle.disac4.specs.Turn.{allowed, turnAt, turnListFits, turnFault, faultOf}
-
--- ---- the buffers
-
-module _ (l : Lent) where
-  -- one buffer more, in front of the others
-  pass-next : (b : Buffer) (buffers : List Buffer) → (firstFault (bufferChecks buffers l) ≡ none) ↔ LongEnough buffers l
-      → (firstFault (bufferChecks (b ∷ buffers) l) ≡ none) ↔ LongEnough (b ∷ buffers) l
-  unfolding bufferChecks
-  pass-next b buffers rest = (
-    λ e.
-        by-test (leb (b .need) (length (b .cells l))) e
-        (λ t r. (leb-true (b .need) (length (b .cells l)) t, rest .0 r))
-        (λ t r. none≢some (sym r)),
-    λ h. rw (le-leb (b .need) (length (b .cells l)) (h .0)) (rest .1 (h .1)),
-  )
-
-  fail-next : (f : Fault) (b : Buffer) (buffers : List Buffer)
-      → (firstFault (bufferChecks buffers l) ≡ some f) ↔ TooShort buffers l f
-      → (firstFault (bufferChecks (b ∷ buffers) l) ≡ some f) ↔ TooShort (b ∷ buffers) l f
-  unfolding bufferChecks
-  fail-next f b buffers rest = (
-    λ e.
-        by-test (leb (b .need) (length (b .cells l))) e
-        (λ t r. inr (leb-true (b .need) (length (b .cells l)) t, rest .0 r))
-        (λ t r. inl (leb-false (b .need) (length (b .cells l)) t, some-same (λ g. g ≡ b .fault) r refl)),
-    λ h.
-        ⊎-elim (λ s. rw (lt-leb (b .need) (length (b .cells l)) (s .0), s .1))
-        (λ s. rw (le-leb (b .need) (length (b .cells l)) (s .0)) (rest .1 (s .1))) h,
-  )
-
-  -- the checks pass exactly if every buffer is long enough
-  pub pass-exactly : (buffers : List Buffer) → (firstFault (bufferChecks buffers l) ≡ none) ↔ LongEnough buffers l
-  unfolding bufferChecks
-  pass-exactly [] = (λ e. tt, λ h. refl)
-  pass-exactly (b ∷ buffers) = pass-next b buffers (pass-exactly buffers)
-
-  -- and find the fault of the first that is too short
-  pub fail-exactly : (f : Fault) (buffers : List Buffer) → (firstFault (bufferChecks buffers l) ≡ some f) ↔ TooShort buffers l f
-  unfolding bufferChecks
-  fail-exactly f [] = (λ e. none≢some e, λ h. absurd h)
-  fail-exactly f (b ∷ buffers) = fail-next f b buffers (fail-exactly f buffers)
 
 -- ---- 11 and the plan's own
 
@@ -166,7 +124,7 @@ module _ (checks : List Check) (b ts : List ℕ) where
 -- a turn run without fault has buffers that are long enough, an accepted plan and allowed turns
 pub turn-passed : (b ts : List ℕ) (l : Lent) → runFault (turnRun b ts) l ≡ none
     → LongEnough (turnRun b ts .buffers) l × (planFault b ≡ none) × (turnFault (workerCount b) ts ≡ none)
-unfolding runFault
+unfolding callFault
 turn-passed b ts l e =
     let all = passed (bufferChecks (turnRun b ts .buffers) l) b ts e in
     (pass-exactly l (turnRun b ts .buffers) .0 (all .0), all .2, all .3)

@@ -6,6 +6,7 @@ use mathlib.Core.Option.{none, some, Option·getD}
 use lib.Dec.{eqb}
 use Rattle.base.specs.Below.{anyBelow, firstBelow, listBelow}
 use Rattle.base.specs.Row.{rowOf}
+use Rattle.network.specs.Network.{Network, Domains}
 use Rattle.disac4.specs.Loading.{load}
 use Rattle.disac4.specs.State.{State}
 use Rattle.disac4.specs.System.{System}
@@ -25,9 +26,17 @@ lowestEmpty sys st =
 unfoldable pub statusOf : System → State → Status
 statusOf sys st = cond (st .controller .closed) (cond (eqb (lowestEmpty sys st) 0) Closed Bare) Open
 
--- the cell of each slot: its listed dishes, lowest bit for its first
-unfoldable pub listCells : System → State → List ℕ
-listCells sys st = listBelow (sys .net .variables) (λ x. rowOf (sys .net .size x) (st .domain x))
+-- a variable's values in the domains, as a row: lowest bit for its first
+abbrev pub rowFrom : Network → Domains → ℕ → ℕ
+rowFrom net d x = rowOf (net .size x) (d x)
+
+-- the list cells of domains, one for each variable (slot): the row of the values in its domain (listed dishes)
+unfoldable pub domainCells : Network → Domains → List ℕ
+domainCells net d = listBelow (net .variables) (rowFrom net d)
+
+-- those of a state
+abbrev pub listCells : System → State → List ℕ
+listCells sys st = domainCells (sys .net) (st .domain)
 
 -- a turn in which a worker sends
 abbrev pub isSend : Turn → Bool

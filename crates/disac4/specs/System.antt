@@ -19,7 +19,11 @@ pub record System : Type 0 where
 unfoldable pub systemOf : Plan → System
 systemOf plan = record { net = networkOf plan; workers = plan .workers; owner = λ x. variableOf plan x .owner }
 
--- the system of an accepted plan's bytes
+-- the network of an accepted plan's bytes
+abbrev pub networkAt : List ℕ → Network
+networkAt b = networkOf (planOf b)
+
+-- and its system
 abbrev pub systemAt : List ℕ → System
 systemAt b = systemOf (planOf b)
 

@@ -7,7 +7,8 @@ use native.Mathlib.Omega.{arith}
 use lib.ListN.{length}
 use Rattle.base.specs.Bytes.{byteAt}
 use Rattle.disac4.proofs.Order.{by-fault, no-turn-list}
-use Rattle.disac4.specs.Outcome.{Lent, Buffer, bufferChecks, inputFault, Run, runFault, played, refused, outcomeBy, runOf, turnRun, roundRun}
+use Rattle.lending.specs.Call.{Buffer, bufferChecks, callFault, outcomeBy, outcomeOf}
+use Rattle.disac4.specs.Outcome.{Lent, inputFault, Run, played, callOf, runOf, turnRun, roundRun}
 use Rattle.disac4.specs.Round.{roundRunTurns}
 use Rattle.disac4.specs.System.{systemAt}
 use Rattle.disac4.specs.Turn.{Turn, turnsOf}
@@ -21,16 +22,16 @@ use Rattle.display.specs.Shown.{shownOf, runBy, shown, fresh}
 
 module _ (b : List ℕ) (short : length b < 2 ^ 64) (bytes : (i : ℕ) → byteAt b i < 256) where
   -- a run of the plan by this turn list
-  abbrev runWith : List ℕ → List Buffer → List Turn → (Lent → Lent) → Run
+  abbrev runWith : List ℕ → List (Buffer Lent) → List Turn → (Lent → Lent) → Run
   runWith ts buffers turns leaves = record { plan = b; buffers = buffers; fault = inputFault b ts; turns = turns; leaves = leaves }
 
   -- the text of any run: a decline, whose place is in the plan or in the turn list, or a report and the lists
-  run-fits : (ts : List ℕ) → length ts < 2 ^ 64 → (buffers : List Buffer) (turns : List Turn) (leaves : Lent → Lent) (l : Lent)
+  run-fits : (ts : List ℕ) → length ts < 2 ^ 64 → (buffers : List (Buffer Lent)) (turns : List Turn) (leaves : Lent → Lent) (l : Lent)
       → length (shownOf b (runOf (runWith ts buffers turns leaves) l)) ≤ textRoom
-  unfolding shownOf runOf runFault played refused decode
+  unfolding shownOf outcomeOf callFault played decode
   run-fits ts few buffers turns leaves l =
       by-fault (bufferChecks buffers l) b ts
-      (λ o. length (shownOf b (outcomeBy (runWith ts buffers turns leaves) l o)) ≤ textRoom)
+      (λ o. length (shownOf b (outcomeBy (callOf (runWith ts buffers turns leaves)) l o)) ≤ textRoom)
       (λ f h. decline-short b (l .lists) (decline f 0) (omega (arith, short)))
       (λ g h. decline-short b (l .lists) (decline BadTurnList 0) (omega (arith, short)))
       (λ g h d e. decline-short b (l .lists) d (omega (arith, short, place-within b d (ap (decodedAs (planOf b)) e))))

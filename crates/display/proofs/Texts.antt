@@ -6,13 +6,14 @@ use lib.ListN.{length, take, drop}
 use lib.Seq.{drop-at, length-take-le}
 use Rattle.buffer.proofs.Puts.{holds-whole}
 use Rattle.buffer.specs.Buffer.{Holds}
-use Rattle.disac4.specs.Outcome.{Lent, Outcome, Gives}
+use Rattle.lending.specs.Call.{Gives}
+use Rattle.disac4.specs.Outcome.{Lent, RunOutcome}
 use Rattle.disac4.specs.declared.Answer.{Answer}
 use Rattle.text.specs.Printed.{printed}
 use Rattle.display.specs.Shown.{shownOf, Shows}
 
 -- the text of an answer and its list cells is that of the outcome which the call gives
-pub outcome-held : (b : List ℕ) {o : Outcome} {a : Answer} {l : Lent} {before after : List ℕ} {count : ℕ} → Gives o a l
+pub outcome-held : (b : List ℕ) {o : RunOutcome} {a : Answer} {l : Lent} {before after : List ℕ} {count : ℕ} → Gives o a l
     → Holds (printed a b (l .lists)) before after count → Holds (shownOf b o) before after count
 unfolding shownOf
 outcome-held b g h = rw (← g .answer, ← g .cells) h

@@ -6,10 +6,11 @@ use mathlib.Core.Option.{none}
 use mathlib.Core.Path.{_≡_}
 use native.Mathlib.Omega.{arith}
 use lib.ListN.{length-replicate}
-use Rattle.disac4.proofs.Order.{pass-exactly}
+use Rattle.lending.proofs.Buffers.{pass-exactly}
 use Rattle.disac4.specs.Need.{workNeed, listNeed}
 use Rattle.disac4.specs.Computes.{disac4-computes}
-use Rattle.disac4.specs.Outcome.{overwrite, written, played, bufferChecks, inputFault, runFault, outcomeBy, runOf, turnRun}
+use Rattle.lending.specs.Call.{overwrite, bufferChecks, callFault, outcomeBy, outcomeOf}
+use Rattle.disac4.specs.Outcome.{written, played, callOf, inputFault, turnRun}
 use Rattle.disac4.specs.Worked.{planP, turnsT}
 use Rattle.faults.specs.CheckList.{firstFault}
 use Rattle.domains.specs.Lines.{newline}
@@ -32,8 +33,8 @@ fresh-fits b ts =
     (omega (arith, length-replicate {A = ℕ} workNeed 0), (omega (arith, length-replicate {A = ℕ} listNeed 0), tt))
 
 -- so that only the inputs decide
-fresh-run : (b turns : List ℕ) → shown b turns false ≡ shownOf b (outcomeBy (turnRun b turns) fresh (inputFault b turns))
-unfolding shown runBy runOf runFault
+fresh-run : (b turns : List ℕ) → shown b turns false ≡ shownOf b (outcomeBy (callOf (turnRun b turns)) fresh (inputFault b turns))
+unfolding shown runBy outcomeOf callFault
 fresh-run b turns = rw (fresh-fits b turns)
 
 -- what the program prints for P with T

@@ -4,7 +4,7 @@ use mathlib.Core.Bool.{Bool, cond}
 use mathlib.Core.List.{List}
 use mathlib.Core.Path.{_≡_}
 use lib.ListN.{length, take, drop, replicate}
-use Rattle.disac4.specs.Outcome.{Lent, lent, Outcome, Run, runOf, turnRun, roundRun}
+use Rattle.disac4.specs.Outcome.{Lent, lent, RunOutcome, Run, runOf, turnRun, roundRun}
 use Rattle.disac4.specs.Need.{workNeed, listNeed}
 use Rattle.text.specs.Printed.{printed}
 
@@ -13,7 +13,7 @@ unfoldable pub fresh : Lent
 fresh = lent (replicate workNeed 0) (replicate listNeed 0)
 
 -- the text of an outcome: its answer, with the list cells that the run leaves
-unfoldable pub shownOf : List ℕ → Outcome → List ℕ
+unfoldable pub shownOf : List ℕ → RunOutcome → List ℕ
 shownOf b o = printed (o .answer) b (o .left .lists)
 
 -- a run by rounds ("a run without a turn list") or by the turn list

@@ -2,7 +2,8 @@
 use disac4::Answer;
 use disac4::LIST_NEED;
 use disac4::WORK_NEED;
-ghost use Rattle.disac4.specs.Outcome.{Gives, lent, runOf};
+ghost use Rattle.lending.specs.Call.{Gives};
+ghost use Rattle.disac4.specs.Outcome.{lent, runOf};
 ghost use Rattle.display.specs.Shown.{runBy, shown, Shows};
 
 // The bytes that every text fits.

@@ -1,6 +1,7 @@
 pub mod Along
 pub mod Chains
 pub mod ConstraintChains
+pub mod Counted
 pub mod CounterRows
 pub mod Kept
 pub mod Labels
@@ -12,3 +13,4 @@ pub mod OwnChains
 pub mod Owners
 pub mod Pairing
 pub mod Places
+pub mod Zeroed

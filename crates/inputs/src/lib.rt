@@ -23,7 +23,8 @@ ghost use lib.ListN.{length};
 ghost use Rattle.inputs.specs.Bad.{badTurn};
 ghost use Rattle.inputs.specs.Judged.{Judges};
 ghost use Rattle.faults.specs.CheckList.{firstFault, verdictOf};
-ghost use Rattle.disac4.specs.Outcome.{lent, workBuffer, listBuffer, bufferChecks};
+ghost use Rattle.lending.specs.Call.{bufferChecks};
+ghost use Rattle.disac4.specs.Outcome.{lent, workBuffer, listBuffer};
 
 // 9 and 10: whether both buffers are long enough, the work cells first.
 pub fn check_buffers(work: &[u16], lists: &[u16]) -> Verdict

@@ -3,9 +3,10 @@ use Prim.Native.Nat.{ℕ, _<_}
 use mathlib.Core.Bool.{true}
 use mathlib.Core.Path.{_≡_, fun-ext}
 use Rattle.base.proofs.Bools.{bool-ext}
-use Rattle.network.proofs.Sweeps.{Around, sweeps-end}
+use Rattle.network.proofs.Sweeps.{sweeps-end}
 use Rattle.network.specs.Consistency.{Within, Supported, ArcConsistent, ConsistentWithin, InSome, Largest}
 use Rattle.network.specs.Network.{Network, Domains, loaded}
+use Rattle.network.specs.Sweep.{swept, sweepCount}
 
 module _ (net : Network) where
   -- the largest domains are arc-consistent domains within the loaded ones themselves
@@ -44,8 +45,12 @@ module _ (net : Network) where
       bool-ext (d x v) (e x v) (largest-contains e d k (largest-consistent d h) x v)
       (largest-contains d e h (largest-consistent e k) x v)))
 
-  -- there are largest domains
+  -- the sweeps end with the largest domains
+  pub sweeps-largest : Largest net (swept net (sweepCount net))
+  sweeps-largest =
+      let r = sweeps-end net in
+      largest-of (swept net (sweepCount net)) (r .0) (r .1 .outer)
+
+  -- so there are largest domains
   pub largest-exists : (d : Domains) × Largest net d
-  largest-exists =
-      let r : (d : Domains) × ConsistentWithin net d × Around net d = sweeps-end net in
-      (r .0, largest-of (r .0) (r .1) (r .2 .outer))
+  largest-exists = (swept net (sweepCount net), sweeps-largest)

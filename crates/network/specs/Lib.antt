@@ -3,3 +3,4 @@ pub mod Computes
 pub mod Consistency
 pub mod Network
 pub mod Solution
+pub mod Sweep

@@ -1,7 +1,9 @@
 -- The answers as numbers.
 use Prim.Native.Nat.{ℕ}
+use mathlib.Core.Bool.{cond}
 use mathlib.Core.List.{List, [], _∷_}
-use lib.ListN.{replicate}
+use lib.ListN.{length, replicate}
+use Rattle.base.specs.Row.{isOdd}
 use Rattle.disac4.specs.declared.Answer.{Answer}
 use Rattle.disac4.specs.declared.Answer.the-variants.{Reported, Declined}
 use Rattle.disac4.specs.declared.Status.{Status}
@@ -10,6 +12,9 @@ use Rattle.faults.specs.Fault.{numberOf}
 use Rattle.plan.specs.declared.Checked as checked
 use Rattle.plan.specs.declared.Checked.{Checked}
 use Rattle.faults.specs.declared.Decline.{Decline}
+use Rattle.sweeping.specs.Outcome.{TwoLists, lastSweep}
+use Rattle.sweeping.specs.declared.Swept as swept
+use Rattle.sweeping.specs.declared.Swept.{Swept}
 
 -- a number for each status
 abbrev pub statusNumber : Status → ℕ
@@ -30,3 +35,16 @@ checkedNumbers (checked.the-variants.Declined d) = declineNumbers 3 d
 unfoldable pub answerNumbers : Answer → List ℕ
 answerNumbers (Reported r) = 0 ∷ statusNumber (r .status) ∷ r .changes ∷ r .sends ∷ r .polls ∷ r .empty ∷ []
 answerNumbers (Declined d) = declineNumbers 4 d
+
+-- 0 and the number of sweeps; or a decline
+unfoldable pub sweptNumbers : Swept → List ℕ
+sweptNumbers (swept.the-variants.Sweeps k) = 0 ∷ k ∷ []
+sweptNumbers (swept.the-variants.Declined d) = declineNumbers 0 d
+
+-- 0, the buffer that holds the last sweep, 1 or 2, and the cells of the part
+unfoldable pub partNumbers : ℕ → ℕ → List ℕ
+partNumbers sweeps cells = 0 ∷ cond (isOdd sweeps) 2 1 ∷ cells ∷ []
+
+-- those of the part that holds the last sweep: as many cells as were asked for, or 0 where the buffer has fewer
+abbrev pub lastSweepNumbers : ℕ → ℕ → TwoLists → List ℕ
+lastSweepNumbers sweeps count l = partNumbers sweeps (length (lastSweep sweeps count l))

@@ -2,8 +2,9 @@
 use disac4::Answer;
 use disac4::Status;
 use plan::Checked;
+use sweeping::Swept;
 ghost use mathlib.Core.Path.{_≡_};
-ghost use Rattle.numbers.specs.Numbers.{statusNumber, checkedNumbers, answerNumbers};
+ghost use Rattle.numbers.specs.Numbers.{statusNumber, checkedNumbers, answerNumbers, sweptNumbers, partNumbers};
 
 fn status_number(status: Status) -> usize
     ensures { λ r. ⌜ r ≡ statusNumber status ⌝ }
@@ -48,5 +49,29 @@ pub fn answer_numbers(answer: Answer) -> [usize; 6]
             let fault = d.fault;
             [faults::fault_number(fault), d.place, 0, 0, 0, 0]
         }
+    }
+}
+
+// 0 and the number of sweeps; or the decline.
+pub fn swept_numbers(answer: Swept) -> [usize; 2]
+    ensures { λ r. ⌜ r ≡ sweptNumbers answer ⌝ }
+{
+    match answer {
+        Swept::Sweeps(k) => [0, k],
+        Swept::Declined(d) => {
+            let fault = d.fault;
+            [faults::fault_number(fault), d.place]
+        }
+    }
+}
+
+// 0, the buffer that holds the last of so many sweeps, and the number of cells that its part has.
+pub fn part_numbers(sweeps: usize, cells: usize) -> [usize; 3]
+    ensures { λ r. ⌜ r ≡ partNumbers sweeps cells ⌝ }
+{
+    if sweeps % 2 == 1 {
+        [0, 2, cells]
+    } else {
+        [0, 1, cells]
     }
 }

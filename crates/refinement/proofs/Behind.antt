@@ -10,9 +10,9 @@ use lib.ListN.{length, getD, drop, replicate, length-drop, length-replicate, get
 use lib.Seq.{ext-getD, getD-drop}
 use Rattle.base.proofs.Bools.{and-left, and-right}
 use Rattle.base.proofs.Choice.{cond-true}
-use Rattle.disac4.proofs.Outcome.{overwrite-front, overwrite-back}
+use Rattle.lending.proofs.Overwritten.{overwrite-front, overwrite-back}
 use Rattle.disac4.specs.Need.{workNeed}
-use Rattle.disac4.specs.Outcome.{overwrite}
+use Rattle.lending.specs.Call.{overwrite}
 use Rattle.cells.proofs.Regions.{past-table, place-low}
 use Rattle.cells.specs.Layout.{BEHIND, regionAt, address}
 use Rattle.cells.specs.Memory.{clearedM, memOf}

@@ -7,7 +7,7 @@ use mathlib.Core.Path.{_≡_}
 use lib.ListN.{length, replicate}
 use Rattle.disac4.specs.Fold.{playBy, countBy}
 use Rattle.disac4.specs.Need.{workNeed}
-use Rattle.disac4.specs.Outcome.{overwrite}
+use Rattle.lending.specs.Call.{overwrite}
 use Rattle.disac4.specs.Report.{final, isPoll, isSend, listCells, lowestEmpty, reportOf, statusOf}
 use Rattle.disac4.specs.State.{State}
 use Rattle.disac4.specs.System.{System, systemAt}

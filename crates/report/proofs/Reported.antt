@@ -1,26 +1,25 @@
 -- The list cells and the report, from the rows of the domains in memory.
-use Prim.Native.Nat.{ℕ, suc, _+_, _<_, _≤_}
+use Prim.Native.Nat.{ℕ, suc, _+_, _<_}
 use mathlib.Core.Bool.{cond}
-use mathlib.Core.List.{List, _++_}
+use mathlib.Core.List.{List}
 use mathlib.Core.Option.{Option, none, some, Option·getD}
 use mathlib.Core.Path.{_≡_, sym, _∙_, ap, ap₂}
 use native.Mathlib.Numerals.{add-one}
 use lib.Dec.{eqb}
-use lib.ListN.{length, set, drop}
-use Rattle.base.proofs.Below.{length-list-below, first-at, first-more}
+use Rattle.base.proofs.Below.{first-at, first-more}
 use Rattle.base.proofs.Choice.{cond-true, cond-false}
 use Rattle.base.proofs.Row.{row-none, row-some}
-use Rattle.base.specs.Below.{anyBelow, listBelow, firstBelow}
+use Rattle.base.specs.Below.{anyBelow, firstBelow}
 use Rattle.base.specs.Row.{rowOf}
-use Rattle.disac4.specs.Outcome.{overwrite}
+use Rattle.lending.specs.Call.{overwrite}
 use Rattle.disac4.specs.Report.{lowestEmpty, statusOf, listCells}
-use Rattle.disac4.specs.System.{systemOf, systemAt}
+use Rattle.disac4.specs.System.{systemOf, networkAt, systemAt}
 use Rattle.disac4.specs.declared.Report.{Report}
 use Rattle.disac4.specs.declared.Status.{Status}
 use Rattle.disac4.specs.declared.Status.the-variants.{Open, Closed, Bare}
 use Rattle.disac4.specs.declared.Tally.{Tally}
-use Rattle.cells.proofs.Overwritten.{written-all, written-length, written-next}
 use Rattle.cells.specs.Memory.{Mem}
+use Rattle.listing.proofs.ListCells.{rowsBefore, rows-all}
 use Rattle.refinement.specs.Run.{reportM}
 use Rattle.cells.specs.View.{inDomain, view}
 use Rattle.disac4.specs.declared.Progress.{Progress}
@@ -36,25 +35,11 @@ domainRow b m x = rowOf (sizeOf (planOf b) x) (inDomain m x)
 
 -- ---- the list cells
 
--- the rows of the first `k` variables, in front of the cells that are not written yet
-abbrev pub rowsBefore : List ℕ → Mem → ℕ → List ℕ → List ℕ
-rowsBefore b m k lists = listBelow k (domainRow b m) ++ drop k lists
-
-module _ (b : List ℕ) (m : Mem) (k : ℕ) (lists : List ℕ) where
-  pub rows-length : k ≤ length lists → length (rowsBefore b m k lists) ≡ length lists
-  rows-length h = written-length (listBelow k (domainRow b m)) k (length-list-below k (domainRow b m)) lists h
-
-  pub rows-next : k < length lists → set (rowsBefore b m k lists) k (domainRow b m k) ≡ rowsBefore b m (k + 1) lists
-  rows-next h =
-      written-next (listBelow k (domainRow b m)) k (length-list-below k (domainRow b m)) lists (domainRow b m k) h
-      ∙ ap (λ (n : ℕ). listBelow n (domainRow b m) ++ drop (k + 1) lists) (sym (add-one k))
-
-  pub rows-all : k ≡ variableCount b → (t : Tally)
-      → rowsBefore b m k lists ≡ overwrite (listCells (systemAt b) (view (systemAt b) m t)) lists
-  unfolding listCells systemOf networkOf view
-  rows-all e t =
-      written-all (listBelow k (domainRow b m)) k (length-list-below k (domainRow b m)) lists
-      ∙ ap (λ (n : ℕ). overwrite (listBelow n (domainRow b m)) lists) (e ∙ sym (variables-read b))
+-- all rows are written
+pub rows-written : (b : List ℕ) (m : Mem) (k : ℕ) (lists : List ℕ) → k ≡ variableCount b → (t : Tally)
+    → rowsBefore (domainRow b m) k lists ≡ overwrite (listCells (systemAt b) (view (systemAt b) m t)) lists
+unfolding systemOf networkOf view
+rows-written b m k lists e t = rows-all (networkAt b) (inDomain m) lists k (e ∙ sym (variables-read b))
 
 -- ---- empty domains
 

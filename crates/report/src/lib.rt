@@ -5,13 +5,14 @@ use disac4::Report;
 use disac4::Status;
 use format::read;
 use index::parts;
+use listing::put_row;
 ghost use mathlib.Core.Bool.{cond};
 ghost use mathlib.Core.Path.{_≡_};
 ghost use Prim.Native.Nat.{_<_, _≤_};
 ghost use lib.Dec.{eqb};
 ghost use lib.ListN.{length};
 ghost use Rattle.base.specs.Row.{rowOf};
-ghost use Rattle.disac4.specs.Outcome.{overwrite};
+ghost use Rattle.lending.specs.Call.{overwrite};
 ghost use Rattle.disac4.specs.Need.{listNeed};
 ghost use Rattle.disac4.specs.Report.{lowestEmpty, listCells};
 ghost use Rattle.disac4.specs.System.{systemAt};
@@ -42,7 +43,7 @@ pub fn write_lists(plan: &[u8], cells: &[u16], lists: &mut [u16])
     let variables = read::variable_count(plan);
     let mut x = 0;
     while x < variables {
-        lists[x] = domain_row(plan, cells, x) as u16;
+        put_row(lists, x, domain_row(plan, cells, x));
         x += 1;
     }
 }

@@ -4,7 +4,7 @@ use mathlib.Core.List.{List}
 use mathlib.Core.Option.{none}
 use mathlib.Core.Path.{_≡_, _∙_, ap}
 use lib.ListN.{length, replicate}
-use Rattle.disac4.specs.Outcome.{overwrite}
+use Rattle.lending.specs.Call.{overwrite}
 use Rattle.disac4.specs.Need.{workNeed}
 use Rattle.disac4.specs.Report.{lowestEmpty, statusOf, listCells, final, reportOf}
 use Rattle.disac4.specs.State.{State}

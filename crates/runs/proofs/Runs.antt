@@ -4,7 +4,8 @@ use mathlib.Core.List.{List, []}
 use mathlib.Core.Option.{none}
 use mathlib.Core.Path.{_≡_, refl, _∙_, ap, ap₂}
 use lib.ListN.{length}
-use Rattle.disac4.specs.Outcome.{outcome, Gives, lent, written}
+use Rattle.lending.specs.Call.{outcome, Gives}
+use Rattle.disac4.specs.Outcome.{lent, written}
 use Rattle.disac4.specs.Need.{workNeed}
 use Rattle.disac4.specs.Report.{reportOf}
 use Rattle.disac4.specs.System.{systemAt}

@@ -9,7 +9,7 @@ use Rattle.controller.proofs.ControllerLaws.{stands}
 use Rattle.controller.specs.Controller.{machine}
 use Rattle.disac4.specs.Fold.{playBy, gatherBy, countBy}
 use Rattle.disac4.specs.Need.{workNeed}
-use Rattle.disac4.specs.Outcome.{overwrite}
+use Rattle.lending.specs.Call.{overwrite}
 use Rattle.disac4.specs.System.{systemAt}
 use Rattle.disac4.specs.declared.Tally.{Tally}
 use Rattle.index.proofs.Chains.{indexed}

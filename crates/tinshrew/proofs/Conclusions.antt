@@ -1,27 +1,27 @@
 -- What a caller may conclude from a call's contract: the promises of the calls, from the plan's bytes, the turns and the buffers.
 use Prim.Native.Nat.{ℕ, _/_}
-use mathlib.Core.Bool.{Bool, true, false, cond, false≢true}
+use mathlib.Core.Bool.{Bool, true, false, cond}
 use mathlib.Core.List.{List, [], _∷_}
 use mathlib.Core.Logic.{_↔_}
-use mathlib.Core.Option.{none, some}
 use mathlib.Core.Path.{_≡_, refl, sym, _∙_, ap}
 use native.Mathlib.Omega.{arith}
 use lib.Dec.{eqb}
 use lib.ListN.{length}
-use Rattle.base.proofs.Below.{getD-list-below}
 use Rattle.base.proofs.Bools.{and-left}
 use Rattle.base.proofs.Each.{each-all, each-gather}
-use Rattle.base.proofs.Row.{row-bit}
-use Rattle.base.specs.Choice.{allOf}
-use Rattle.base.specs.Row.{bit, rowOf}
+use Rattle.base.proofs.Choice.{between-intro}
+use Rattle.base.specs.Choice.{between, allOf}
 use Rattle.disac4.proofs.Demands.{demand2, demand3, round-closes-plan}
 use Rattle.disac4.proofs.Order.{no-turn-list}
-use Rattle.disac4.proofs.Outcome.{list-cell-each, cells-written, run-played, run-refused, run-reports, run-declines}
+use Rattle.disac4.proofs.Outcome.{cells-written, run-answers}
 use Rattle.disac4.specs.Demands.{closedAfter, RoundCloses}
-use Rattle.disac4.specs.Outcome.{Lent, outcome, Gives, workBuffer, listBuffer, LongEnough, written, runFault, played, runOf, turnRun, roundRun, Written}
-use Rattle.disac4.specs.Report.{final, listCells, lowestEmpty, statusOf, reportOf}
+use Rattle.lending.specs.Call.{outcome, Gives, LongEnough}
+use Rattle.disac4.specs.Outcome.{Lent, workBuffer, listBuffer, written, Run, played, callOf, runOf, turnRun, roundRun, Written}
+use Rattle.listing.proofs.ListCells.{shows-cells, shown-listed}
+use Rattle.listing.specs.ListCells.{listedIn}
+use Rattle.disac4.specs.Report.{final, lowestEmpty, statusOf, reportOf}
 use Rattle.disac4.specs.Round.{roundRunTurns}
-use Rattle.disac4.specs.System.{systemAt}
+use Rattle.disac4.specs.System.{System, systemAt}
 use Rattle.disac4.specs.Turn.{Turn, allowed, turnsOf}
 use Rattle.disac4.specs.declared.Answer.{Answer}
 use Rattle.disac4.specs.declared.Answer.the-variants.{Reported, Declined}
@@ -29,7 +29,6 @@ use Rattle.disac4.specs.declared.Report.{Report}
 use Rattle.disac4.specs.declared.Status.{Status}
 use Rattle.disac4.specs.declared.Status.the-variants.{Open, Closed, Bare}
 use Rattle.network.proofs.Largest.{largest-consistent}
-use Rattle.network.proofs.Loaded.{loaded-variable, loaded-value}
 use Rattle.network.specs.Consistency.{Within, Largest}
 use Rattle.network.specs.Network.{Domains, loaded}
 use Rattle.plan.proofs.Answer.{plan-check, no-fault, its-fault}
@@ -41,8 +40,9 @@ use Rattle.plan.specs.declared.Checked as checked
 use Rattle.plan.specs.declared.Checked.{Checked}
 use Rattle.faults.specs.declared.Decline.{Decline}
 use Rattle.plan.specs.declared.Counts.{Counts}
-use Rattle.tinshrew.proofs.Faults.{declined-plan, Inputs, none-found, one-found, in-table, empty-fits}
-use Rattle.tinshrew.specs.Conclusions.{AcceptedPlan, DeclinedPlan, Call, turnCall, roundCall, system, PlanAndBuffersFit, TurnsFit, FirstFault, InTable, DeclinedRun, listedIn, ReportedRun, RunTells}
+use Rattle.tinshrew.proofs.Calls.{call-tells}
+use Rattle.tinshrew.proofs.Faults.{declined-plan, in-table, no-turns-fit, in-short-table}
+use Rattle.tinshrew.specs.Conclusions.{AcceptedPlan, DeclinedPlan, turnGiven, roundGiven, PlanAndBuffersFit, TurnsFit, ReportedRun, RunTells}
 
 -- ---- the plan check
 
@@ -97,50 +97,44 @@ never-open false full e h = let z : _≡_ {A = ℕ} 0 1 = cc in omega arith
 -- ---- a reported run
 
 -- what it leaves in the buffers is what is written, cell by cell
-abbrev Writes : Call → Type 0
-Writes c = PlanAndBuffersFit c → Written (c .before) (system c) (c .run .turns) (c .run .leaves (c .before))
+abbrev Writes : Run → Lent → Type 0
+Writes run l = Written l (systemAt (run .plan)) (run .turns) (run .leaves l)
 
-module _ (c : Call) (after : Lent) (r : Report) (fits : PlanAndBuffersFit c) (writes : Writes c)
-    (g : Gives (played (c .run) (c .before)) (Reported r) after) where
+module _ (run : Run) (l after : Lent) (r : Report) (accepts : decode (run .plan) ≡ accepted (planOf (run .plan)))
+    (writes : Writes run l) (g : Gives (played run l) (Reported r) after) where
+  abbrev sys : System
+  sys = systemAt (run .plan)
+
   -- the report is that of the turns
-  told : r ≡ reportOf (system c) (c .run .turns)
+  told : r ≡ reportOf sys (run .turns)
   unfolding played
   told = let e = g .answer in cc
 
   -- and so is every cell
-  wrote : Written (c .before) (system c) (c .run .turns) after
+  wrote : Written l sys (run .turns) after
   unfolding played
-  wrote = rw (g .cells) (writes fits)
+  wrote = rw (g .cells) writes
 
   -- list cells as the turns leave them hold a label exactly if it is still in its domain
-  holds : (x v : ℕ) → loaded (system c .net) x v ≡ true
-      → listedIn (system c .net) (after .lists) x v ≡ final (system c) (c .run .turns) .domain x v
-  unfolding listedIn listCells
-  holds x v h =
-      let net = system c .net in
-      let ended = final (system c) (c .run .turns) in
-      let row : ℕ → ℕ = λ y. rowOf (net .size y) (ended .domain y) in
-      let low = loaded-variable net x v h in
-      rw h
-      (ap (λ (k : ℕ). bit k v)
-      (wrote .cells x (omega (arith, low, list-cell-each (system c) ended)) ∙ getD-list-below (net .variables) row 0 x low)
-      ∙ row-bit (net .size x) (ended .domain x) v (loaded-value net x v h))
+  holds : (x v : ℕ) → loaded (sys .net) x v ≡ true
+      → listedIn (sys .net) (after .lists) x v ≡ final sys (run .turns) .domain x v
+  holds = shown-listed (sys .net) (final sys (run .turns) .domain) (after .lists) (shows-cells (sys .net) _ (after .lists) (wrote .lists .start))
 
   -- so they hold every label of the largest domains
-  keeps : (d : Domains) → Largest (system c .net) d → Within d (listedIn (system c .net) (after .lists))
+  keeps : (d : Domains) → Largest (sys .net) d → Within d (listedIn (sys .net) (after .lists))
   unfolding Within
   keeps d most x v p =
-      holds x v (largest-consistent (system c .net) d most .within x v p)
-      ∙ demand3 (c .run .plan) (planOf (c .run .plan)) (fits .accepts) (c .run .turns) .keeps-largest d most x v p
+      holds x v (largest-consistent (sys .net) d most .within x v p)
+      ∙ demand3 (run .plan) (planOf (run .plan)) accepts (run .turns) .keeps-largest d most x v p
 
   -- allowed turns that were played on fitting inputs
-  reported-run : allOf (allowed (system c .workers)) (c .run .turns) ≡ true → ReportedRun c after r
+  reported-run : allOf (allowed (sys .workers)) (run .turns) ≡ true → ReportedRun run l after r
   unfolding reportOf statusOf closedAfter Largest Within listedIn
   reported-run fine =
-      let b = c .run .plan in
-      let second = demand2 b (planOf b) (fits .accepts) (c .run .turns) in
-      let third = demand3 b (planOf b) (fits .accepts) (c .run .turns) in record {
-        accepts = fits .accepts;
+      let b = run .plan in
+      let second = demand2 b (planOf b) accepts (run .turns) in
+      let third = demand3 b (planOf b) accepts (run .turns) in record {
+        accepts = accepts;
         all-allowed = fine;
         report = told;
         cells = wrote;
@@ -154,59 +148,23 @@ module _ (c : Call) (after : Lent) (r : Report) (fits : PlanAndBuffersFit c) (wr
         bounded = rw told (third .bounded);
       }
 
+-- unless it is open, a reported run has closed its plan
+pub reported-closed : (run : Run) (l after : Lent) (r : Report) → ReportedRun run l after r → (r .status ≡ Open → ⊥)
+    → closedAfter (systemAt (run .plan)) (run .turns) ≡ true
+unfolding reportOf statusOf closedAfter
+reported-closed run l after r ran h =
+    closed-unless-open _ _ (λ e. h (ap (λ (s : Report). s .status) (ran .report) ∙ e))
+
 -- both buffers of an accepted plan's run, where they are long enough
 both-written : (b : List ℕ) (l : Lent) → LongEnough (workBuffer ∷ listBuffer ∷ []) l
     → decode b ≡ accepted (planOf b) → (turns : List Turn) → Written l (systemAt b) turns (written (systemAt b) turns l)
 both-written b l long accepts turns =
     cells-written b l (decode-plan b (planOf b) accepts .0) (long .0) (long .1 .0) turns
 
--- ---- any run
-
-module _ (c : Call) (inputs : Inputs c) (writes : Writes c) (a : Answer) (after : Lent)
-    (g : Gives (runOf (c .run) (c .before)) a after) where
-  -- where it reports, nothing was found
-  nothing-found : (r : Report) → a ≡ Reported r → runFault (c .run) (c .before) ≡ none
-  nothing-found r e = run-reports (c .run) (c .before) .0 (r, sym (g .answer) ∙ e)
-
-  -- where it declines, this fault
-  fault-found : (d : Decline) → a ≡ Declined d → runFault (c .run) (c .before) ≡ some d
-  fault-found d e = run-declines (c .run) (c .before) d .0 (sym (g .answer) ∙ e)
-
-  -- which is the first, in document 01's table, and changed no lent cell
-  declined-run : ((d : Decline) → FirstFault c d → InTable c d) → (d : Decline) → a ≡ Declined d → DeclinedRun c after d
-  declined-run table d e =
-      let first = one-found c inputs d .0 (fault-found d e) in record {
-        first = first;
-        in-table = table d first;
-        same-cells = g .cells ∙ sym (run-refused (c .run) (c .before) d (fault-found d e) .cells);
-      }
-
-  -- all that it tells, if the turns that it plays are allowed
-  run-tells : (Fitting : Type 0) → Fitting ↔ (PlanAndBuffersFit c × TurnsFit c)
-      → (PlanAndBuffersFit c → TurnsFit c → allOf (allowed (system c .workers)) (c .run .turns) ≡ true)
-      → ((d : Decline) → FirstFault c d → InTable c d) → RunTells Fitting c (outcome a after)
-  run-tells Fitting fitting fine table = record {
-    reports = (
-      λ s. fitting .1 (none-found c inputs .0 (nothing-found (s .0) (s .1))),
-      λ h.
-          let s = run-reports (c .run) (c .before) .1 (none-found c inputs .1 (fitting .0 h)) in
-          (s .0, g .answer ∙ s .1),
-    );
-    declines = λ d. (
-      λ e. one-found c inputs d .0 (fault-found d e),
-      λ h. g .answer ∙ run-declines (c .run) (c .before) d .1 (one-found c inputs d .1 h),
-    );
-    reported = λ r e.
-        let found = nothing-found r e in
-        let fits = none-found c inputs .0 found in
-        reported-run c after r (fits .0) writes (rw (← run-played (c .run) (c .before) found, ← e) g) (fine (fits .0) (fits .1));
-    declined = declined-run table;
-  }
-
 -- ---- the turn run
 
 -- a list of allowed turns, as they are played
-list-allowed : (b ts : List ℕ) (l : Lent) → TurnsFit (turnCall b ts l) → allOf (allowed (systemAt b .workers)) (turnsOf ts) ≡ true
+list-allowed : (b ts : List ℕ) (l : Lent) → TurnsFit (turnGiven b ts l) → allOf (allowed (systemAt b .workers)) (turnsOf ts) ≡ true
 unfolding turnsOf
 list-allowed b ts l fits =
     each-all (allowed (systemAt b .workers)) (turnsOf ts)
@@ -214,27 +172,31 @@ list-allowed b ts l fits =
 
 -- it reports exactly if none of the listed faults is there; otherwise it declines the first of them, with a number from 1 to 12
 pub turn-run-tells : (b ts : List ℕ) (l : Lent) (a : Answer) (after : Lent) → Gives (runOf (turnRun b ts) l) a after
-    → let c = turnCall b ts l in RunTells (PlanAndBuffersFit c × TurnsFit c) c (outcome a after)
+    → let here = turnGiven b ts l in RunTells (PlanAndBuffersFit here × TurnsFit here) (turnRun b ts) here (outcome a after)
 turn-run-tells b ts l a after g =
-    let c = turnCall b ts l in
-    run-tells c refl (λ h. both-written b l (h .buffers) (h .accepts) (turnsOf ts)) a after g _ (λ h. h, λ h. h) (λ h fits. list-allowed b ts l fits)
-    (in-table c refl (omega arith) (λ h. omega arith) (λ h. omega arith))
+    call-tells (callOf (turnRun b ts)) Reported (run-answers (turnRun b ts)) b ts refl (between 1 12) l a after g _ (λ h. h, λ h. h)
+    (in-table (turnGiven b ts l) refl (λ k low high. between-intro 1 12 k low (omega arith)) (λ h. refl) (λ h. refl)) _
+    (λ r fits turns did.
+    reported-run (turnRun b ts) l after r (fits .accepts) (both-written b l (fits .buffers) (fits .accepts) (turnsOf ts)) did
+    (list-allowed b ts l turns))
 
 -- ---- the round run
 
 -- it reports exactly if the buffers are long enough and the plan is accepted; otherwise the number is from 1 to 10, never 11 or 12
 pub round-run-tells : (b : List ℕ) (l : Lent) (a : Answer) (after : Lent) → Gives (runOf (roundRun b) l) a after
-    → RunTells (PlanAndBuffersFit (roundCall b l)) (roundCall b l) (outcome a after)
+    → RunTells (PlanAndBuffersFit (roundGiven b l)) (roundRun b) (roundGiven b l) (outcome a after)
 round-run-tells b l a after g =
-    let c = roundCall b l in
-    run-tells c (sym (no-turn-list b)) (λ h. both-written b l (h .buffers) (h .accepts) (roundRunTurns (systemAt b))) a after g _
-    (λ h. (h, empty-fits b l), λ h. h .0) (λ h fits. round-closes-plan b (planOf b) (h .accepts) .all-allowed)
-    (in-table c refl (omega arith)
-    (λ h. absurd (false≢true (sym h ∙ empty-fits b l .list-fits)))
-    (λ h. absurd (omega arith)))
+    let c = callOf (roundRun b) in
+    call-tells c Reported (run-answers (roundRun b)) b [] (sym (no-turn-list b)) (between 1 10) l a after g _
+    (λ h. (h, no-turns-fit c b (between 1 10) l), λ h. h .0)
+    (in-short-table c b (between 1 10) l refl (λ k low high. between-intro 1 10 k low (omega arith))) _
+    (λ r fits turns did.
+    reported-run (roundRun b) l after r (fits .accepts)
+    (both-written b l (fits .buffers) (fits .accepts) (roundRunTurns (systemAt b))) did
+    (round-closes-plan b (planOf b) (fits .accepts) .all-allowed))
 
 -- where it reports, the plan is closed after its turns, and the status is never open
-pub round-ends : (b : List ℕ) (l after : Lent) (r : Report) → ReportedRun (roundCall b l) after r
+pub round-ends : (b : List ℕ) (l after : Lent) (r : Report) → ReportedRun (roundRun b) l after r
     → RoundCloses (systemAt b) × (r .status ≡ Open → ⊥)
 unfolding reportOf statusOf closedAfter
 round-ends b l after r ran =
@@ -248,4 +210,4 @@ round-ends b l after r ran =
 -- so of what the call gives
 pub round-run-ends : (b : List ℕ) (l : Lent) (r : Report) (after : Lent) → Gives (runOf (roundRun b) l) (Reported r) after
     → RoundCloses (systemAt b) × (r .status ≡ Open → ⊥)
-round-run-ends b l r after g = round-ends b l after r (round-run-tells b l _ after g .reported r refl)
+round-run-ends b l r after g = round-ends b l after r (round-run-tells b l _ after g .told r refl)

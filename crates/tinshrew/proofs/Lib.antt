@@ -1,3 +1,5 @@
+pub mod Calls
 pub mod Conclusions
 pub mod Faults
 pub mod Numbers
+pub mod Sweeps

@@ -1,15 +1,17 @@
--- What a caller may conclude from what a call gives, as claims. `proofs/Conclusions.antt` proves them from the calls' contracts.
+-- What a caller may conclude from what a call gives, as claims. `proofs/Conclusions.antt` proves them from the calls' contracts. What
+-- C's numbers tell is in `Numbers.antt`, and all of the slow engine's in `Sweeps.antt`.
 use Prim.Native.Nat.{ℕ, _/_, _<_, _≤_}
-use mathlib.Core.Bool.{true, false, _&&_}
+use mathlib.Core.Bool.{Bool, true, false}
 use mathlib.Core.List.{List, []}
 use mathlib.Core.Logic.{_↔_}
 use mathlib.Core.Path.{_≡_}
-use lib.ListN.{length, getD}
+use lib.ListN.{length}
 use Rattle.format.specs.Limits.{maxWorkers, maxVariables, maxLabels, maxConstraints}
-use Rattle.base.specs.Choice.{allOf}
-use Rattle.base.specs.Row.{bit}
+use Rattle.base.specs.Choice.{between, allOf}
 use Rattle.disac4.specs.Demands.{Demand2, Demand3}
-use Rattle.disac4.specs.Outcome.{Lent, Outcome, LongEnough, TooShort, Run, turnRun, roundRun, Written}
+use Rattle.lending.specs.Call.{Outcome, Buffer, LongEnough, TooShort, Call}
+use Rattle.listing.specs.ListCells.{listedIn}
+use Rattle.disac4.specs.Outcome.{Lent, RunOutcome, Run, callOf, turnRun, roundRun, Written}
 use Rattle.disac4.specs.Report.{final, reportOf}
 use Rattle.disac4.specs.System.{System, boundOf, systemAt}
 use Rattle.disac4.specs.Turn.{allowed, turnAt, turnListFits}
@@ -17,7 +19,7 @@ use Rattle.disac4.specs.declared.Answer.the-variants.{Reported, Declined}
 use Rattle.disac4.specs.declared.Report.{Report}
 use Rattle.disac4.specs.declared.Status.the-variants.{Open}
 use Rattle.network.specs.Consistency.{Within, Largest}
-use Rattle.network.specs.Network.{Network, Domains, loaded}
+use Rattle.network.specs.Network.{Domains, loaded}
 use Rattle.plan.specs.Answer.{countsOf}
 use Rattle.plan.specs.Decode.{decode, accepted, declined, planOf}
 use Rattle.faults.specs.Fault.{numberOf, decline}
@@ -52,117 +54,127 @@ pub record DeclinedPlan (b : List ℕ) (d : Decline) : Type 0 where
   -- "Place": in the plan or at its end
   pub place : d .place ≤ length b
 
--- ---- a run and its caller
+-- ---- a call and its caller
 
--- a run, its turn list, the buffers that it is lent, and the highest number of a decline. A round run has no turn list: it declines
--- as with an empty one
-pub record Call : Type 0 where
-  pub run : Run
+-- a call as its caller sees it. One without a turn list declines as with an empty one
+pub record Given (L : Type 0) : Type 0 where
+  pub plan : List ℕ
   pub turnList : List ℕ
-  pub before : Lent
-  pub most : ℕ
+  -- the buffers that it needs, and what is lent to it
+  pub buffers : List (Buffer L)
+  pub before : L
+  -- the numbers that its declines may have
+  pub numbers : ℕ → Bool
 
--- the turn run's: 1 to 12
-abbrev pub turnCall : List ℕ → List ℕ → Lent → Call
-turnCall b ts l = record { run = turnRun b ts; turnList = ts; before = l; most = 12 }
+-- what a call on this plan is given
+abbrev pub given : {A L : Type 0} → Call A L → List ℕ → List ℕ → (ℕ → Bool) → L → Given L
+given c b ts numbers l = record { plan = b; turnList = ts; buffers = c .buffers; before = l; numbers = numbers }
 
--- the round run's: 1 to 10
-abbrev pub roundCall : List ℕ → Lent → Call
-roundCall b l = record { run = roundRun b; turnList = []; before = l; most = 10 }
+-- the turn run: 1 to 12
+abbrev pub turnGiven : List ℕ → List ℕ → Lent → Given Lent
+turnGiven b ts = given (callOf (turnRun b ts)) b ts (between 1 12)
 
--- its plan's system
-abbrev pub system : Call → System
-system c = systemAt (c .run .plan)
+-- the round run: 1 to 10
+abbrev pub roundGiven : List ℕ → Lent → Given Lent
+roundGiven b = given (callOf (roundRun b)) b [] (between 1 10)
 
--- ---- when a run reports
+-- ---- when a call succeeds
 
--- no fault in the plan and the buffers of a run
-pub record PlanAndBuffersFit (c : Call) : Type 0 where
-  -- not 9: at least 24,576 work cells; not 10: at least 32 list cells
-  pub buffers : LongEnough (c .run .buffers) (c .before)
-  -- none of 1 to 8: the plan is accepted
-  pub accepts : decode (c .run .plan) ≡ accepted (planOf (c .run .plan))
+module _ {L : Type 0} (g : Given L) where
+  -- no fault in its plan and its buffers
+  pub record PlanAndBuffersFit : Type 0 where
+    -- not 9, 10: the buffers have as many cells as are needed
+    pub buffers : LongEnough (g .buffers) (g .before)
+    -- none of 1 to 8: the plan is accepted
+    pub accepts : decode (g .plan) ≡ accepted (planOf (g .plan))
 
--- nor in the turn list
-pub record TurnsFit (c : Call) : Type 0 where
-  -- not 11: its length is even and at most 65,536
-  pub list-fits : turnListFits (c .turnList) ≡ true
-  -- not 12: every turn is allowed
-  pub all-allowed : (i : ℕ) → i < length (c .turnList) / 2 → allowed (system c .workers) (turnAt (c .turnList) i) ≡ true
+  -- nor in the turn list
+  pub record TurnsFit : Type 0 where
+    -- not 11: its length is even and at most 65,536
+    pub list-fits : turnListFits (g .turnList) ≡ true
+    -- not 12: every turn is allowed
+    pub all-allowed : (i : ℕ) → i < length (g .turnList) / 2
+        → allowed (systemAt (g .plan) .workers) (turnAt (g .turnList) i) ≡ true
 
--- ---- when a run is declined
+  -- ---- when it is declined
 
--- the fault that comes first in document 01's order, and its place
-pub data FirstFault (c : Call) (d : Decline) : Type 0 where
-  -- 9 or 10: a buffer is too short, and none before it is
-  short-buffer : (f : Fault) → TooShort (c .run .buffers) (c .before) f → d ≡ decline f 0 → FirstFault c d
-  -- 11
-  bad-list : LongEnough (c .run .buffers) (c .before) → turnListFits (c .turnList) ≡ false → d ≡ decline BadTurnList 0
-      → FirstFault c d
-  -- 1 to 8: the plan's first
-  bad-plan : LongEnough (c .run .buffers) (c .before) → turnListFits (c .turnList) ≡ true → decode (c .run .plan) ≡ declined d
-      → FirstFault c d
-  -- 12: turn i is not allowed, and all before it are
-  bad-turn : PlanAndBuffersFit c → turnListFits (c .turnList) ≡ true
-      → (i : ℕ) → i < length (c .turnList) / 2 → allowed (system c .workers) (turnAt (c .turnList) i) ≡ false
-      → ((j : ℕ) → j < i → allowed (system c .workers) (turnAt (c .turnList) j) ≡ true) → d ≡ decline BadTurn i
-      → FirstFault c d
+  -- the fault that comes first in document 01's order, and its place
+  pub data FirstFault (d : Decline) : Type 0 where
+    -- 9 or 10: a buffer is too short, and none before it is
+    short-buffer : (f : Fault) → TooShort (g .buffers) (g .before) f → d ≡ decline f 0 → FirstFault d
+    -- 11
+    bad-list : LongEnough (g .buffers) (g .before) → turnListFits (g .turnList) ≡ false → d ≡ decline BadTurnList 0
+        → FirstFault d
+    -- 1 to 8: the plan's first
+    bad-plan : LongEnough (g .buffers) (g .before) → turnListFits (g .turnList) ≡ true → decode (g .plan) ≡ declined d
+        → FirstFault d
+    -- 12: turn i is not allowed, and all before it are
+    bad-turn : PlanAndBuffersFit → turnListFits (g .turnList) ≡ true
+        → (i : ℕ) → i < length (g .turnList) / 2 → allowed (systemAt (g .plan) .workers) (turnAt (g .turnList) i) ≡ false
+        → ((j : ℕ) → j < i → allowed (systemAt (g .plan) .workers) (turnAt (g .turnList) j) ≡ true) → d ≡ decline BadTurn i
+        → FirstFault d
 
--- a decline as document 01's table has it
-pub record InTable (c : Call) (d : Decline) : Type 0 where
-  -- "Returned"
-  pub number : (1 ≤ numberOf (d .fault)) × (numberOf (d .fault) ≤ c .most)
-  -- "Place" for 1 to 8: in the plan or at its end
-  pub in-plan : numberOf (d .fault) ≤ 8 → d .place ≤ length (c .run .plan)
-  -- for 9, 10 and 11: 0
-  pub at-zero : 9 ≤ numberOf (d .fault) → numberOf (d .fault) ≤ 11 → d .place ≡ 0
-  -- for 12: the number of a turn, from 0
-  pub in-list : numberOf (d .fault) ≡ 12 → d .place < length (c .turnList) / 2
+  -- a decline as document 01's table has it
+  pub record InTable (d : Decline) : Type 0 where
+    -- "Returned"
+    pub number : g .numbers (numberOf (d .fault)) ≡ true
+    -- "Place" for 1 to 8: in the plan or at its end
+    pub in-plan : numberOf (d .fault) ≤ 8 → d .place ≤ length (g .plan)
+    -- for 9, 10 and 11: 0
+    pub at-zero : 9 ≤ numberOf (d .fault) → numberOf (d .fault) ≤ 11 → d .place ≡ 0
+    -- for 12: the number of a turn, from 0
+    pub in-list : numberOf (d .fault) ≡ 12 → d .place < length (g .turnList) / 2
 
--- a run that was declined, with the buffers after it
-pub record DeclinedRun (c : Call) (after : Lent) (d : Decline) : Type 0 where
-  pub first : FirstFault c d
-  pub in-table : InTable c d
-  -- no lent cell is changed
-  pub same-cells : after ≡ c .before
+  -- a call that was declined, with the buffers after it
+  pub record DeclinedCall (after : L) (d : Decline) : Type 0 where
+    pub first : FirstFault d
+    pub in-table : InTable d
+    -- no lent cell is changed
+    pub same-cells : after ≡ g .before
+
+  -- ---- all that a call tells
+
+  -- from its outcome. `success` and `declines` are its answers; `Fitting` is that nothing is at fault, and `Told` what follows
+  -- from a success
+  pub record CallTells {A S : Type 0} (success : S → A) (declines : Decline → A) (Fitting : Type 0) (Told : S → Type 0)
+      (o : Outcome A L) : Type 0 where
+    -- it succeeds exactly if nothing is at fault
+    pub succeeds : ((s : S) × (o .answer ≡ success s)) ↔ Fitting
+    -- it declines exactly the first fault
+    pub refuses : (d : Decline) → (o .answer ≡ declines d) ↔ FirstFault d
+    -- what follows from a success
+    pub told : (s : S) → o .answer ≡ success s → Told s
+    -- and from a decline
+    pub declined-call : (d : Decline) → o .answer ≡ declines d → DeclinedCall (o .left) d
 
 -- ---- what a report says
 
--- the domains that list cells hold: bit `v` of cell `x`, for each label of the plan
-unfoldable pub listedIn : Network → List ℕ → Domains
-listedIn net cells x v = loaded net x v && bit (getD cells x 0) v
+-- a run that reported, with the buffers before it and after it
+module _ (run : Run) (before after : Lent) where
+  abbrev sys : System
+  sys = systemAt (run .plan)
 
--- a run that reported, with the buffers after it
-pub record ReportedRun (c : Call) (after : Lent) (r : Report) : Type 0 where
-  -- the plan is accepted
-  pub accepts : decode (c .run .plan) ≡ accepted (planOf (c .run .plan))
-  -- every turn is allowed
-  pub all-allowed : allOf (allowed (system c .workers)) (c .run .turns) ≡ true
-  -- the report is that of these turns
-  pub report : r ≡ reportOf (system c) (c .run .turns)
-  -- every cell of the buffers: cleared, written or kept
-  pub cells : Written (c .before) (system c) (c .run .turns) after
-  pub demand2 : Demand2 (system c) (c .run .turns)
-  pub demand3 : Demand3 (system c) (c .run .turns)
-  -- the list cells hold a label exactly if it is still in its domain
-  pub listed : (x v : ℕ) → loaded (system c .net) x v ≡ true
-      → listedIn (system c .net) (after .lists) x v ≡ final (system c) (c .run .turns) .domain x v
-  -- they hold every label of the largest arc-consistent domains
-  pub keeps-largest : (d : Domains) → Largest (system c .net) d → Within d (listedIn (system c .net) (after .lists))
-  -- unless the status is open, they are the largest arc-consistent domains
-  pub largest : (r .status ≡ Open → ⊥) → Largest (system c .net) (listedIn (system c .net) (after .lists))
-  -- the reported number of changing turns is at most 5pL + 2L + 3p + 1
-  pub bounded : r .changes ≤ boundOf (system c)
+  pub record ReportedRun (r : Report) : Type 0 where
+    -- the plan is accepted
+    pub accepts : decode (run .plan) ≡ accepted (planOf (run .plan))
+    -- every turn is allowed
+    pub all-allowed : allOf (allowed (sys .workers)) (run .turns) ≡ true
+    -- the report is that of these turns
+    pub report : r ≡ reportOf sys (run .turns)
+    -- every cell of the buffers: cleared, written or kept
+    pub cells : Written before sys (run .turns) after
+    pub demand2 : Demand2 sys (run .turns)
+    pub demand3 : Demand3 sys (run .turns)
+    -- the list cells hold a label exactly if it is still in its domain
+    pub listed : (x v : ℕ) → loaded (sys .net) x v ≡ true
+        → listedIn (sys .net) (after .lists) x v ≡ final sys (run .turns) .domain x v
+    -- they hold every label of the largest arc-consistent domains
+    pub keeps-largest : (d : Domains) → Largest (sys .net) d → Within d (listedIn (sys .net) (after .lists))
+    -- unless the status is open, they are the largest arc-consistent domains
+    pub largest : (r .status ≡ Open → ⊥) → Largest (sys .net) (listedIn (sys .net) (after .lists))
+    -- the reported number of changing turns is at most 5pL + 2L + 3p + 1
+    pub bounded : r .changes ≤ boundOf sys
 
--- ---- all that a run tells
-
--- from its outcome; `Fitting` is that nothing is at fault
-pub record RunTells (Fitting : Type 0) (c : Call) (o : Outcome) : Type 0 where
-  -- it reports exactly if nothing is at fault
-  pub reports : ((r : Report) × (o .answer ≡ Reported r)) ↔ Fitting
-  -- it declines exactly the first fault
-  pub declines : (d : Decline) → (o .answer ≡ Declined d) ↔ FirstFault c d
-  -- what follows from a report
-  pub reported : (r : Report) → o .answer ≡ Reported r → ReportedRun c (o .left) r
-  -- and from a decline
-  pub declined : (d : Decline) → o .answer ≡ Declined d → DeclinedRun c (o .left) d
+-- all that a run tells
+abbrev pub RunTells : Type 0 → Run → Given Lent → RunOutcome → Type 0
+RunTells Fitting run g o = CallTells g Reported Declined Fitting (ReportedRun run (g .before) (o .left)) o

@@ -2,12 +2,14 @@
 use denote.Ref.{now}
 use mathlib.Core.Option.{none}
 use mathlib.Core.Path.{_≡_, sym, _∙_}
-use Rattle.disac4.proofs.Outcome.{run-played, run-refused}
-use Rattle.disac4.specs.Outcome.{Lent, lent, Run, runFault, roundRun}
+use Rattle.disac4.proofs.Tested.{short-refused, fault-refused, found-does}
+use Rattle.disac4.specs.Outcome.{Lent, lent, callOf, roundRun}
+use Rattle.disac4.specs.declared.Answer.{Answer}
+use Rattle.lending.specs.Call.{Call}
 use Rattle.plan.specs.Decode.{planFault}
 use Rattle.format.specs.Format.{workerCount}
-use Rattle.plan.proofs.Answer.{plan-check, no-fault, its-fault, its-workers}
-use Rattle.calls.proofs.Tests.{buffers-long, buffers-pass, buffers-fail}
+use Rattle.plan.proofs.Answer.{plan-check, no-fault, its-workers}
+use Rattle.lending.proofs.Buffers.{buffers-long}
 use borrow.Author.Needs.{needs}
 use Rattle.calls.proofs.run_round.Statement.{statement}
 use Rattle.calls.proofs.run_round.Tie as tie
@@ -17,18 +19,15 @@ use Rattle.calls.proofs.run_round.Tie as tie
 abbrev start : tie.After-check-buffers → tie.Start
 start k = let borrowed = k .before .before .before in borrowed .before .before .before
 
-abbrev run : tie.After-check-buffers → Run
-run k = roundRun (now (start k .args .plan))
+abbrev run : tie.After-check-buffers → Call Answer Lent
+run k = callOf (roundRun (now (start k .args .plan)))
 
 abbrev before : tie.After-check-buffers → Lent
 before k = lent (now (start k .args .work)) (now (start k .args .lists))
 
--- the buffers pass, so that the other inputs decide
+-- the buffers pass
 abbrev tested : tie.After-enum-told → tie.After-check-buffers
 tested e = e .before .before
-
-others-decide : (e : tie.After-enum-told) → runFault (run (tested e)) (before (tested e)) ≡ run (tested e) .fault
-others-decide e = buffers-pass (run (tested e)) (before (tested e)) _ (tested e .check-buffers .ensures) (e .enum-told .given .1)
 
 -- ---- where the tests find nothing
 
@@ -63,7 +62,7 @@ returns c =
     let failed : tie.After-verdict = search in
     let k : tie.After-check-buffers = search in
     rw (c .short .ensures)
-    (run-refused (run k) (before k) _ (buffers-fail (run k) (before k) _ (k .check-buffers .ensures) _ (failed .verdict .given .1)))
+    (short-refused (run k) (before k) _ (k .check-buffers .ensures) _ (failed .verdict .given .1))
 
 enum-told : tie.Need-enum-told
 enum-told c = search needs
@@ -98,8 +97,8 @@ returns-2 : tie.Need-returns-2
 returns-2 c =
     let checked : tie.After-check-plan = search in
     let k = tested (checked .before) in
-    run-refused (run k) (before k) _
-    (others-decide (checked .before) ∙ its-fault _ _ _ (sym (c .before .d .given .1) ∙ checked .check-plan .ensures ∙ plan-check _))
+    fault-refused (run k) (before k) _ (k .check-buffers .ensures) (checked .before .enum-told .given .1) _ _
+    (checked .check-plan .ensures ∙ plan-check _) _ (c .before .d .given .1)
 
 same-length-5 : tie.Need-same-length-5
 same-length-5 c = search needs
@@ -111,7 +110,10 @@ returns-3 : tie.Need-returns-3
 returns-3 c =
     let played : tie.After-play-until-closed = search in
     let accepted : tie.After-f = search in
-    rw (run-played _ _ (others-decide (passed accepted) ∙ sound accepted)) (played .play-until-closed .ensures)
+    let k = tested (passed accepted) in
+    rw
+    (found-does (run k) (before k) _ (k .check-buffers .ensures) (passed accepted .enum-told .given .1) _ _
+    (accepted .before .before .check-plan .ensures ∙ plan-check _) _ (accepted .f .given .1)) (played .play-until-closed .ensures)
 
 pub run-round-spec : {M : Type 1} → statement M
 run-round-spec =

@@ -3,11 +3,13 @@ use denote.Ref.{now}
 use mathlib.Core.Option.{none}
 use mathlib.Core.Path.{_≡_, sym, _∙_}
 use Rattle.disac4.proofs.Order.{turn-passed}
-use Rattle.disac4.proofs.Outcome.{run-played, run-refused}
-use Rattle.disac4.specs.Outcome.{Lent, lent, Run, runFault, turnRun}
+use Rattle.disac4.proofs.Tested.{short-refused, fault-refused, nothing-found}
+use Rattle.lending.proofs.Outcome.{call-does}
+use Rattle.disac4.specs.Outcome.{Lent, lent, callOf, turnRun}
+use Rattle.disac4.specs.declared.Answer.{Answer}
+use Rattle.lending.specs.Call.{Call, callFault}
 use Rattle.format.specs.Format.{workerCount}
-use Rattle.plan.proofs.Answer.{no-fault, its-fault, its-workers}
-use Rattle.calls.proofs.Tests.{buffers-pass, buffers-fail}
+use Rattle.plan.proofs.Answer.{its-workers}
 use borrow.Author.Needs.{needs}
 use Rattle.calls.proofs.run_turns.Statement.{statement}
 use Rattle.calls.proofs.run_turns.Tie as tie
@@ -17,27 +19,26 @@ use Rattle.calls.proofs.run_turns.Tie as tie
 abbrev start : tie.After-check-buffers → tie.Start
 start k = let borrowed = k .before .before .before in borrowed .before .before .before .before
 
-abbrev run : tie.After-check-buffers → Run
-run k = turnRun (now (start k .args .plan)) (now (start k .args .turns))
+abbrev run : tie.After-check-buffers → Call Answer Lent
+run k = callOf (turnRun (now (start k .args .plan)) (now (start k .args .turns)))
 
 abbrev before : tie.After-check-buffers → Lent
 before k = lent (now (start k .args .work)) (now (start k .args .lists))
 
--- the buffers pass, so that the other inputs decide
+-- the buffers pass
 abbrev tested : tie.After-enum-told → tie.After-check-buffers
 tested e = e .before .before
-
-others-decide : (e : tie.After-enum-told) → runFault (run (tested e)) (before (tested e)) ≡ run (tested e) .fault
-others-decide e = buffers-pass (run (tested e)) (before (tested e)) _ (tested e .check-buffers .ensures) (e .enum-told .given .1)
 
 -- ---- where the tests find nothing
 
 abbrev passed : tie.After-f → tie.After-enum-told
 passed t = t .before .before .before
 
-nothing : (t : tie.After-f) → let k = tested (passed t) in runFault (run k) (before k) ≡ none
+nothing : (t : tie.After-f) → let k = tested (passed t) in callFault (run k) (before k) ≡ none
 nothing t =
-    others-decide (passed t) ∙ no-fault _ _ _ (sym (t .f .given .1) ∙ t .before .before .check-inputs .ensures) .0
+    let k = tested (passed t) in
+    nothing-found (run k) (before k) _ (k .check-buffers .ensures) (passed t .enum-told .given .1) _ _
+    (t .before .before .check-inputs .ensures) _ (t .f .given .1)
 
 workers : (t : tie.After-f) → t .f .given .0 .0 .workers ≡ workerCount (now (start (tested (passed t)) .args .plan))
 workers t = its-workers _ _ _ (sym (t .f .given .1) ∙ t .before .before .check-inputs .ensures)
@@ -64,7 +65,7 @@ returns c =
     let failed : tie.After-verdict = search in
     let k : tie.After-check-buffers = search in
     rw (c .short .ensures)
-    (run-refused (run k) (before k) _ (buffers-fail (run k) (before k) _ (k .check-buffers .ensures) _ (failed .verdict .given .1)))
+    (short-refused (run k) (before k) _ (k .check-buffers .ensures) _ (failed .verdict .given .1))
 
 enum-told : tie.Need-enum-told
 enum-told c = search needs
@@ -99,8 +100,8 @@ returns-2 : tie.Need-returns-2
 returns-2 c =
     let checked : tie.After-check-inputs = search in
     let k = tested (checked .before) in
-    run-refused (run k) (before k) _
-    (others-decide (checked .before) ∙ its-fault _ _ _ (sym (c .before .d .given .1) ∙ checked .check-inputs .ensures))
+    fault-refused (run k) (before k) _ (k .check-buffers .ensures) (checked .before .enum-told .given .1) _ _
+    (checked .check-inputs .ensures) _ (c .before .d .given .1)
 
 same-length-5 : tie.Need-same-length-5
 same-length-5 c = search needs
@@ -112,7 +113,7 @@ returns-3 : tie.Need-returns-3
 returns-3 c =
     let played : tie.After-play-list = search in
     let accepted : tie.After-f = search in
-    rw (run-played _ _ (nothing accepted)) (played .play-list .ensures)
+    rw (call-does _ _ (nothing accepted)) (played .play-list .ensures)
 
 pub run-turns-spec : {M : Type 1} → statement M
 run-turns-spec =

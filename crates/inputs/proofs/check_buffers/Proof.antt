@@ -1,6 +1,6 @@
 -- `inputs::check_buffers` gives 9 for too few work cells, then 10 for too few list cells. Assumes nothing.
 use borrow.Author.Tests.{le-leb, lt-leb}
-use Rattle.disac4.specs.Outcome.{bufferChecks}
+use Rattle.lending.specs.Call.{bufferChecks}
 use Rattle.disac4.specs.Need.{workNeed, listNeed}
 use Rattle.inputs.proofs.check_buffers.Statement.{statement}
 use Rattle.inputs.proofs.check_buffers.Tie as tie

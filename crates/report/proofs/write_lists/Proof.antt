@@ -4,58 +4,58 @@ use Prim.Native.Nat.{ℕ, _-_, _≤_}
 use borrow.Author.Needs.{needs}
 use denote.Ref.{now}
 use mathlib.Core.List.{List}
-use mathlib.Core.Path.{_≡_, refl, _∙_, ap, ap₂}
+use mathlib.Core.Path.{_≡_, _∙_, ap, ap₂}
 use native.Mathlib.Omega.{arith}
-use lib.ListN.{length, set}
-use Rattle.disac4.specs.Need.{listNeed}
-use Rattle.index.proofs.Places.{few-sections}
-use Rattle.report.proofs.Reported.{rowsBefore, rows-length, rows-next, rows-all}
+use lib.ListN.{length}
+use Rattle.cells.specs.Memory.{memOf}
+use Rattle.format.specs.Limits.{maxVariables}
+use Rattle.index.proofs.Counted.{counted}
+use Rattle.listing.proofs.ListCells.{rowsBefore, rows-none, rows-length, rows-next}
+use Rattle.listing.specs.ListCells.{putRow}
+use Rattle.report.proofs.Reported.{domainRow, rows-written}
 use Rattle.report.proofs.write_lists.Statement.{statement}
 use Rattle.report.proofs.write_lists.Tie as tie
-use Rattle.cells.specs.Memory.{memOf}
 
 abbrev Inv-loop : tie.InvT-loop
-Inv-loop b cells lists₀ variables x₀ lists x = (x ≤ variables) × (lists ≡ rowsBefore b (memOf cells) x lists₀)
+Inv-loop plan cells lists₀ variables x₀ lists x =
+    (x ≤ variables) × (lists ≡ rowsBefore (domainRow plan (memOf cells)) x lists₀)
 
 abbrev μ-loop : tie.MeasureT-loop
-μ-loop b cells lists₀ variables x₀ lists x = variables - x
+μ-loop plan cells lists₀ variables x₀ lists x = variables - x
 
 variable-count-requires : tie.Need-variable-count-requires Inv-loop μ-loop
 variable-count-requires c κs = search needs
 
 loop-holds : tie.Need-loop-holds Inv-loop μ-loop
-loop-holds c = (omega arith, refl)
+loop-holds c =
+    let start : tie.Start Inv-loop μ-loop = search in
+    (omega arith, rows-none (domainRow (now (start .args .plan)) (memOf (now (start .args .cells)))) (now (start .args .lists)))
 
 abbrev start-of : tie.At-loop Inv-loop μ-loop → tie.Start Inv-loop μ-loop
 start-of c = let counted = c .before in counted .before .before .before .before
 
--- the cells are as many as they were, and there is one for each variable
-long : (c : tie.At-loop Inv-loop μ-loop) → let lists = now (start-of c .args .lists) in
-    (length (c .loop .lists) ≡ length lists) × (c .before .variable-count .result ≤ length lists)
-unfolding listNeed
-long c =
-    let s = start-of c in
-    let room : c .before .variable-count .result ≤ length (now (s .args .lists)) =
-    omega (arith, few-sections (now (s .args .plan)) (s .pre .0 .sound), c .before .variable-count .ensures, s .pre .1) in (
-      ap length (c .loop .inv .1)
-          ∙ rows-length (now (s .args .plan)) (memOf (now (s .args .cells))) (c .loop .x) (now (s .args .lists))
-          (omega (arith, c .loop .inv .0)),
-      room,
-    )
+abbrev row : tie.At-loop Inv-loop μ-loop → ℕ → ℕ
+row c = domainRow (now (start-of c .args .plan)) (memOf (now (start-of c .args .cells)))
+
+-- no plan has more variables than there is room for
+few : (c : tie.At-loop Inv-loop μ-loop) → c .before .variable-count .result ≤ maxVariables
+few c = counted (start-of c .pre .0) (c .before .variable-count .ensures .0) .few
+
+-- the cells are as many as they were
+same : (c : tie.At-loop Inv-loop μ-loop) → length (c .loop .lists) ≡ length (now (start-of c .args .lists))
+same c =
+    ap length (c .loop .inv .1)
+    ∙ rows-length (row c) (c .loop .x) (now (start-of c .args .lists)) (start-of c .pre .1) (omega (arith, c .loop .inv .0, few c))
 
 domain-row-requires : tie.Need-domain-row-requires Inv-loop μ-loop
 domain-row-requires c κs =
-    let at-loop = c .before in
+    let at-loop : tie.At-loop Inv-loop μ-loop = search in
     (start-of at-loop .pre .0, omega (arith, at-loop .before .variable-count .ensures))
 
-cast-lists : tie.Need-cast-lists Inv-loop μ-loop
-cast-lists c = omega (arith, c .domain-row .ensures)
-
-mul-lists : tie.Need-mul-lists Inv-loop μ-loop
-mul-lists c = omega (arith, c .before .before .before .variable-count .ensures)
-
-slice-write-lists : tie.Need-slice-write-lists Inv-loop μ-loop
-slice-write-lists c = omega (arith, long (c .before .before))
+put-row-requires : tie.Need-put-row-requires Inv-loop μ-loop
+put-row-requires c κs =
+    let at-loop : tie.At-loop Inv-loop μ-loop = search in
+    (omega (arith, few at-loop), omega (arith, same at-loop, start-of at-loop .pre .1), c .domain-row .ensures .1)
 
 add-x : tie.Need-add-x Inv-loop μ-loop
 add-x c = omega arith
@@ -66,22 +66,24 @@ loop-less c = omega arith
 loop-again : tie.Need-loop-again Inv-loop μ-loop
 loop-again c =
     let at-loop : tie.At-loop Inv-loop μ-loop = search in
-    let start = start-of at-loop in (
+    let rowed : tie.After-domain-row Inv-loop μ-loop = search in
+    let put : tie.After-put-row Inv-loop μ-loop = search in
+    let x = at-loop .loop .x in (
       omega arith,
-      ap₂ (λ (a : List ℕ) (v : ℕ). set a (at-loop .loop .x) v) (at-loop .loop .inv .1) (c .domain-row .ensures .0)
-          ∙ rows-next (now (start .args .plan)) (memOf (now (start .args .cells))) (at-loop .loop .x) (now (start .args .lists))
-          (omega (arith, long at-loop)),
+      put .put-row .ensures
+          ∙ ap₂ (λ (a : List ℕ) (v : ℕ). putRow x v a) (at-loop .loop .inv .1) (rowed .domain-row .ensures .0)
+          ∙ rows-next (row at-loop) x (now (start-of at-loop .args .lists)) (start-of at-loop .pre .1) (omega (arith, few at-loop)),
     )
 
 same-length : tie.Need-same-length Inv-loop μ-loop
-same-length c = long (c .before) .0
+same-length c = same (c .before)
 
 returns : tie.Need-returns Inv-loop μ-loop
 returns c t =
     let at-loop = c .before in
     let start = start-of at-loop in
     at-loop .loop .inv .1
-    ∙ rows-all (now (start .args .plan)) (memOf (now (start .args .cells))) (at-loop .loop .x) (now (start .args .lists))
+    ∙ rows-written (now (start .args .plan)) (memOf (now (start .args .cells))) (at-loop .loop .x) (now (start .args .lists))
     (omega (arith, at-loop .before .variable-count .ensures)) t
 
 pub write-lists-spec : {M : Type 1} → statement M
@@ -93,9 +95,7 @@ write-lists-spec =
     variable-count-requires
     loop-holds
     domain-row-requires
-    cast-lists
-    mul-lists
-    slice-write-lists
+    put-row-requires
     add-x
     loop-less
     loop-again

@@ -19,7 +19,7 @@ same-length-2 c = search needs
 returns : tie.Need-returns
 returns c =
     let ran : tie.After-run-round = search in
-    as-numbers _ _ _ _ (c .answer-numbers .ensures) (ran .run-round .ensures)
+    as-numbers _ _ _ _ _ (c .answer-numbers .ensures) (ran .run-round .ensures)
 
 pub tinshrew-run-round-spec : {M : Type 1} → statement M
 tinshrew-run-round-spec =

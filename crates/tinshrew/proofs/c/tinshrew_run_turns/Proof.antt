@@ -19,7 +19,7 @@ same-length-2 c = search needs
 returns : tie.Need-returns
 returns c =
     let ran : tie.After-run-turns = search in
-    as-numbers _ _ _ _ (c .answer-numbers .ensures) (ran .run-turns .ensures)
+    as-numbers _ _ _ _ _ (c .answer-numbers .ensures) (ran .run-turns .ensures)
 
 pub tinshrew-run-turns-spec : {M : Type 1} → statement M
 tinshrew-run-turns-spec =

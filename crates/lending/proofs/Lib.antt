@@ -1,0 +1,3 @@
+pub mod Buffers
+pub mod Outcome
+pub mod Overwritten

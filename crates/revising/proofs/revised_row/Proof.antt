@@ -1,0 +1,107 @@
+-- `revising::revised_row` gives the values of the row that have a support in another variable's list. Invariant: the row so
+-- far is that of the first v values that pass, for any domains that the lists show. Assumes nothing.
+use Prim.Native.Nat.{ℕ, _-_, _+_, _≤_}
+use denote.Ref.{now}
+use mathlib.Core.Bool.{Bool, _&&_}
+use mathlib.Core.List.{List}
+use native.Mathlib.Omega.{arith}
+use Rattle.base.specs.Row.{bit}
+use Rattle.disac4.specs.System.{networkAt}
+use Rattle.listing.specs.ListCells.{Shows}
+use Rattle.network.specs.Network.{Domains}
+use Rattle.network.specs.Sweep.{hasSupport}
+use Rattle.revising.proofs.Growing.{Growing, growing-none, growing-more, growing-all, growing-low}
+use Rattle.revising.proofs.revised_row.Statement.{statement}
+use Rattle.revising.proofs.revised_row.Tie as tie
+
+-- domains that the lists show
+abbrev Shown : List ℕ → List ℕ → Type 0
+Shown plan lists = (d : Domains) × Shows (networkAt plan) d lists
+
+-- the row holds the value, and it has a support in them
+abbrev passes : (plan lists : List ℕ) → ℕ → ℕ → ℕ → Shown plan lists → ℕ → Bool
+passes plan lists x y row shown v = bit row v && hasSupport (networkAt plan) (shown .0) x v y
+
+abbrev Inv-loop : tie.InvT-loop
+Inv-loop plan cells lists x y row values kept₀ v₀ kept v = (v ≤ values) × Growing (passes plan lists x y row) v kept
+
+abbrev μ-loop : tie.MeasureT-loop
+μ-loop plan cells lists x y row values kept₀ v₀ kept v = values - v
+
+size-requires : tie.Need-size-requires Inv-loop μ-loop
+size-requires c κs =
+    let start : tie.Start Inv-loop μ-loop = search in
+    (start .pre .0, start .pre .1)
+
+loop-holds : tie.Need-loop-holds Inv-loop μ-loop
+loop-holds c = (omega arith, growing-none _)
+
+keeps-requires : tie.Need-keeps-requires Inv-loop μ-loop
+keeps-requires c κs =
+    let start : tie.Start Inv-loop μ-loop = search in
+    let counted : tie.After-size Inv-loop μ-loop = search in (
+      start .pre .0,
+      record { variable = start .pre .1; value = omega (arith, counted .size .ensures) },
+      start .pre .2,
+      start .pre .3,
+    )
+
+row-if-requires : tie.Need-row-if-requires Inv-loop μ-loop
+row-if-requires c κs =
+    let counted : tie.After-size Inv-loop μ-loop = search in
+    omega (arith, counted .size .ensures)
+
+abbrev loop-of : tie.After-row-if Inv-loop μ-loop → tie.At-loop Inv-loop μ-loop
+loop-of c = c .before .before .before
+
+abbrev start-of : tie.At-loop Inv-loop μ-loop → tie.Start Inv-loop μ-loop
+start-of c = let known = c .before .before in known .before .before .before
+
+-- the row with one value more
+more : (c : tie.After-row-if Inv-loop μ-loop) → let start = start-of (loop-of c) in
+    Growing (passes (now (start .args .plan)) (now (start .args .lists)) (start .args .x) (start .args .y) (start .args .row))
+    (loop-of c .loop .v + 1) (loop-of c .loop .kept + c .row-if .result)
+more c =
+    let l = loop-of c .loop in
+    growing-more _ (l .v) (l .kept) (c .row-if .result) (c .before .keeps .result) (l .inv .1) (c .row-if .ensures)
+    (λ shown. c .before .keeps .ensures (shown .0) (shown .1))
+
+add-kept : tie.Need-add-kept Inv-loop μ-loop
+add-kept c =
+    let counted : tie.After-size Inv-loop μ-loop = search in
+    omega (arith, growing-low _ (loop-of c .loop .v + 1) _ (more c) (omega (arith, counted .size .ensures)))
+
+add-v : tie.Need-add-v Inv-loop μ-loop
+add-v c =
+    let counted : tie.After-size Inv-loop μ-loop = search in
+    omega (arith, counted .size .ensures)
+
+loop-less : tie.Need-loop-less Inv-loop μ-loop
+loop-less c = omega arith
+
+loop-again : tie.Need-loop-again Inv-loop μ-loop
+loop-again c = (omega arith, more c)
+
+returns : tie.Need-returns Inv-loop μ-loop
+returns c =
+    let counted : tie.After-size Inv-loop μ-loop = search in
+    let l = c .before .loop in (
+      growing-low _ (l .v) (l .kept) (l .inv .1) (omega (arith, counted .size .ensures)),
+      λ d shows. growing-all _ (l .v) (l .kept) (l .inv .1) _ (omega (arith, counted .size .ensures)) (d, shows),
+    )
+
+pub revised-row-spec : {M : Type 1} → statement M
+revised-row-spec =
+    tie.close
+    (tie.spec
+    Inv-loop
+    μ-loop
+    size-requires
+    loop-holds
+    keeps-requires
+    row-if-requires
+    add-kept
+    add-v
+    loop-less
+    loop-again
+    returns)

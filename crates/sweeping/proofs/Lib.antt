@@ -1,0 +1,6 @@
+pub mod Alternating
+pub mod Ended
+pub mod Going
+pub mod LoadedRows
+pub mod RowLeft
+pub mod Writing
