@@ -1,4 +1,4 @@
-/* Plays a list of turns on a small plan. From the repository's folder:
+/* Plays a list of turns on a small plan, and then the sweeps. From the repository's folder:
  *
  *     rt staticlib tinshrew && cc -Iinclude include/example.c target/staticlib/libtinshrew.a -o target/example
  *     target/example
@@ -7,6 +7,8 @@
  *
  *     2 kitchens, 3 slots, 2 rules, 6 dishes
  *     status 1, 17 changing turns, 2 lists, 1 polls, empty slot 0
+ *     1 3 1
+ *     3 sweeps, the last in buffer 2
  *     1 3 1
  */
 #include <stdio.h>
@@ -30,6 +32,23 @@ static const uint8_t turns[] = {
 
 static uint16_t work[TINSHREW_WORK_CELLS];
 static uint16_t lists[TINSHREW_LIST_CELLS];
+static uint16_t first[TINSHREW_LIST_CELLS];
+static uint16_t second[TINSHREW_LIST_CELLS];
+
+/* Whether the call that wrote `out` was declined; if so, number and place are printed. */
+static int declined(const size_t *out) {
+    if (out[0] != 0) {
+        printf("declined %zu %zu\n", out[0], out[1]);
+    }
+    return out[0] != 0;
+}
+
+static void print_cells(const uint16_t *cells, size_t count) {
+    for (size_t s = 0; s < count; s++) {
+        printf(s == 0 ? "%u" : " %u", (unsigned)cells[s]);
+    }
+    printf("\n");
+}
 
 int main(void) {
     if (tinshrew_version() != TINSHREW_VERSION) {
@@ -39,23 +58,28 @@ int main(void) {
 
     size_t figures[TINSHREW_CHECK_OUT];
     tinshrew_check_plan(plan, sizeof plan, figures);
-    if (figures[0] != 0) {
-        printf("declined %zu %zu\n", figures[0], figures[1]);
+    if (declined(figures)) {
         return 1;
     }
     printf("%zu kitchens, %zu slots, %zu rules, %zu dishes\n", figures[1], figures[2], figures[3], figures[4]);
 
     size_t report[TINSHREW_RUN_OUT];
     tinshrew_run_turns(plan, sizeof plan, turns, sizeof turns, work, TINSHREW_WORK_CELLS, lists, TINSHREW_LIST_CELLS, report);
-    if (report[0] != 0) {
-        printf("declined %zu %zu\n", report[0], report[1]);
+    if (declined(report)) {
         return 1;
     }
     printf("status %zu, %zu changing turns, %zu lists, %zu polls, empty slot %zu\n",
            report[1], report[2], report[3], report[4], report[5]);
-    for (size_t s = 0; s < figures[2]; s++) {
-        printf(s == 0 ? "%u" : " %u", (unsigned)lists[s]);
+    print_cells(lists, figures[2]);
+
+    size_t sweeps[TINSHREW_SWEEPS_OUT];
+    tinshrew_run_sweeps(plan, sizeof plan, first, TINSHREW_LIST_CELLS, second, TINSHREW_LIST_CELLS, sweeps);
+    if (declined(sweeps)) {
+        return 1;
     }
-    printf("\n");
+    size_t last[TINSHREW_LAST_SWEEP_OUT];
+    tinshrew_last_sweep(first, TINSHREW_LIST_CELLS, second, TINSHREW_LIST_CELLS, sweeps[1], figures[2], last);
+    printf("%zu sweeps, the last in buffer %zu\n", sweeps[1], last[1]);
+    print_cells(last[1] == 1 ? first : second, last[2]);
     return 0;
 }

@@ -1,27 +1,30 @@
 /* Tinshrew: strikes dishes from the lists of a plan, between kitchens.
  *
- * Three calls, for x86-64 Linux, and two that say which library is linked. For C from C99 on, and for C++. Link
+ * Five calls, for x86-64 Linux, and two that say which library is linked. For C from C99 on, and for C++. Link
  * target/staticlib/libtinshrew.a, which `rt staticlib tinshrew` writes.
  *
  *   tinshrew_check_plan   checks a plan
  *   tinshrew_run_turns    plays a list of turns on a plan
  *   tinshrew_run_round    plays rounds on a plan until it is closed
+ *   tinshrew_run_sweeps   gives the lists of the closed plan by a slower method, which can be followed on paper
+ *   tinshrew_last_sweep   tells where the last sweep stands
  *   tinshrew_version      the version of the linked library's interface
  *   tinshrew_cells        how many cells of a buffer the linked library needs
  *
- * docs/FORMAT.md has the bytes of a plan and of a turn list, what each turn does, and the round. A sodium rule allows a
- * pair exactly if both figures are recorded (65,535 is "not recorded") and their sum is at most the rule's limit.
+ * docs/FORMAT.md has the bytes of a plan and of a turn list, what each turn does, the round and the sweeps. A sodium rule
+ * allows a pair exactly if both figures are recorded (65,535 is "not recorded") and their sum is at most the rule's limit.
  *
  * Every call ends, whatever the bytes are. The library allocates nothing and keeps nothing between calls, so
  * calls may run at the same time, if none writes a buffer of another. It calls nothing of its caller's, and of other
  * libraries memset alone. It has no unwind information: what walks the stack by it, as a profiler or a signal handler may,
- * does not get past the library's frames.
+ * does not get past the library's frames. tinshrew_run_sweeps takes less than 50 KiB of stack, every other call less than
+ * 1 KiB.
  *
  * Each buffer is a pointer and the number of its cells. No pointer is null, not even one to no cells: of an empty list
  * pass the address of any byte and the length 0. In C++ the data() of an empty vector may be null; tinshrew_bytes takes
- * care of that. A buffer that is written (work, lists, out) overlaps no other buffer of the call.
+ * care of that. A buffer that is written (one that is not const) overlaps no other buffer of the call.
  *
- * How each of the three calls answers: it writes every cell of `out`, and returns nothing. out[0] is 0 where the call did
+ * How each of the five calls answers: it writes every cell of `out`, and returns nothing. out[0] is 0 where the call did
  * its work. Otherwise the call is declined: out[0] is the decline's number, out[1] its place, and the cells behind are 0.
  * A declined call changes no lent cell except those of `out`.
  */
@@ -36,22 +39,25 @@ extern "C" {
 #endif
 
 /* The version of this interface. It goes up with each change of a signature, of a number or of what a call needs. Where
- * tinshrew_version() gives another number, the linked library goes with another header: make no other call.
+ * tinshrew_version() gives another number, the linked library goes with another header: make no other call. A new call
+ * leaves it as it is: a program that makes that call does not link with a library that lacks it.
  */
 #define TINSHREW_VERSION 1
 
-/* How many cells the buffers of a run have at least: work and lists have cells of 16 bits. */
+/* How many cells of 16 bits a buffer has at least: of work, and of lists (each of the two of the sweeps too). */
 #define TINSHREW_WORK_CELLS 24576
 #define TINSHREW_LIST_CELLS 32
 
 /* How many bytes a turn list has at most. */
 #define TINSHREW_TURN_BYTES 65536
 
-/* How many cells `out` has: for the plan check, and for each of the two runs. */
+/* How many cells `out` has: for the plan check, for each of the two runs, for the sweeps, and for the last sweep. */
 #define TINSHREW_CHECK_OUT 5
 #define TINSHREW_RUN_OUT 6
+#define TINSHREW_SWEEPS_OUT 2
+#define TINSHREW_LAST_SWEEP_OUT 3
 
-/* The buffers of a run, as tinshrew_cells is asked for them. */
+/* The kinds of buffers, as tinshrew_cells is asked for them. */
 enum {
     TINSHREW_WORK = 1,
     TINSHREW_LISTS = 2
@@ -65,8 +71,8 @@ enum {
 };
 
 /* Why a call is declined, and the place that goes with it. A section starts at its first length byte, whether that is
- * there or not: where a section is missing, the place is the plan's length. The plan check never gives 9 to 12, and a
- * round run never gives 11 or 12.
+ * there or not: where a section is missing, the place is the plan's length. The plan check never gives 9 to 12, a round
+ * run never 11 or 12, and the sweeps never 9, 11 or 12. tinshrew_last_sweep is never declined.
  *
  * Where several apply, the first in this order is given: 9, 10, 11; 1 for an empty plan; 2; the sections in turn; 8; 12.
  * In each section 1 comes first, then
@@ -84,7 +90,7 @@ enum {
     TINSHREW_BAD_RULE = 7,       /* kind above 1, or a table bit at or past the second slot's count (section start) */
     TINSHREW_TRAILING_BYTES = 8, /* bytes after the last section (first such byte) */
     TINSHREW_SHORT_WORK = 9,     /* fewer than TINSHREW_WORK_CELLS work cells (0) */
-    TINSHREW_SHORT_LISTS = 10,   /* fewer than TINSHREW_LIST_CELLS list cells (0) */
+    TINSHREW_SHORT_LISTS = 10,   /* fewer than TINSHREW_LIST_CELLS cells in a list buffer (0) */
     TINSHREW_BAD_TURN_LIST = 11, /* turn list of odd length or over TINSHREW_TURN_BYTES (0) */
     TINSHREW_BAD_TURN = 12       /* a turn that is not allowed (number of the first such turn, from 0) */
 };
@@ -135,6 +141,30 @@ void tinshrew_run_turns(const uint8_t *plan, size_t plan_len, const uint8_t *tur
 void tinshrew_run_round(const uint8_t *plan, size_t plan_len,
                         uint16_t *work, size_t work_len, uint16_t *lists, size_t lists_len,
                         size_t out[TINSHREW_RUN_OUT]);
+
+/* Sweeps the lists of a plan until nothing more is struck. `first` starts with every dish listed. Each sweep reads one
+ * buffer and writes the other: it keeps each dish that was listed and has, against every slot that its own shares a rule
+ * with, a support that was listed. The first sweep that strikes nothing is the last. On success
+ *   out[0]  0
+ *   out[1]  number of sweeps, the last one too: from 1 to one more than the plan has dishes
+ * and
+ *   first, second  hold lists as in tinshrew_run_turns, those of the closed plan. After an odd number of sweeps the last
+ *                  one stands in `second`, else in `first`; since it strikes nothing, both hold the same lists. Cells
+ *                  from the number of slots on keep what they had, and what the others held before plays no part.
+ */
+void tinshrew_run_sweeps(const uint8_t *plan, size_t plan_len,
+                         uint16_t *first, size_t first_len, uint16_t *second, size_t second_len,
+                         size_t out[TINSHREW_SWEEPS_OUT]);
+
+/* Tells where the last of so many sweeps stands, whatever the buffers and the numbers are.
+ *   sweeps  number of sweeps, as tinshrew_run_sweeps gives it
+ *   count   how many cells are asked for: the number of slots, for all lists
+ *   out[0]  0
+ *   out[1]  2 for `second`, where the number of sweeps is odd; 1 for `first`, where it is even, 0 too
+ *   out[2]  how many cells are the answer, from the start of that buffer: `count`, or 0 where it has fewer
+ */
+void tinshrew_last_sweep(const uint16_t *first, size_t first_len, const uint16_t *second, size_t second_len,
+                         size_t sweeps, size_t count, size_t out[TINSHREW_LAST_SWEEP_OUT]);
 
 #ifdef __cplusplus
 }

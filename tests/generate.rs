@@ -200,36 +200,70 @@ pub fn chain_plan(rng: &mut Rng, workers: usize, n: usize, values: usize) -> Pla
     Plan { workers, variables, constraints }
 }
 
-/// The full plan of the benchmark: 8 workers, 32 variables of 16 values, 128
-/// constraints, and a chain through all variables that deletes hundreds of
-/// labels.
-pub fn full_plan(rng: &mut Rng, strictly: bool) -> Plan {
-    let mut variables = full_variables(rng);
-    // Each figure recorded and any two within the limit: the chain alone
-    // deletes.
-    for value in variables.iter_mut().flat_map(|variable| &mut variable.values) {
+/// A ring of at least three variables that loses its labels one by one: each
+/// value goes with the same one of the next variable, and each of the last
+/// variable with the next one of the first. So the first value of the first
+/// variable has no support, and each deletion takes the only support of one
+/// other label. The last values also go with each other, and stay.
+pub fn ring_plan(rng: &mut Rng, workers: usize, n: usize, values: usize) -> Plan {
+    let variables = even_variables(rng, workers, n, values);
+    let same: Vec<u16> = (0..values).map(|a| 1 << a).collect();
+    let mut one_less: Vec<u16> = same.iter().map(|row| row >> 1).collect();
+    one_less[values - 1] |= same[values - 1];
+    let mut constraints: Vec<Constraint> =
+        (1..n).map(|first| tabled(first, first + 1, same.clone())).collect();
+    constraints.push(tabled(1, n, one_less));
+    Plan { workers, variables, constraints }
+}
+
+/// Makes each figure recorded and any two of them less than 65,535.
+fn record_all(plan: &mut Plan) {
+    for value in plan.variables.iter_mut().flat_map(|variable| &mut variable.values) {
         value.sodium /= 4;
     }
-    let at_most = |a: usize| (0xFFFFu32 << a) as u16;
-    let mut constraints = Vec::new();
-    for first in 1..FULL.variables {
-        // Strictly less along 32 variables of 16 values deletes all labels;
-        // otherwise every fourth step is strict and a core stays.
-        let strict = usize::from(strictly || first % 4 == 0);
-        let rows = (0..FULL.values).map(|a| at_most(a + strict)).collect();
-        constraints.push(tabled(first, first + 1, rows));
-    }
-    while constraints.len() < FULL.constraints {
+}
+
+/// Adds constraints up to the full number: sodium rules that allow every two
+/// recorded figures, and tables of these rows.
+fn fill_up(rng: &mut Rng, plan: &mut Plan, rows: impl Fn(usize) -> u16) {
+    while plan.constraints.len() < FULL.constraints {
         let (first, second) = pair(rng, FULL.variables);
         let relation = if rng.chance(1, 3) {
             Relation::Sodium(65_535)
         } else {
-            // At most as large, which the chain implies already.
-            Relation::Table((0..FULL.values).map(at_most).collect())
+            Relation::Table((0..FULL.values).map(&rows).collect())
         };
-        constraints.push(Constraint { first, second, relation });
+        plan.constraints.push(Constraint { first, second, relation });
     }
-    Plan { workers: FULL.workers, variables, constraints }
+}
+
+/// A full plan with such a ring through all variables, where every deletion
+/// takes a sweep of its own; the other constraints allow everything.
+pub fn full_ring(rng: &mut Rng) -> Plan {
+    let mut plan = ring_plan(rng, FULL.workers, FULL.variables, FULL.values);
+    record_all(&mut plan);
+    fill_up(rng, &mut plan, |_| u16::MAX);
+    plan
+}
+
+/// The full plan of the benchmark: 8 workers, 32 variables of 16 values, 128
+/// constraints, and a chain through all variables that alone deletes hundreds
+/// of labels.
+pub fn full_plan(rng: &mut Rng, strictly: bool) -> Plan {
+    let at_most = |a: usize| (0xFFFFu32 << a) as u16;
+    let step = |first: usize| {
+        // Strictly less along 32 variables of 16 values deletes all labels;
+        // otherwise every fourth step is strict and a core stays.
+        let strict = usize::from(strictly || first % 4 == 0);
+        tabled(first, first + 1, (0..FULL.values).map(|a| at_most(a + strict)).collect())
+    };
+    let variables = full_variables(rng);
+    let constraints = (1..FULL.variables).map(step).collect();
+    let mut plan = Plan { workers: FULL.workers, variables, constraints };
+    record_all(&mut plan);
+    // At most as large, which the chain implies already.
+    fill_up(rng, &mut plan, at_most);
+    plan
 }
 
 /// A full plan with 128 tables of even density, `part` of 256 pairs allowed,
@@ -335,4 +369,28 @@ pub fn guided_turns(rng: &mut Rng, plan: &Plan, most: usize, starving: bool) -> 
         turns.extend(turn.encode());
     }
     turns
+}
+
+#[cfg(test)]
+mod tests {
+    use super::*;
+    use crate::reference::lists::cells;
+    use crate::reference::plan::Network;
+    use crate::reference::sweep::sweeps;
+
+    /// How many labels each sweep deletes.
+    fn deletions(plan: &Plan) -> Vec<u32> {
+        let listed = |cells: Vec<u16>| cells.iter().map(|cell| cell.count_ones()).sum();
+        let all = sweeps(plan, &Network::new(plan));
+        let counts: Vec<u32> = all.iter().map(cells).map(listed).collect();
+        counts.windows(2).map(|pair| pair[0] - pair[1]).collect()
+    }
+
+    #[test]
+    fn rings_lose_one_label_a_sweep() {
+        let mut rng = Rng::new(1);
+        for (plan, lost) in [(ring_plan(&mut rng, 2, 3, 2), 3), (full_ring(&mut rng), 32 * 15)] {
+            assert_eq!(deletions(&plan), [vec![1; lost], vec![0]].concat());
+        }
+    }
 }

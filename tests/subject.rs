@@ -6,9 +6,10 @@ use std::slice::{from_raw_parts, from_raw_parts_mut};
 use std::sync::atomic::{AtomicUsize, Ordering};
 
 use crate::fast::{self, fault, Fault, Faulty, Sound};
-use crate::library::{CheckOut, RunOut};
+use crate::library::{CheckOut, LastSweepOut, RunOut, SweepsOut};
 use crate::reference::run::{self, Run};
-use crate::reference::Decline;
+use crate::reference::sweep::{self, Swept};
+use crate::reference::{Decline, LIST_CELLS};
 
 type CheckPlan = unsafe extern "C" fn(*const u8, usize, *mut CheckOut);
 type RunTurns = unsafe extern "C" fn(
@@ -24,14 +25,20 @@ type RunTurns = unsafe extern "C" fn(
 );
 type RunRound =
     unsafe extern "C" fn(*const u8, usize, *mut u16, usize, *mut u16, usize, *mut RunOut);
+type RunSweeps =
+    unsafe extern "C" fn(*const u8, usize, *mut u16, usize, *mut u16, usize, *mut SweepsOut);
+type LastSweep =
+    unsafe extern "C" fn(*const u16, usize, *const u16, usize, usize, usize, *mut LastSweepOut);
 
-/// The three functions under test.
+/// The functions under test.
 #[derive(Clone, Copy)]
 pub struct Subject {
     pub name: &'static str,
     check_plan: CheckPlan,
     run_turns: RunTurns,
     run_round: RunRound,
+    run_sweeps: RunSweeps,
+    last_sweep: LastSweep,
 }
 
 impl Subject {
@@ -70,6 +77,34 @@ impl Subject {
             }
         }
     }
+
+    pub fn run_sweeps(
+        &self,
+        plan: &[u8],
+        first: &mut [u16],
+        second: &mut [u16],
+        out: &mut SweepsOut,
+    ) {
+        let (plan, plan_len) = (plan.as_ptr(), plan.len());
+        let (first, first_len) = (first.as_mut_ptr(), first.len());
+        let (second, second_len) = (second.as_mut_ptr(), second.len());
+        // SAFETY: the slices are as long as stated, and `out` has the cells that are written.
+        unsafe { (self.run_sweeps)(plan, plan_len, first, first_len, second, second_len, out) }
+    }
+
+    pub fn last_sweep(
+        &self,
+        first: &[u16],
+        second: &[u16],
+        sweeps: usize,
+        count: usize,
+        out: &mut LastSweepOut,
+    ) {
+        let (first, first_len) = (first.as_ptr(), first.len());
+        let (second, second_len) = (second.as_ptr(), second.len());
+        // SAFETY: the slices are as long as stated, and `out` has the cells that are written.
+        unsafe { (self.last_sweep)(first, first_len, second, second_len, sweeps, count, out) }
+    }
 }
 
 /// The library, when the build found it.
@@ -80,6 +115,8 @@ pub fn library() -> Option<Subject> {
         check_plan: crate::library::tinshrew_check_plan,
         run_turns: crate::library::tinshrew_run_turns,
         run_round: crate::library::tinshrew_run_round,
+        run_sweeps: crate::library::tinshrew_run_sweeps,
+        last_sweep: crate::library::tinshrew_last_sweep,
     });
     #[cfg(not(linked))]
     None
@@ -105,11 +142,21 @@ trait StandIn {
     fn check_plan(plan: &[u8]) -> Answer<4>;
     fn run_turns(plan: &[u8], turns: &[u8], work: &mut [u16], lists: &mut [u16]) -> Answer<5>;
     fn run_round(plan: &[u8], work: &mut [u16], lists: &mut [u16]) -> Answer<5>;
+    fn run_sweeps(plan: &[u8], first: &mut [u16], second: &mut [u16]) -> Answer<1>;
+    fn last_sweep(first: &[u16], second: &[u16], sweeps: usize, count: usize) -> [usize; 2];
 
-    /// Work cells that it is lent beyond those of the caller.
-    fn spare() -> usize {
-        0
+    fn spare() -> Spare {
+        Spare::default()
     }
+}
+
+/// Cells that a stand-in is lent beyond those of the caller: work cells, and
+/// those of the two buffers of the sweeps.
+#[derive(Default)]
+struct Spare {
+    work: usize,
+    first: usize,
+    second: usize,
 }
 
 unsafe extern "C" fn check_plan<S: StandIn>(plan: *const u8, plan_len: usize, out: *mut CheckOut) {
@@ -128,7 +175,7 @@ unsafe extern "C" fn run_turns<S: StandIn>(
     out: *mut RunOut,
 ) {
     let (plan, turns) = (from_raw_parts(plan, plan_len), from_raw_parts(turns, turns_len));
-    let work = from_raw_parts_mut(work, work_len + S::spare());
+    let work = from_raw_parts_mut(work, work_len + S::spare().work);
     let lists = from_raw_parts_mut(lists, lists_len);
     write_answer(S::run_turns(plan, turns, work, lists), &mut *out);
 }
@@ -143,9 +190,37 @@ unsafe extern "C" fn run_round<S: StandIn>(
     out: *mut RunOut,
 ) {
     let plan = from_raw_parts(plan, plan_len);
-    let work = from_raw_parts_mut(work, work_len + S::spare());
+    let work = from_raw_parts_mut(work, work_len + S::spare().work);
     let lists = from_raw_parts_mut(lists, lists_len);
     write_answer(S::run_round(plan, work, lists), &mut *out);
+}
+
+unsafe extern "C" fn run_sweeps<S: StandIn>(
+    plan: *const u8,
+    plan_len: usize,
+    first: *mut u16,
+    first_len: usize,
+    second: *mut u16,
+    second_len: usize,
+    out: *mut SweepsOut,
+) {
+    let plan = from_raw_parts(plan, plan_len);
+    let first = from_raw_parts_mut(first, first_len + S::spare().first);
+    let second = from_raw_parts_mut(second, second_len + S::spare().second);
+    write_answer(S::run_sweeps(plan, first, second), &mut *out);
+}
+
+unsafe extern "C" fn last_sweep<S: StandIn>(
+    first: *const u16,
+    first_len: usize,
+    second: *const u16,
+    second_len: usize,
+    sweeps: usize,
+    count: usize,
+    out: *mut LastSweepOut,
+) {
+    let (first, second) = (from_raw_parts(first, first_len), from_raw_parts(second, second_len));
+    write_answer(Ok(S::last_sweep(first, second, sweeps, count)), &mut *out);
 }
 
 fn subject<S: StandIn>(name: &'static str) -> Subject {
@@ -154,14 +229,20 @@ fn subject<S: StandIn>(name: &'static str) -> Subject {
         check_plan: check_plan::<S>,
         run_turns: run_turns::<S>,
         run_round: run_round::<S>,
+        run_sweeps: run_sweeps::<S>,
+        last_sweep: last_sweep::<S>,
     }
 }
 
 struct Reference;
 
+fn number_and_place(decline: &Decline) -> (usize, usize) {
+    (decline.number, decline.place)
+}
+
 /// The reference's answer to a plan check.
 pub fn reference_check(plan: &[u8]) -> Answer<4> {
-    run::check_plan(plan).map_err(|decline| (decline.number, decline.place))
+    run::check_plan(plan).map_err(|decline| number_and_place(&decline))
 }
 
 /// The answer that a run of the reference comes to.
@@ -171,8 +252,13 @@ pub fn reference_answer(result: &Result<Run, Decline>) -> Answer<5> {
             let r = run.report();
             Ok([r.status as usize, r.changed, r.lists_sent, r.polls_sent, r.lowest_empty])
         }
-        Err(decline) => Err((decline.number, decline.place)),
+        Err(decline) => Err(number_and_place(decline)),
     }
+}
+
+/// The answer that sweeps of the reference come to.
+pub fn reference_sweeps(result: &Result<Swept, Decline>) -> Answer<1> {
+    result.as_ref().map(|swept| [swept.sweeps]).map_err(number_and_place)
 }
 
 impl StandIn for Reference {
@@ -186,6 +272,14 @@ impl StandIn for Reference {
 
     fn run_round(plan: &[u8], work: &mut [u16], lists: &mut [u16]) -> Answer<5> {
         reference_answer(&run::run_round(plan, work, lists, &mut |_| {}))
+    }
+
+    fn run_sweeps(plan: &[u8], first: &mut [u16], second: &mut [u16]) -> Answer<1> {
+        reference_sweeps(&sweep::run_sweeps(plan, first, second))
+    }
+
+    fn last_sweep(first: &[u16], second: &[u16], sweeps: usize, count: usize) -> [usize; 2] {
+        sweep::last_sweep(first, second, sweeps, count)
     }
 }
 
@@ -207,6 +301,14 @@ impl StandIn for Fast {
 
     fn run_round(plan: &[u8], work: &mut [u16], lists: &mut [u16]) -> Answer<5> {
         fast::run_round(Sound, plan, work, lists, true)
+    }
+
+    fn run_sweeps(plan: &[u8], first: &mut [u16], second: &mut [u16]) -> Answer<1> {
+        fast::run_sweeps(Sound, plan, first, second)
+    }
+
+    fn last_sweep(first: &[u16], second: &[u16], sweeps: usize, count: usize) -> [usize; 2] {
+        fast::last_sweep(Sound, [first.len(), second.len()], sweeps, count)
     }
 }
 
@@ -236,10 +338,25 @@ impl StandIn for Wrong {
         fast::run_round(current(), plan, work, lists, true)
     }
 
-    // The variant that accepts one work cell too few still clears the full
-    // number, so it is given one cell more than it was lent.
-    fn spare() -> usize {
-        usize::from(current().0 == Fault::WorkOneLess)
+    fn run_sweeps(plan: &[u8], first: &mut [u16], second: &mut [u16]) -> Answer<1> {
+        fast::run_sweeps(current(), plan, first, second)
+    }
+
+    fn last_sweep(first: &[u16], second: &[u16], sweeps: usize, count: usize) -> [usize; 2] {
+        fast::last_sweep(current(), [first.len(), second.len()], sweeps, count)
+    }
+
+    // A variant that accepts too few cells still writes the full number, so
+    // it is given the missing ones beyond those it was lent.
+    fn spare() -> Spare {
+        let none = Spare::default();
+        match current().0 {
+            Fault::WorkOneLess => Spare { work: 1, ..none },
+            Fault::SweepListsOneLess => Spare { first: 1, second: 1, ..none },
+            Fault::FirstLengthOnly => Spare { second: LIST_CELLS, ..none },
+            Fault::SecondLengthOnly => Spare { first: LIST_CELLS, ..none },
+            _ => none,
+        }
     }
 }
 

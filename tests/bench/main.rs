@@ -1,20 +1,22 @@
-// Times the library against the fast plain Rust implementation.
+// Times the library against the fast plain Rust implementation, and its
+// sweeps against its round run.
 //
 //   bench          the library
 //   bench --self   the reference in the library's place
 //   bench --fast   the fast implementation itself, through the interface
 //
-// Both get the same bytes and the same lent buffers, filled with garbage
+// All get the same bytes and the same lent buffers, filled with garbage
 // outside the timed part. The library sets the first 24,576 work cells to 0,
 // as it must; the Rust implementation does not use them, and is timed both
 // without clearing them and with. The plan is decoded in each timed run.
 
+use std::fmt::Debug;
 use std::hint::black_box;
 use std::process::exit;
 use std::time::{Duration, Instant};
 
 use tinshrew_tests::fast::{self, Sound};
-use tinshrew_tests::generate::{full_plan, random_turns, scattered_plan};
+use tinshrew_tests::generate::{full_plan, full_ring, random_turns, scattered_plan};
 use tinshrew_tests::reference::plan::decode;
 use tinshrew_tests::reference::run::{decode_turns, Run};
 use tinshrew_tests::reference::state::Turn;
@@ -27,23 +29,29 @@ const LEAST_TIME: Duration = Duration::from_millis(1500);
 
 struct Buffers {
     work: Vec<u16>,
+    /// Of a run, and the first of the sweeps.
     lists: Vec<u16>,
+    /// The second of the sweeps.
+    second: Vec<u16>,
     rng: Rng,
 }
 
 impl Buffers {
     fn new() -> Buffers {
-        Buffers { work: vec![0; WORK_CELLS], lists: vec![0; LIST_CELLS], rng: Rng::new(3) }
+        let lists = vec![0; LIST_CELLS];
+        let second = lists.clone();
+        Buffers { work: vec![0; WORK_CELLS], lists, second, rng: Rng::new(3) }
     }
 
     fn fill(&mut self) {
         let word = self.rng.word();
         self.work.fill(word);
         self.lists.fill(!word);
+        self.second.fill(word);
     }
 }
 
-type Call<'a> = &'a mut dyn FnMut(&mut [u16], &mut [u16]);
+type Call<'a> = &'a mut dyn FnMut(&mut Buffers);
 
 /// The median times of calls that take turns, each time with buffers full of
 /// garbage, so that a busy machine slows all of them alike; and the median of
@@ -55,7 +63,7 @@ fn time(buffers: &mut Buffers, calls: &mut [Call]) -> Vec<(f64, f64)> {
         for (call, times) in calls.iter_mut().zip(&mut times) {
             buffers.fill();
             let start = Instant::now();
-            call(black_box(&mut buffers.work), black_box(&mut buffers.lists));
+            call(black_box(&mut *buffers));
             times.push(start.elapsed().as_secs_f64() * 1e6);
         }
     }
@@ -74,25 +82,14 @@ fn median(mut numbers: Vec<f64>) -> f64 {
     numbers[numbers.len() / 2]
 }
 
-fn call(
-    subject: &Subject,
-    plan: &[u8],
-    turns: Option<&[u8]>,
-    work: &mut [u16],
-    lists: &mut [u16],
-) -> [usize; 6] {
+fn call(subject: &Subject, plan: &[u8], turns: Option<&[u8]>, lent: &mut Buffers) -> [usize; 6] {
     let mut out = [usize::MAX; 6];
-    subject.run(plan, turns, work, lists, &mut out);
+    subject.run(plan, turns, &mut lent.work, &mut lent.lists, &mut out);
     out
 }
 
-fn rust(
-    plan: &[u8],
-    turns: Option<&[u8]>,
-    work: &mut [u16],
-    lists: &mut [u16],
-    clear: bool,
-) -> [usize; 6] {
+fn rust(plan: &[u8], turns: Option<&[u8]>, lent: &mut Buffers, clear: bool) -> [usize; 6] {
+    let (work, lists) = (&mut lent.work, &mut lent.lists);
     let answer = match turns {
         Some(turns) => fast::run_turns(Sound, plan, turns, work, lists, clear),
         None => fast::run_round(Sound, plan, work, lists, clear),
@@ -100,6 +97,26 @@ fn rust(
     let mut out = [0; 6];
     write_answer(answer, &mut out);
     out
+}
+
+fn sweeps(subject: &Subject, plan: &[u8], lent: &mut Buffers) -> [usize; 2] {
+    let mut out = [usize::MAX; 2];
+    subject.run_sweeps(plan, &mut lent.lists, &mut lent.second, &mut out);
+    out
+}
+
+/// Ends the program where answers differ that should be the same.
+fn same<T: PartialEq + Debug>(what: &str, found: T, expected: T) {
+    if found != expected {
+        eprintln!("bench: {what}: the answers differ, {found:?} and {expected:?}");
+        exit(1);
+    }
+}
+
+/// How many of a plan's labels are not in these list cells.
+fn deleted(plan: &[u8], cells: &[u16]) -> usize {
+    let listed: usize = cells.iter().map(|cell| cell.count_ones() as usize).sum();
+    fast::check_plan(Sound, plan).map_or(0, |numbers| numbers[3]) - listed
 }
 
 /// Both must give the same before they are timed. The answer, and how many
@@ -111,19 +128,14 @@ fn agree(
     turns: Option<&[u8]>,
     buffers: &mut Buffers,
 ) -> ([usize; 6], usize) {
-    buffers.fill();
-    let found = call(subject, plan, turns, &mut buffers.work, &mut buffers.lists);
-    let lists = buffers.lists.clone();
-    buffers.fill();
-    let expected = rust(plan, turns, &mut buffers.work, &mut buffers.lists, true);
     let n = usize::from(plan[4]);
-    if found != expected || lists[..n] != buffers.lists[..n] {
-        eprintln!("bench: {what}: the answers differ, {found:?} and {expected:?}");
-        exit(1);
-    }
-    let listed: usize = lists[..n].iter().map(|cell| cell.count_ones() as usize).sum();
-    let loaded = fast::check_plan(Sound, plan).map_or(0, |numbers| numbers[3]);
-    (found, loaded - listed)
+    buffers.fill();
+    let found = call(subject, plan, turns, buffers);
+    let lists = buffers.lists[..n].to_vec();
+    buffers.fill();
+    let expected = rust(plan, turns, buffers, true);
+    same(what, (found, &lists[..]), (expected, &buffers.lists[..n]));
+    (found, deleted(plan, &lists))
 }
 
 fn measure(subject: &Subject, what: &str, plan: &[u8], turns: Option<&[u8]>) {
@@ -134,21 +146,68 @@ fn measure(subject: &Subject, what: &str, plan: &[u8], turns: Option<&[u8]>) {
     let times = time(
         &mut buffers,
         &mut [
-            &mut |work, lists| {
-                black_box(call(subject, black_box(plan), turns, work, lists));
+            &mut |lent| {
+                black_box(call(subject, black_box(plan), turns, lent));
             },
-            &mut |work, lists| {
-                black_box(rust(black_box(plan), turns, work, lists, false));
+            &mut |lent| {
+                black_box(rust(black_box(plan), turns, lent, false));
             },
-            &mut |work, lists| {
-                black_box(rust(black_box(plan), turns, work, lists, true));
+            &mut |lent| {
+                black_box(rust(black_box(plan), turns, lent, true));
             },
         ],
     );
-    let names = [subject.name, "Rust", "Rust, work cells cleared"];
+    print_times(&[subject.name, "Rust", "Rust, work cells cleared"], &times);
+}
+
+fn print_times(names: &[&str], times: &[(f64, f64)]) {
     for (name, (time, ratio)) in names.iter().zip(times) {
         println!("  {name:32} {time:12.1} us   ratio {ratio:8.2}");
     }
+}
+
+/// The answer of the sweeps, and the cells of the first and the second buffer.
+fn swept(subject: &Subject, plan: &[u8], buffers: &mut Buffers) -> ([usize; 2], [Vec<u16>; 2]) {
+    let n = usize::from(plan[4]);
+    buffers.fill();
+    let answer = sweeps(subject, plan, buffers);
+    (answer, [&buffers.lists, &buffers.second].map(|cells| cells[..n].to_vec()))
+}
+
+/// The sweeps must give the same in Rust, and the lists of the round run,
+/// before they are timed. Their number, and how many labels were deleted.
+fn sweeps_agree(
+    subject: &Subject,
+    what: &str,
+    plan: &[u8],
+    buffers: &mut Buffers,
+) -> (usize, usize) {
+    let found = swept(subject, plan, buffers);
+    same(what, &found, &swept(&subject::fast(), plan, buffers));
+    let ([_, number], [lists, _]) = found;
+    buffers.fill();
+    call(subject, plan, None, buffers);
+    same(what, &lists[..], &buffers.lists[..lists.len()]);
+    (number, deleted(plan, &lists))
+}
+
+/// How long the sweeps take against the round run of the same subject.
+fn measure_sweeps(subject: &Subject, what: &str, plan: &[u8]) {
+    let mut buffers = Buffers::new();
+    let (number, deleted) = sweeps_agree(subject, what, plan, &mut buffers);
+    let times = time(
+        &mut buffers,
+        &mut [
+            &mut |lent| {
+                black_box(sweeps(subject, black_box(plan), lent));
+            },
+            &mut |lent| {
+                black_box(call(subject, black_box(plan), None, lent));
+            },
+        ],
+    );
+    println!("{what}: {number} sweeps, {deleted} strikes");
+    print_times(&["sweeps", "round run"], &times);
 }
 
 /// The turns of a list that change something, by the reference.
@@ -172,17 +231,17 @@ fn measure_idle(subject: &Subject, plan: &[u8], turns: &[u8]) {
     let times = time(
         &mut buffers,
         &mut [
-            &mut |work, lists| {
-                black_box(call(subject, black_box(plan), Some(turns), work, lists));
+            &mut |lent| {
+                black_box(call(subject, black_box(plan), Some(turns), lent));
             },
-            &mut |work, lists| {
-                black_box(call(subject, black_box(plan), Some(&without), work, lists));
+            &mut |lent| {
+                black_box(call(subject, black_box(plan), Some(&without), lent));
             },
-            &mut |work, lists| {
-                black_box(rust(black_box(plan), Some(turns), work, lists, false));
+            &mut |lent| {
+                black_box(rust(black_box(plan), Some(turns), lent, false));
             },
-            &mut |work, lists| {
-                black_box(rust(black_box(plan), Some(&without), work, lists, false));
+            &mut |lent| {
+                black_box(rust(black_box(plan), Some(&without), lent, false));
             },
         ],
     );
@@ -227,4 +286,10 @@ fn main() {
     measure(&subject, "32,768 turns drawn evenly, full plan", &core_kept, Some(&even));
     measure_idle(&subject, &core_kept, &even);
     measure(&subject, "no turns, full plan", &core_kept, Some(&[]));
+    println!("sweeps beside the same subject's round run; target: no ratio above 100");
+    let one_by_one = full_ring(&mut rng).encode();
+    measure_sweeps(&subject, "full plan, every label struck", &all_deleted);
+    measure_sweeps(&subject, "full plan, a core kept", &core_kept);
+    measure_sweeps(&subject, "full random plan", &scattered);
+    measure_sweeps(&subject, "full plan, one strike a sweep", &one_by_one);
 }

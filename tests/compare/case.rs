@@ -1,6 +1,8 @@
 // One case: what is put to the library, how its answers are compared with
 // the reference's, and the file that repeats it.
 
+mod sweeps;
+
 use std::fmt::Write as _;
 use std::hint::black_box;
 use std::ops::Range;
@@ -30,6 +32,8 @@ pub struct Case {
     /// Lent cells.
     pub work: usize,
     pub lists: usize,
+    /// Lent cells of the two buffers of the sweeps.
+    pub sweep_lists: [usize; 2],
     /// Seed of what the lent cells and their surroundings hold.
     pub fill: u64,
     /// Further turn runs with only so many bytes of the turn list.
@@ -49,6 +53,9 @@ pub struct Tally {
     pub earlier_replies: usize,
     pub late_replies: usize,
     pub samples: usize,
+    pub swept: usize,
+    pub sweeps: usize,
+    pub most_sweeps: usize,
 }
 
 impl Tally {
@@ -67,6 +74,9 @@ impl Tally {
         self.earlier_replies += other.earlier_replies;
         self.late_replies += other.late_replies;
         self.samples += other.samples;
+        self.swept += other.swept;
+        self.sweeps += other.sweeps;
+        self.most_sweeps = self.most_sweeps.max(other.most_sweeps);
     }
 
     fn add_run(&mut self, run: &Run, samples: usize) {
@@ -78,6 +88,12 @@ impl Tally {
         self.earlier_replies += run.trace.earlier_replies;
         self.late_replies += run.trace.late_replies;
         self.samples += samples;
+    }
+
+    fn add_sweeps(&mut self, sweeps: usize) {
+        self.swept += 1;
+        self.sweeps += sweeps;
+        self.most_sweeps = self.most_sweeps.max(sweeps);
     }
 }
 
@@ -192,6 +208,7 @@ impl Case {
         let turns = around(&mut rng, &self.turns, &self.turns_after);
         let work = arena(&mut rng, self.work);
         let lists = arena(&mut rng, self.lists);
+        let sweep_lists = self.sweep_lists.map(|lent| arena(&mut rng, lent));
         let mut layout = Layout {
             case: self,
             subject,
@@ -199,6 +216,7 @@ impl Case {
             turns: turns.clone(),
             work,
             lists,
+            sweep_lists,
             rng,
             tally: Tally::default(),
         };
@@ -207,7 +225,9 @@ impl Case {
         for &length in &self.prefixes {
             layout.run(Some(length))?;
         }
-        layout.run(None)?;
+        let round = layout.run(None)?;
+        layout.run_sweeps(round.as_deref())?;
+        layout.last_sweeps()?;
         // Both were lent as bytes that a call only reads; the compiler must
         // not take that for granted here.
         let layout = black_box(layout);
@@ -222,12 +242,16 @@ impl Case {
 
     pub fn to_text(&self) -> String {
         let mut text = String::new();
-        let prefixes: Vec<String> = self.prefixes.iter().map(usize::to_string).collect();
+        let joined = |numbers: &[usize]| {
+            let numbers: Vec<String> = numbers.iter().map(usize::to_string).collect();
+            numbers.join(" ")
+        };
         writeln!(text, "kind {}", self.kind).unwrap();
         writeln!(text, "work {}", self.work).unwrap();
         writeln!(text, "lists {}", self.lists).unwrap();
+        writeln!(text, "sweep_lists {}", joined(&self.sweep_lists)).unwrap();
         writeln!(text, "fill {}", self.fill).unwrap();
-        writeln!(text, "prefixes {}", prefixes.join(" ")).unwrap();
+        writeln!(text, "prefixes {}", joined(&self.prefixes)).unwrap();
         for (name, bytes) in [
             ("plan", &self.plan),
             ("plan_after", &self.plan_after),
@@ -259,8 +283,10 @@ impl Case {
             }
             Ok(hex(digits))
         };
-        let prefixes: Result<Vec<usize>, _> =
-            field("prefixes")?.split_whitespace().map(str::parse).collect();
+        let numbers = |name: &str| -> Result<Vec<usize>, String> {
+            let numbers = field(name)?.split_whitespace().map(str::parse);
+            numbers.collect::<Result<_, _>>().map_err(|_| format!("'{name}' are no numbers"))
+        };
         Ok(Case {
             kind: field("kind")?.to_string(),
             plan: bytes("plan")?,
@@ -269,8 +295,11 @@ impl Case {
             turns_after: bytes("turns_after")?,
             work: number("work")? as usize,
             lists: number("lists")? as usize,
+            sweep_lists: numbers("sweep_lists")?
+                .try_into()
+                .map_err(|_| "'sweep_lists' are not two".to_string())?,
             fill: number("fill")?,
-            prefixes: prefixes.map_err(|_| "'prefixes' are no numbers".to_string())?,
+            prefixes: numbers("prefixes")?,
         })
     }
 }
@@ -283,6 +312,7 @@ struct Layout<'a> {
     turns: Vec<u8>,
     work: Vec<u16>,
     lists: Vec<u16>,
+    sweep_lists: [Vec<u16>; 2],
     rng: Rng,
     tally: Tally,
 }
@@ -326,8 +356,9 @@ impl Layout<'_> {
         })
     }
 
-    /// A turn run with that many bytes of the list, or a round run.
-    fn run(&mut self, turn_bytes: Option<usize>) -> Result<(), String> {
+    /// A turn run with that many bytes of the list, or a round run. The list
+    /// cells as the subject left them, unless the call was declined.
+    fn run(&mut self, turn_bytes: Option<usize>) -> Result<Option<Vec<u16>>, String> {
         let what = match turn_bytes {
             Some(length) => format!("run_turns with {length} bytes"),
             None => "run_round".to_string(),
@@ -346,7 +377,8 @@ impl Layout<'_> {
         })?;
         same_cells("list", case.lists, &expected.lists, &lists)
             .and_then(|()| same_cells("work", case.work, &expected.work, &work))
-            .map_err(|text| format!("{what}: {text}"))
+            .map_err(|text| format!("{what}: {text}"))?;
+        Ok((expected.out[0] == 0).then(|| lists[within(case.lists)].to_vec()))
     }
 
     /// The reference's run, on which the claims are checked too.

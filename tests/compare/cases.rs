@@ -5,8 +5,8 @@
 use std::sync::OnceLock;
 
 use tinshrew_tests::generate::{
-    chain_plan, full_plan, guided_turns, random_plan, random_turns, round_like_turns,
-    scattered_plan, Size, FULL, MEDIUM, SMALL,
+    chain_plan, full_plan, full_ring, guided_turns, random_plan, random_turns, ring_plan,
+    round_like_turns, scattered_plan, Size, FULL, MEDIUM, SMALL,
 };
 use tinshrew_tests::reference::plan::{decode, Plan};
 use tinshrew_tests::reference::worked::{no_values, plan_p, turns_t, worked};
@@ -16,6 +16,11 @@ use tinshrew_tests::rng::Rng;
 use crate::case::Case;
 use crate::competing::{is_table, Draft, FAULTS};
 
+/// As many cells as needed, and sometimes more.
+fn enough(rng: &mut Rng, needed: usize) -> usize {
+    needed + if rng.chance(1, 4) { rng.below(40) } else { 0 }
+}
+
 fn case(kind: &str, rng: &mut Rng, plan: Vec<u8>, turns: Vec<u8>) -> Case {
     Case {
         kind: kind.to_string(),
@@ -23,8 +28,9 @@ fn case(kind: &str, rng: &mut Rng, plan: Vec<u8>, turns: Vec<u8>) -> Case {
         plan_after: Vec::new(),
         turns,
         turns_after: Vec::new(),
-        work: WORK_CELLS + if rng.chance(1, 4) { rng.below(40) } else { 0 },
-        lists: LIST_CELLS + if rng.chance(1, 4) { rng.below(40) } else { 0 },
+        work: enough(rng, WORK_CELLS),
+        lists: enough(rng, LIST_CELLS),
+        sweep_lists: [enough(rng, LIST_CELLS), enough(rng, LIST_CELLS)],
         fill: rng.next(),
         prefixes: Vec::new(),
     }
@@ -34,10 +40,11 @@ fn case(kind: &str, rng: &mut Rng, plan: Vec<u8>, turns: Vec<u8>) -> Case {
 type Group = (usize, fn(usize, &mut Rng) -> Case);
 
 /// The fixed cases in order.
-fn groups() -> [Group; 7] {
+fn groups() -> [Group; 8] {
     [
         (worked_plans().len(), worked_plan),
         (3 * BUFFERS, buffers),
+        (3 * SWEEP_BUFFERS, sweep_buffers),
         (2 * LENGTHS.len(), turn_list_length),
         (PLAN_P + 2, cut),
         (PLAN_P * CHANGES, byte_changed),
@@ -72,12 +79,27 @@ const WORK_SIZES: [usize; 6] =
 const LIST_SIZES: [usize; 8] = [0, 1, 2, 3, 31, 32, 33, 90];
 const BUFFERS: usize = WORK_SIZES.len() * LIST_SIZES.len();
 
-/// Buffers of all sizes of interest, with plan P and with a wrong one.
+const SWEEP_BUFFERS: usize = LIST_SIZES.len() * LIST_SIZES.len();
+
+/// Plan P, a wrong one, and one without labels.
+fn plan_for_buffers(at: usize) -> Vec<u8> {
+    [plan_p(), vec![2], no_values()][at].clone()
+}
+
+/// Buffers of all sizes of interest, with each of these plans.
 fn buffers(at: usize, rng: &mut Rng) -> Case {
     let size = at % BUFFERS;
     let (work, lists) = (WORK_SIZES[size / LIST_SIZES.len()], LIST_SIZES[size % LIST_SIZES.len()]);
-    let plan = [plan_p(), vec![2], no_values()][at / BUFFERS].clone();
+    let plan = plan_for_buffers(at / BUFFERS);
     Case { work, lists, ..case("buffers", rng, plan, turns_t()) }
+}
+
+/// The same of the two buffers of the sweeps.
+fn sweep_buffers(at: usize, rng: &mut Rng) -> Case {
+    let size = at % SWEEP_BUFFERS;
+    let sweep_lists = [size / LIST_SIZES.len(), size % LIST_SIZES.len()].map(|at| LIST_SIZES[at]);
+    let plan = plan_for_buffers(at / SWEEP_BUFFERS);
+    Case { sweep_lists, ..case("buffers of the sweeps", rng, plan, turns_t()) }
 }
 
 /// Turn lists of all lengths of interest.
@@ -175,13 +197,14 @@ fn competing(rng: &mut Rng, pair: usize, other_section: bool) -> Case {
         plan_after,
         work: draft.work,
         lists: draft.lists,
+        sweep_lists: draft.sweep_lists,
         ..case("two faults", rng, bytes, draft.turns)
     }
 }
 
 type Draw = fn(&str, &mut Rng) -> Case;
 
-/// The kinds that are drawn, with their weights in 10,000.
+/// The kinds that are drawn, with their weights.
 const KINDS: &[(&str, usize, Draw)] = &[
     ("small, guided turns", 2_600, played),
     ("small, starving turns", 1_100, played),
@@ -193,6 +216,7 @@ const KINDS: &[(&str, usize, Draw)] = &[
     ("medium, round-like turns", 120, played),
     ("chain, guided turns", 200, played),
     ("chain, starving turns", 80, played),
+    ("ring, guided turns", 60, played),
     ("large, guided turns", 250, played),
     ("large, round-like turns", 80, played),
     ("full, guided turns", 6, played),
@@ -241,10 +265,17 @@ fn chain(rng: &mut Rng) -> Plan {
     chain_plan(rng, workers, n, values)
 }
 
+fn ring(rng: &mut Rng) -> Plan {
+    let (workers, n) = (rng.between(1, 8), rng.between(3, 10));
+    let values = rng.between(1, 6);
+    ring_plan(rng, workers, n, values)
+}
+
 fn full_chain(rng: &mut Rng) -> Plan {
-    match rng.below(3) {
+    match rng.below(4) {
         0 => chain_plan(rng, 8, 32, 16),
         1 => full_plan(rng, true),
+        2 => full_ring(rng),
         _ => full_plan(rng, false),
     }
 }
@@ -278,6 +309,7 @@ fn sort_of_plan(sort: &str, rng: &mut Rng) -> Plan {
         "plan P" => decode(&plan_p()).expect("plan P is valid"),
         "medium" => random_plan(rng, MEDIUM, false),
         "chain" => chain(rng),
+        "ring" => ring(rng),
         "large" => random_plan(rng, FULL, false),
         "full" if rng.chance(1, 4) => random_plan(rng, FULL, true),
         "full" => {
@@ -292,7 +324,7 @@ fn sort_of_plan(sort: &str, rng: &mut Rng) -> Plan {
 fn sort_of_turns(sort: &str, manner: &str, plan: &Plan, rng: &mut Rng) -> Vec<u8> {
     let most = match sort {
         "small" | "plan P" => rng.between(1, 160),
-        "medium" | "chain" | "large" => rng.between(1, 1_500),
+        "medium" | "chain" | "ring" | "large" => rng.between(1, 1_500),
         "full" | "full chain" => rng.between(500, 12_000),
         other => panic!("no number of turns for {other}"),
     };
@@ -364,6 +396,15 @@ fn some_faults(_: &str, rng: &mut Rng) -> Case {
     competing(rng, pair, other_section)
 }
 
+/// List cells for `n` variables, mostly enough.
+fn some_lists(rng: &mut Rng, n: usize) -> usize {
+    match rng.below(4) {
+        0 => rng.pick(&[0, 1, n - 1, n, LIST_CELLS - 1]),
+        1 => LIST_CELLS,
+        _ => LIST_CELLS + rng.below(200),
+    }
+}
+
 fn some_buffers(kind: &str, rng: &mut Rng) -> Case {
     let (plan, turns) = plan_and_turns(rng, 40);
     let n = plan.variables.len();
@@ -373,12 +414,9 @@ fn some_buffers(kind: &str, rng: &mut Rng) -> Case {
         2 => WORK_CELLS,
         _ => WORK_CELLS + rng.below(9_000),
     };
-    let lists = match rng.below(4) {
-        0 => rng.pick(&[0, 1, n - 1, n, LIST_CELLS - 1]),
-        1 => LIST_CELLS,
-        _ => LIST_CELLS + rng.below(200),
-    };
-    Case { work, lists, ..case(kind, rng, plan.encode(), turns) }
+    let lists = some_lists(rng, n);
+    let sweep_lists = [some_lists(rng, n), some_lists(rng, n)];
+    Case { work, lists, sweep_lists, ..case(kind, rng, plan.encode(), turns) }
 }
 
 /// Two bytes that mostly are no allowed turn.

@@ -47,14 +47,19 @@ pub struct Draft {
     pub turns: Vec<u8>,
     pub work: usize,
     pub lists: usize,
+    pub sweep_lists: [usize; 2],
 }
 
 type Spoil = fn(&mut Draft, &mut Rng);
 
+const SHORT_LISTS: &[usize] = &[0, 1, LIST_CELLS - 1];
+
 /// Every single fault.
 pub const FAULTS: &[(&str, Spoil)] = &[
     ("9 work", |d, r| d.work = r.pick(&[0, 1, WORK_CELLS - 1])),
-    ("10 lists", |d, r| d.lists = r.pick(&[0, 1, LIST_CELLS - 1])),
+    ("10 lists", |d, r| d.lists = r.pick(SHORT_LISTS)),
+    ("10 first", |d, r| d.sweep_lists[0] = r.pick(SHORT_LISTS)),
+    ("10 second", |d, r| d.sweep_lists[1] = r.pick(SHORT_LISTS)),
     ("11 odd", |d, _| d.turns.push(9)),
     ("11 long", |d, r| d.turns.resize(r.pick(&[65_537, 65_538, 65_540, 70_000]), 0)),
     ("12 bad turn", |d, r| {
@@ -205,6 +210,7 @@ impl Draft {
             turns: random_turns(rng, plan.workers, count),
             work: WORK_CELLS + rng.below(3),
             lists: LIST_CELLS + rng.below(3),
+            sweep_lists: [LIST_CELLS + rng.below(3), LIST_CELLS + rng.below(3)],
         }
     }
 

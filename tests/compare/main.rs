@@ -1,4 +1,5 @@
-// Compares the library with the reference through the C interface.
+// Compares the library with the reference through the C interface, and its
+// sweeps with some worked out by hand.
 //
 //   compare [cases] [seed]     the library, 100,000 cases and seed 1 by default
 //   compare --self             the reference in the library's place
@@ -10,6 +11,7 @@
 //
 // Exits with 0 when all cases agree, 1 at a difference, 2 when it cannot run.
 
+mod by_hand;
 mod case;
 mod cases;
 mod competing;
@@ -224,6 +226,7 @@ fn print_totals(totals: &Totals) {
         "dropped replies: {} to earlier polls, {} late; progress sampled: {}",
         t.earlier_replies, t.late_replies, t.samples
     );
+    println!("sweeps: {} on {} plans, at most {}", t.sweeps, t.swept, t.most_sweeps);
 }
 
 fn usage() -> ! {
@@ -310,6 +313,10 @@ fn case_of_number(seed: u64, number: u64) -> Case {
 /// Runs all cases; true when they agree.
 fn compare(subject: &Subject, count: u64, seed: u64, threads: usize) -> bool {
     let start = Instant::now();
+    if let Err(text) = by_hand::check(subject) {
+        println!("compare: not as worked out by hand: {text}");
+        return false;
+    }
     let (totals, difference) = run_all(subject, count, seed, threads);
     if let Some(Difference { number, case, text }) = difference {
         write_case(seed, number, &case, &text);

@@ -62,4 +62,14 @@ faults! {
     // The order of declines and the turn list.
     ListsBeforeWork WorkOneLess LongestRefused PlanBeforeLength
     TurnsBeforePlan ControllerSends ReadsItself WorkerPolls TurnPlaceInBytes
+    // The sweeps.
+    SweepReadsItself SweepsAfterLoading RolesExchanged SupportAgainstSome
+    SupportsByConstraint EndsBeforeLast LastUnwritten LastUncounted OneSweepMore
+    EndsAtEmptyList AsManyAsLabels LaterFirstCleared LaterSecondCleared
+    // Their declines.
+    FirstLengthOnly SecondLengthOnly SweepListsOneLess SweepListsOneMore
+    PlanBeforeSweepLists DeclinedPlanClears ShortListsClear
+    // The part that holds the last sweep.
+    OtherParity NoSweepIsSecond PartOneLonger WholePartEmpty OtherLength
+    ShorterPart CountCut
 }

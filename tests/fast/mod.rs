@@ -5,11 +5,13 @@
 
 pub mod fault;
 mod plan;
+mod sweeps;
 
 use std::collections::VecDeque;
 
 pub use fault::{Fault, Faults, Faulty, Sound};
 use plan::{decode, Net};
+pub use sweeps::{last_sweep, run_sweeps};
 
 const WORK: usize = 24_576;
 const MAX: usize = 32;

@@ -16,6 +16,9 @@ pub struct Net {
     pub own: [u32; 9],
     /// By label and other variable: the values that support it.
     pub rows: Vec<[u16; MAX]>,
+    /// Each constraint by itself, for the wrong variant that looks at one
+    /// after the other.
+    pub single: Vec<(usize, usize, [u16; 16])>,
 }
 
 /// The sodium figure of each label.
@@ -32,6 +35,7 @@ impl Net {
             tied: [0; MAX],
             own: [0; 9],
             rows: vec![[0; MAX]; n * 16],
+            single: Vec::new(),
         }
     }
 
@@ -227,6 +231,9 @@ fn decode_constraint<F: Faults>(
         return Ok(());
     }
     net.tie(f, a, b, &rows);
+    if f.has(Fault::SupportsByConstraint) {
+        net.single.push((a, b, rows));
+    }
     Ok(())
 }
 

@@ -1,12 +1,11 @@
 // The largest arc-consistent lists, by the naive fixpoint: delete a label
 // without a listed support against some tied variable until nothing changes.
 
+use super::lists::{loaded, supported, Lists};
 use super::plan::{Network, Plan};
 
-/// By variable (from 0) and value: whether the label is on the largest lists.
-pub fn largest_lists(plan: &Plan, network: &Network) -> Vec<Vec<bool>> {
-    let mut listed: Vec<Vec<bool>> =
-        plan.variables.iter().map(|variable| vec![true; variable.values.len()]).collect();
+pub fn largest_lists(plan: &Plan, network: &Network) -> Lists {
+    let mut listed = loaded(plan);
     loop {
         let mut changed = false;
         for one in 1..=plan.variables.len() {
@@ -21,17 +20,4 @@ pub fn largest_lists(plan: &Plan, network: &Network) -> Vec<Vec<bool>> {
             return listed;
         }
     }
-}
-
-fn supported(
-    plan: &Plan,
-    network: &Network,
-    listed: &[Vec<bool>],
-    one: usize,
-    a: usize,
-) -> bool {
-    (1..=plan.variables.len()).filter(|&other| network.tied(one, other)).all(|other| {
-        (0..plan.variables[other - 1].values.len())
-            .any(|b| listed[other - 1][b] && network.allowed(one, a, other, b))
-    })
 }

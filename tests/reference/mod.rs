@@ -1,18 +1,20 @@
-// A plain implementation of the scope document, written from that document
-// alone. Everything is done in the simplest way that can be read next to the
-// text: channels are queues of messages, states are compared as values, the
+// A plain implementation of the scope document and of the changes asked for
+// since, written from their text alone, in the simplest way that can be read
+// next to it: channels are queues of messages, states are compared as values, the
 // largest lists come from deleting unsupported labels until nothing changes.
 
 pub mod largest;
+pub mod lists;
 pub mod plan;
 pub mod run;
 pub mod state;
+pub mod sweep;
 pub mod trace;
 pub mod worked;
 
 /// Work cells a run needs and leaves at 0.
 pub const WORK_CELLS: usize = 24_576;
-/// List cells a run needs.
+/// List cells a run needs, and each of the two buffers of the sweeps.
 pub const LIST_CELLS: usize = 32;
 /// Longest turn list in bytes.
 pub const TURN_BYTES: usize = 65_536;

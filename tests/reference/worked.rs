@@ -1,6 +1,8 @@
 // The plans worked by hand, for the test program, and the reference's own
 // tests on them.
 
+pub mod sweeps;
+
 use super::plan::{Constraint, Plan, Relation, Value, Variable, NOT_RECORDED};
 
 /// Bytes from hex digits; blanks do not count.
@@ -202,6 +204,7 @@ pub fn worked() -> Vec<(Vec<u8>, Vec<u8>)> {
     }
     cases.push((half_supports(), vec![]));
     cases.push((three_differ(), vec![]));
+    cases.extend(sweeps::swept().into_iter().map(|(plan, _)| (plan, vec![])));
     cases.push((vec![], vec![]));
     cases.push((vec![1], vec![]));
     let mut second_version = p.clone();
@@ -221,6 +224,7 @@ pub fn worked() -> Vec<(Vec<u8>, Vec<u8>)> {
 #[cfg(test)]
 mod tests {
     use super::super::largest::largest_lists;
+    use super::super::lists::cells;
     use super::super::plan::{decode, Network};
     use super::super::run::{check_plan, run_round, run_turns, Report, Run, Status};
     use super::super::state::Turn;
@@ -267,11 +271,8 @@ mod tests {
         Report { status, changed, lists_sent, polls_sent, lowest_empty }
     }
 
-    /// The largest lists as cells.
     fn largest_cells(plan: &Plan) -> Vec<u16> {
-        let lists = largest_lists(plan, &Network::new(plan));
-        let cell = |list: Vec<bool>| (0..).zip(list).map(|(at, kept)| u16::from(kept) << at).sum();
-        lists.into_iter().map(cell).collect()
+        cells(&largest_lists(plan, &Network::new(plan)))
     }
 
     fn declined(number: usize, place: usize) -> Decline {

@@ -1,4 +1,4 @@
-/* How much stack each call takes on the largest plan. Prints a line for each. */
+/* How much stack each call takes on the largest plan. Prints a line for each, and fails where it is more than README.md says. */
 #include <stdio.h>
 #include <stdlib.h>
 #include <string.h>
@@ -13,6 +13,7 @@ static size_t plan_len;
 static uint8_t turns[TURN_BYTES];
 static uint16_t work[TINSHREW_WORK_CELLS];
 static uint16_t lists[TINSHREW_LIST_CELLS];
+static uint16_t other_lists[TINSHREW_LIST_CELLS];
 static size_t out[TINSHREW_RUN_OUT];
 
 static void put(unsigned byte) {
@@ -80,6 +81,14 @@ static void run_round(void) {
     tinshrew_run_round(plan, plan_len, work, TINSHREW_WORK_CELLS, lists, TINSHREW_LIST_CELLS, out);
 }
 
+static void run_sweeps(void) {
+    tinshrew_run_sweeps(plan, plan_len, lists, TINSHREW_LIST_CELLS, other_lists, TINSHREW_LIST_CELLS, out);
+}
+
+static void last_sweep(void) {
+    tinshrew_last_sweep(lists, TINSHREW_LIST_CELLS, other_lists, TINSHREW_LIST_CELLS, 1, SLOTS, out);
+}
+
 /* Runs a call on a painted stack of its own and gives the bytes that were written over. The few that entering and leaving
  * take are counted too. */
 static size_t taken(void (*call)(void)) {
@@ -105,20 +114,26 @@ static size_t taken(void (*call)(void)) {
     return ROOM - unused;
 }
 
-static void show(const char *name, void (*call)(void)) {
+static void show(const char *name, void (*call)(void), size_t most) {
     size_t bytes = taken(call);
     if (out[0] != 0) {
         printf("%s was declined with %zu at %zu\n", name, out[0], out[1]);
         exit(1);
     }
     printf("%s: %zu bytes\n", name, bytes);
+    if (bytes >= most) {
+        printf("that is not less than %zu\n", most);
+        exit(1);
+    }
 }
 
 int main(void) {
     make_plan();
     make_turns();
-    show("tinshrew_check_plan", check_plan);
-    show("tinshrew_run_turns", run_turns);
-    show("tinshrew_run_round", run_round);
+    show("tinshrew_check_plan", check_plan, 1024);
+    show("tinshrew_run_turns", run_turns, 1024);
+    show("tinshrew_run_round", run_round, 1024);
+    show("tinshrew_run_sweeps", run_sweeps, 50 * 1024);
+    show("tinshrew_last_sweep", last_sweep, 1024);
     return 0;
 }

@@ -70,7 +70,7 @@ pub enum Decline {
     },
     /// 9: there are fewer than [`WORK_CELLS`] work cells.
     ShortWork,
-    /// 10: there are fewer than [`LIST_CELLS`] list cells.
+    /// 10: a list buffer has fewer than [`LIST_CELLS`] cells.
     ShortLists,
     /// 11: the turn list has an odd number of bytes, or more than [`TURN_BYTES`].
     BadTurnList,
@@ -193,7 +193,7 @@ impl fmt::Display for Decline {
             ),
             Decline::TrailingBytes { byte } => write!(f, "bytes after the last section, from byte {byte} on"),
             Decline::ShortWork => write!(f, "fewer than {WORK_CELLS} work cells"),
-            Decline::ShortLists => write!(f, "fewer than {LIST_CELLS} list cells"),
+            Decline::ShortLists => write!(f, "fewer than {LIST_CELLS} cells in a list buffer"),
             Decline::BadTurnList => write!(f, "turn list of odd length or over {TURN_BYTES} bytes"),
             Decline::BadTurn { turn } => write!(f, "turn {turn}, counted from 0, is not allowed"),
             Decline::Unknown { place, .. } => write!(f, "not of this version, at place {place}"),

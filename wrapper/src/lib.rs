@@ -2,8 +2,10 @@
 //!
 //! A plan has slots, each with a list of dishes and owned by a kitchen, and rules that say which dish of one slot may
 //! stand with which dish of another. [`check_plan`] checks a plan, [`run_turns`] plays a list of turns on it, and
-//! [`run_round`] plays rounds until it is closed. `docs/FORMAT.md` has the bytes of a plan and of a turn list, what
-//! each turn does, and the declines with their order; `include/tinshrew.h` is the same interface for C.
+//! [`run_round`] plays rounds until it is closed. [`run_sweeps`] gives the lists of the closed plan by a slower method,
+//! which can be followed on paper, and [`last_sweep`] finds them in its buffers. `docs/FORMAT.md` has the bytes of a
+//! plan and of a turn list, what each turn does, the sweeps, and the declines with their order; `include/tinshrew.h` is
+//! the same interface for C.
 //!
 //! From the bytes of a plan to its lists:
 //!
@@ -46,6 +48,9 @@ mod library;
 mod place;
 mod report;
 
+use decline::accepted;
+use report::part;
+
 pub use decline::Decline;
 pub use place::{Section, Turn};
 pub use report::{Counts, Report, Status};
@@ -54,17 +59,17 @@ pub use report::{Counts, Report, Status};
 pub const VERSION: usize = 1;
 /// How many work cells a run needs.
 pub const WORK_CELLS: usize = 24_576;
-/// How many list cells a run needs.
+/// How many list cells a run needs, and each of the two buffers of the sweeps.
 pub const LIST_CELLS: usize = 32;
 /// How many bytes a turn list has at most.
 pub const TURN_BYTES: usize = 65_536;
 
-/// A buffer that is lent to a run.
+/// A kind of lent buffer.
 #[derive(Clone, Copy, Debug, PartialEq, Eq)]
 pub enum Buffer {
     /// The work cells.
     Work = 1,
-    /// The list cells.
+    /// The list cells, also those of each of the two buffers of the sweeps.
     Lists = 2,
 }
 
@@ -141,6 +146,76 @@ pub fn run_round(plan: &[u8], work: &mut [u16], lists: &mut [u16]) -> Result<Rep
         )
     };
     Report::new(out)
+}
+
+/// Sweeps the lists of a plan until nothing more is struck, and gives the number of sweeps: from 1 to one more than the
+/// plan has dishes.
+///
+/// `first` starts with every dish listed. Each sweep reads one buffer and writes the other: it keeps each dish that was
+/// listed and has, against every slot that its own shares a rule with, a support that was listed. The first sweep that
+/// strikes nothing is the last; it counts.
+///
+/// On success [`last_sweep`] finds what the last sweep wrote: the lists of the closed plan, in cells as in [`run_turns`].
+/// Since it strikes nothing, the other buffer holds them too. Later cells of both keep what they had, and what the
+/// others held before plays no part.
+///
+/// It takes less than 50 KiB of stack.
+///
+/// ```
+/// use tinshrew::{check_plan, last_sweep, run_sweeps, LIST_CELLS};
+///
+/// let plan = [
+///     1,                                     // version
+///     0, 3, 1, 2, 1,                         // head: 1 kitchen, 2 slots, 1 rule
+///     0, 10, 1, 2, 0, 11, 0, 0, 0, 12, 0, 0, // slot 1: dishes 11 and 12
+///     0, 6, 1, 1, 0, 21, 0, 0,               // slot 2: dish 21
+///     0, 7, 1, 2, 0, 0, 1, 0, 0,             // slots 1 and 2: 11 with 21
+/// ];
+/// let (mut first, mut second) = ([0; LIST_CELLS], [0; LIST_CELLS]);
+/// let sweeps = run_sweeps(&plan, &mut first, &mut second)?;
+///
+/// // The first sweep strikes dish 12, the second nothing.
+/// assert_eq!(sweeps, 2);
+/// let slots = check_plan(&plan)?.slots;
+/// assert_eq!(last_sweep(&first, &second, sweeps, slots), [0b01, 0b1]);
+/// # Ok::<(), tinshrew::Decline>(())
+/// ```
+pub fn run_sweeps(plan: &[u8], first: &mut [u16], second: &mut [u16]) -> Result<usize, Decline> {
+    same_version();
+    let mut out = library::SweepsOut::default();
+    // SAFETY: as in `run_turns`.
+    unsafe {
+        library::tinshrew_run_sweeps(
+            plan.as_ptr(),
+            plan.len(),
+            first.as_mut_ptr(),
+            first.len(),
+            second.as_mut_ptr(),
+            second.len(),
+            &mut out,
+        )
+    };
+    accepted(out[0], out[1])
+}
+
+/// The part of two buffers that holds the last of so many sweeps: `count` cells from the start of the second buffer for
+/// an odd number, of the first for an even one, 0 too. It is empty where that buffer has fewer cells.
+pub fn last_sweep<'a>(first: &'a [u16], second: &'a [u16], sweeps: usize, count: usize) -> &'a [u16] {
+    same_version();
+    let mut out = library::LastSweepOut::default();
+    // SAFETY: each slice is valid for its length and never null, and `out` is a local of the size that is written.
+    unsafe {
+        library::tinshrew_last_sweep(
+            first.as_ptr(),
+            first.len(),
+            second.as_ptr(),
+            second.len(),
+            sweeps,
+            count,
+            &mut out,
+        )
+    };
+    part(first, second, out)
 }
 
 #[cfg(test)]

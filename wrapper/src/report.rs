@@ -1,7 +1,7 @@
 //! What a call gives that is not declined.
 
 use crate::decline::accepted;
-use crate::library::{CheckOut, RunOut};
+use crate::library::{CheckOut, LastSweepOut, RunOut};
 use crate::Decline;
 
 /// What a plan holds.
@@ -74,4 +74,15 @@ impl Report {
         let empty_slot = Some(empty).filter(|&slot| slot != 0);
         Ok(Report { status, changing_turns, lists_sent, polls_sent, empty_slot })
     }
+}
+
+/// The part of two buffers that the library tells. Empty for numbers that no library of this version gives, so that they
+/// cannot stop a caller's process.
+pub(crate) fn part<'a>(first: &'a [u16], second: &'a [u16], [_, buffer, cells]: LastSweepOut) -> &'a [u16] {
+    let holds = match buffer {
+        1 => first,
+        2 => second,
+        _ => &[],
+    };
+    holds.get(..cells).unwrap_or_default()
 }

@@ -5,6 +5,7 @@ use super::*;
 mod declines;
 mod header;
 mod places;
+mod sweeps;
 
 /// The plan P of `docs/FORMAT.md`, which has what each part of it means.
 const P: &str = "01 0003020302 000A 0102 000B012C 000C0384 000A 0202 001501F4 00160320 \
@@ -52,6 +53,39 @@ impl Buffers {
 
     fn unchanged(&self) -> bool {
         self.work.iter().chain(&self.lists).all(|&c| c == HELD)
+    }
+}
+
+/// The two list buffers of the sweeps.
+struct SweepBuffers {
+    first: Vec<u16>,
+    second: Vec<u16>,
+}
+
+impl SweepBuffers {
+    fn new(first: usize, second: usize) -> Self {
+        SweepBuffers { first: vec![HELD; first], second: vec![HELD; second] }
+    }
+
+    /// A cell more than the sweeps need.
+    fn ample() -> Self {
+        Self::new(LIST_CELLS + 1, LIST_CELLS + 1)
+    }
+
+    fn sweeps(&mut self, plan: &[u8]) -> Result<usize, Decline> {
+        run_sweeps(plan, &mut self.first, &mut self.second)
+    }
+
+    /// The cells of the slots in both, once all later cells are seen to be as they were.
+    fn cells(&self, slots: usize) -> [&[u16]; 2] {
+        [&self.first, &self.second].map(|buffer| {
+            assert!(buffer[slots..].iter().all(|&c| c == HELD));
+            &buffer[..slots]
+        })
+    }
+
+    fn unchanged(&self) -> bool {
+        self.first.iter().chain(&self.second).all(|&c| c == HELD)
     }
 }
 

@@ -26,7 +26,7 @@ impl Told<'_> {
         assert_eq!(self.decline.to_string(), self.text);
     }
 
-    /// Of a plan that all three calls decline so.
+    /// Of a plan that every call which takes one declines so.
     fn of_plan(&self, plan: &[u8], section: Option<Section>) {
         self.tells();
         assert_eq!(check_plan(plan), Err(self.decline));
@@ -34,6 +34,9 @@ impl Told<'_> {
         assert_eq!(b.turns(plan, &hex(T)), Err(self.decline));
         assert_eq!(b.round(plan), Err(self.decline));
         assert!(b.unchanged());
+        let mut s = SweepBuffers::ample();
+        assert_eq!(s.sweeps(plan), Err(self.decline));
+        assert!(s.unchanged());
         assert_eq!(self.decline.section(plan), section);
         assert_eq!(self.decline.turn(&hex(T)), None);
     }
@@ -160,12 +163,17 @@ fn short_work() {
 
 #[test]
 fn short_lists() {
-    let text = "declined 10: fewer than 32 list cells";
+    let text = "declined 10: fewer than 32 cells in a list buffer";
     let told = Told { decline: Decline::ShortLists, number: 10, place: 0, text };
     told.of_run([24_576, 31], &hex("0101"), None);
     let mut b = Buffers::new(24_576, 31);
     assert_eq!(b.round(&[]), Err(told.decline));
     assert!(b.unchanged());
+    for [first, second] in [[31, 32], [32, 31], [0, 64]] {
+        let mut s = SweepBuffers::new(first, second);
+        assert_eq!(s.sweeps(&[]), Err(told.decline));
+        assert!(s.unchanged());
+    }
 }
 
 #[test]

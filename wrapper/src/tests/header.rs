@@ -71,4 +71,6 @@ fn sizes() {
     assert_eq!(LIST_CELLS, defined("TINSHREW_LIST_CELLS"));
     assert_eq!(library::CheckOut::default().len(), defined("TINSHREW_CHECK_OUT"));
     assert_eq!(library::RunOut::default().len(), defined("TINSHREW_RUN_OUT"));
+    assert_eq!(library::SweepsOut::default().len(), defined("TINSHREW_SWEEPS_OUT"));
+    assert_eq!(library::LastSweepOut::default().len(), defined("TINSHREW_LAST_SWEEP_OUT"));
 }
