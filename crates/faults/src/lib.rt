@@ -1,6 +1,6 @@
 // Faults: why a call declines, and what a list of checks finds. They are no part of a plan: buffers and turn lists have theirs.
 ghost use mathlib.Core.Path.{_≡_};
-ghost use Rattle.faults.specs.Fault.{numberOf};
+ghost use Rattle.faults.specs.Fault.{numberOf, decline};
 
 // Why a call declines: a case for each number of document 01.
 pub enum Fault {
@@ -40,6 +40,16 @@ pub enum Verdict {
 pub struct Decline {
     pub fault: Fault,
     pub place: usize,
+}
+
+// This fault at this place.
+pub fn decline_at(fault: Fault, place: usize) -> Decline
+    ensures { λ r. ⌜ r ≡ decline fault place ⌝ }
+{
+    Decline {
+        fault: fault,
+        place: place,
+    }
 }
 
 // The number that document 01 gives to a fault.

@@ -1,6 +1,7 @@
 // Plans: definitions, theorems, and the types of the plan check's answer.
 use faults::Decline;
 use faults::Fault;
+use faults::decline_at;
 ghost use mathlib.Core.Path.{_≡_};
 ghost use Rattle.faults.specs.Fault.{decline};
 
@@ -22,8 +23,5 @@ pub enum Checked {
 pub fn declined(fault: Fault, place: usize) -> Checked
     ensures { λ r. ⌜ r ≡ Checked.Declined (decline fault place) ⌝ }
 {
-    Checked::Declined(Decline {
-        fault: fault,
-        place: place,
-    })
+    Checked::Declined(decline_at(fault, place))
 }

@@ -1,16 +1,15 @@
 // The slow engine's two calls (document 02, job 2): the sweeps of a plan, and the part of a buffer that holds the last one. Neither asks
 // anything of its caller.
 use disac4::LIST_NEED;
-use faults::Decline;
 use faults::Fault;
 use faults::Verdict;
+use faults::decline_at;
 use plan::Checked;
 use sweeping::Swept;
 use sweeping::sweep_plan;
 ghost use mathlib.Core.List.{[], _∷_};
 ghost use mathlib.Core.Path.{_≡_};
 ghost use Rattle.faults.specs.CheckList.{firstFault, verdictOf};
-ghost use Rattle.faults.specs.Fault.{decline};
 ghost use Rattle.lending.specs.Call.{Gives, bufferChecks, outcomeOf};
 ghost use Rattle.sweeping.specs.Outcome.{twoLists, firstBuffer, secondBuffer, sweepCall, partOf, lastSweep};
 
@@ -27,23 +26,13 @@ fn check_lists(first: &[u16], second: &[u16]) -> Verdict
     Verdict::Passes
 }
 
-// The answer where a buffer is too short.
-fn short(fault: Fault) -> Swept
-    ensures { λ r. ⌜ r ≡ Swept.Declined (decline fault 0) ⌝ }
-{
-    Swept::Declined(Decline {
-        fault: fault,
-        place: 0,
-    })
-}
-
 // Plays the sweeps of a plan between two list buffers, and gives their number; declines 10, then as the plan check does.
 pub fn run_sweeps(plan: &[u8], first: &mut [u16], second: &mut [u16]) -> Swept
     ensures { λ r. ⌜ Gives (outcomeOf (sweepCall (now (plan .entry))) (twoLists (now (first .entry)) (now (second .entry)))) r (twoLists (now (first .exit)) (now (second .exit))) ⌝ }
 {
     let verdict = check_lists(first, second);
     if let Verdict::Fails(fault) = verdict {
-        return short(fault);
+        return Swept::Declined(decline_at(fault, 0));
     }
     match parser::check_plan(plan) {
         Checked::Declined(d) => Swept::Declined(d),

@@ -15,7 +15,7 @@ use Rattle.plan.specs.Decode.{planFault}
 use Rattle.format.specs.Format.{workerCount}
 use Rattle.plan.specs.declared.Checked.the-variants.{Accepted}
 use Rattle.faults.specs.declared.Decline.{Decline}
-use Rattle.calls.proofs.Tests.{bad-turn, no-bad-turn}
+use Rattle.calls.proofs.BadTurn.{bad-turn, no-bad-turn}
 use Rattle.plan.specs.Answer.{checkOf}
 use borrow.Author.Needs.{needs}
 use Rattle.calls.proofs.check_inputs.Statement.{statement}

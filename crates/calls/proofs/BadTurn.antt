@@ -1,4 +1,4 @@
--- What the first turn that is not allowed says of a run.
+-- What the test of the turns finds: the first that is not allowed, or none.
 use Prim.Native.Nat.{ℕ, _<_, _≤_}
 use mathlib.Core.Option.{none, some}
 use mathlib.Core.Path.{_≡_}
