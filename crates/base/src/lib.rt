@@ -45,16 +45,18 @@ pub fn row_if(held: bool, k: usize) -> usize
     if held { power(k) } else { 0 }
 }
 
-// How many values a row holds, at any width that it fits. A row without a value counts 0, and any other one more than
-// the row without its lowest value: `row & (row - 1)`, since `row - 1` differs from `row` in its lowest value and below.
+// How many values a row holds, at any width that it fits: its lowest value is taken off and counted until none is left.
+// `rest & (rest - 1)` is the rest without it, since `rest - 1` differs from `rest` in its lowest value and below.
 pub fn row_count(row: usize) -> usize
     ensures { λ r. ⌜ ((width : ℕ) → row < 2 ^ width → r ≡ rowCount width row) ⌝ }
 {
-    if row == 0 {
-        0
-    } else {
-        1 + row_count(row & (row - 1))
+    let mut rest = row;
+    let mut count = 0;
+    while rest != 0 {
+        rest = rest & (rest - 1);
+        count += 1;
     }
+    count
 }
 
 // Whether x lies from low to high.

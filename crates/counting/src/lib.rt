@@ -62,7 +62,7 @@ fn support_rows(plan: &[u8], cells: &[u16], x: usize, y: usize, others: &mut Row
     rows
 }
 
-// The counters of the values of x against y, whose rows are given. Every count is made by the function that calls itself.
+// The counters of the values of x against y, whose rows are given. Every count is made of a row, by `row_count`.
 fn put_counts(plan: &[u8], cells: &mut [u16], x: usize, y: usize, rows: &Rows)
     requires { ⌜ Ready (now plan) (now cells) × (shareConstraint (planOf (now plan)) x y ≡ true) × FirstRows (supportRow (networkOf (planOf (now plan))) x y) (sizeOf (planOf (now plan)) x) (now rows) ⌝ }
     ensures { λ _. ⌜ memOf (now (cells .exit)) ≡ countPairM (systemAt (now (plan .entry))) x y (memOf (now (cells .entry))) ⌝ }
