@@ -1,6 +1,7 @@
 pub mod Acting
 pub mod Cleared
 pub mod Done
+pub mod Halves
 pub mod Pushing
 pub mod Queue
 pub mod Ranges

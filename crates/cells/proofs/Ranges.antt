@@ -5,7 +5,7 @@ use mathlib.Core.Path.{_≡_}
 use lib.ListN.{length}
 use Rattle.disac4.specs.Need.{workNeed}
 use Rattle.format.specs.Limits.{maxWorkers}
-use Rattle.cells.specs.Layout.{BEHIND, LABELROOM, regionAt, Fits, WORKERCOLS}
+use Rattle.cells.specs.Layout.{BEHIND, LABELROOM, regionAt, Fits, WORKERCOLS, room}
 use Rattle.cells.specs.Queues.{Pushes}
 use Rattle.cells.specs.declared.Region.{Region}
 
@@ -13,12 +13,12 @@ module _ (cells : List ℕ) (g : Region) (i : ℕ) (known : regionAt (g .id) ≡
   pub may-get : (j : ℕ) → (g .id < BEHIND) × (i < g .rows) × (j < g .cols) × (workNeed ≤ length cells) → Fits cells g i j
   may-get j h = record { known = known; writable = h .0; row = h .1; col = h .2; long = h .3 }
 
-  pub may-put : (j v : ℕ) → (g .id < BEHIND) × (i < g .rows) × (j < g .cols) × (workNeed ≤ length cells) × (v < 65536)
-      → Fits cells g i j × (v < 65536)
+  pub may-put : (j v : ℕ) → (g .id < BEHIND) × (i < g .rows) × (j < g .cols) × (workNeed ≤ length cells) × (v < room g)
+      → Fits cells g i j × (v < room g)
   may-put j v h = (may-get j (h .0, h .1, h .2, h .3), h .4)
 
   pub may-push : (col c : ℕ)
-      → (g .id < BEHIND) × (g .rows ≡ maxWorkers) × (g .cols ≡ LABELROOM) × (i < maxWorkers) × (col < WORKERCOLS) × (c < 65536) × (workNeed ≤ length cells)
+      → (g .id < BEHIND) × (g .rows ≡ maxWorkers) × (g .cols ≡ LABELROOM) × (i < maxWorkers) × (col < WORKERCOLS) × (c < room g) × (workNeed ≤ length cells)
       → Pushes cells g col i c
   may-push col c h = record {
     known = known;

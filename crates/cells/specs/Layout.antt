@@ -1,6 +1,7 @@
 -- Where everything stands in the work cells: one table of regions, worked out from their sizes. The constants of `src/layout.rt`
 -- say the same.
-use Prim.Native.Nat.{ℕ, suc, _+_, _*_, _^_, _<_, _≤_}
+use Prim.Native.Nat.{ℕ, suc, _+_, _*_, _/_, _^_, _<_, _≤_}
+use mathlib.Core.Bool.{Bool, true, false, cond}
 use mathlib.Core.List.{List, [], _∷_}
 use mathlib.Core.Path.{_≡_}
 use lib.ListN.{length, getD}
@@ -160,36 +161,40 @@ LISTMARK = 1024
 -- ---- the table
 
 -- a region by its parts
-abbrev pub region : ℕ → ℕ → ℕ → ℕ → Region
-region id base rows cols = record { id = id; base = base; rows = rows; cols = cols }
+abbrev pub region : ℕ → ℕ → ℕ → ℕ → Bool → Region
+region id base rows cols halved = record { id = id; base = base; rows = rows; cols = cols; halved = halved }
 
--- a region's rows and columns
+-- a region's rows and columns, and whether it is halved: then two rows share their cells
 abbrev pub Size : Type 0
-Size = ℕ × ℕ
+Size = ℕ × ℕ × Bool
 
 -- the sizes of the regions, in the order of their numbers
 abbrev pub sizes : List Size
 sizes =
-    (maxWorkers, WORKERCOLS)  -- WORKERS
-    ∷ (maxWorkers, WORKERCOLS)  -- CURSORS
-    ∷ (maxWorkers, SENDROOM + 1)  -- BOUNDS
-    ∷ (maxWorkers, LABELROOM)  -- LOG
-    ∷ (maxWorkers, LABELROOM)  -- WORK
-    ∷ (maxWorkers, OUTROOM)  -- OUT
-    ∷ (1, POLLROOM + 1)  -- WANTED
-    ∷ (maxVariables, VALUEROOM)  -- DOMAIN
-    ∷ (COUNTERMAX + 1, VALUEROOM)  -- COUNTERS
-    ∷ (maxVariables, maxVariables)  -- HEADS
-    ∷ (1, PLACEROOM)  -- PLACES
-    ∷ (1, maxConstraints)  -- NEXT
-    ∷ (maxWorkers, maxVariables)  -- FIRST
-    ∷ (maxVariables, maxVariables)  -- FOLLOW
+    (maxWorkers, WORKERCOLS, false)  -- WORKERS
+    ∷ (maxWorkers, WORKERCOLS, false)  -- CURSORS
+    ∷ (maxWorkers, SENDROOM + 1, false)  -- BOUNDS
+    ∷ (maxWorkers, LABELROOM, false)  -- LOG
+    ∷ (maxWorkers, LABELROOM, false)  -- WORK
+    ∷ (maxWorkers, OUTROOM, false)  -- OUT
+    ∷ (1, POLLROOM + 1, false)  -- WANTED
+    ∷ (maxVariables, VALUEROOM, false)  -- DOMAIN
+    ∷ (COUNTERMAX + 1, VALUEROOM, true)  -- COUNTERS
+    ∷ (maxVariables, maxVariables, false)  -- HEADS
+    ∷ (1, PLACEROOM, false)  -- PLACES
+    ∷ (1, maxConstraints, false)  -- NEXT
+    ∷ (maxWorkers, maxVariables, false)  -- FIRST
+    ∷ (maxVariables, maxVariables, false)  -- FOLLOW
     ∷ []
+
+-- where a region ends; the last of an odd number of rows has its cells alone
+abbrev pub ends : Region → ℕ
+ends g = g .base + cond (g .halved) ((g .rows + 1) / 2) (g .rows) * g .cols
 
 -- regions of these sizes, numbered from `id` and standing from `at` on: each begins where the one before it ends
 abbrev pub placed : ℕ → ℕ → List Size → List Region
 placed id at [] = []
-placed id at (s ∷ rest) = region id at (s .0) (s .1) ∷ placed (suc id) (at + s .0 * s .1) rest
+placed id at (s ∷ rest) = let g = region id at (s .0) (s .1) (s .2) in g ∷ placed (suc id) (ends g) rest
 
 -- the regions, each at its number
 abbrev pub regions : List Region
@@ -197,11 +202,19 @@ regions = placed 0 0 sizes
 
 -- the region of a number: past the table, all the cells behind the needed ones
 abbrev pub regionAt : ℕ → Region
-regionAt r = getD regions r (region BEHIND workNeed 1 (2 ^ 64))
+regionAt r = getD regions r (region BEHIND workNeed 1 (2 ^ 64) false)
+
+-- the row of cells where row `i` of a region stands
+abbrev pub cellRow : Region → ℕ → ℕ
+cellRow g i = cond (g .halved) (i / 2) i
 
 -- the place of a row and column in the cells
 abbrev pub address : Region → ℕ → ℕ → ℕ
-address g i j = g .base + i * g .cols + j
+address g i j = g .base + cellRow g i * g .cols + j
+
+-- a region has room for numbers below this one: of a halved one a row has a byte of each cell
+abbrev pub room : Region → ℕ
+room g = cond (g .halved) 256 65536
 
 -- the place lies in the region, and the cells are as many as are needed
 pub record Fits (cells : List ℕ) (g : Region) (i j : ℕ) : Type 0 where

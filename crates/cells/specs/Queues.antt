@@ -8,7 +8,7 @@ use lib.ListN.{length}
 use Rattle.disac4.specs.Need.{workNeed}
 use Rattle.format.specs.Limits.{maxWorkers}
 use Rattle.base.specs.Below.{loop}
-use Rattle.cells.specs.Layout.{WORKERS, LOG, WORK, DOMAIN, BEHIND, TAIL, LOGEND, LABELROOM, regionAt, WORKERCOLS}
+use Rattle.cells.specs.Layout.{WORKERS, LOG, WORK, DOMAIN, BEHIND, TAIL, LOGEND, LABELROOM, regionAt, WORKERCOLS, room}
 use Rattle.cells.specs.Memory.{Mem, store}
 use Rattle.cells.specs.View.{labelNumber}
 use Rattle.cells.specs.declared.Region.{Region}
@@ -21,7 +21,7 @@ pub record Pushes (cells : List ℕ) (g : Region) (col i c : ℕ) : Type 0 where
   pub cols : g .cols ≡ LABELROOM
   pub row : i < maxWorkers
   pub end : col < WORKERCOLS
-  pub small : c < 65536
+  pub small : c < room g
   pub long : workNeed ≤ length cells
 
 -- `c` at the end of row `i` of a region whose end is kept in a column of the worker's row; there is room for LABELROOM

@@ -12,8 +12,9 @@ ghost use mathlib.Core.Path.{_≡_};
 ghost use Prim.Native.Nat.{_-_, _<_, _≤_};
 ghost use lib.Dec.{eqb};
 ghost use Rattle.base.specs.Row.{rowOf};
-ghost use Rattle.cells.specs.Layout.{VALUEROOM, Fits};
-ghost use Rattle.cells.specs.Memory.{memOf, store};
+ghost use Rattle.disac4.specs.Need.{workNeed};
+ghost use Rattle.cells.specs.Layout.{VALUEROOM, cellRow, address, room, Fits};
+ghost use Rattle.cells.specs.Memory.{partOf, withPart, memOf, store};
 
 // Columns of a worker's row, and of a sender's row of cursors.
 pub const WORKERCOLS: usize = 16;
@@ -47,6 +48,7 @@ pub const WORKERS: Region = Region {
     base: 0,
     rows: MAX_WORKERS,
     cols: WORKERCOLS,
+    halved: false,
 };
 
 const CURSORS_AT: usize = MAX_WORKERS * WORKERCOLS;
@@ -56,6 +58,7 @@ pub const CURSORS: Region = Region {
     base: CURSORS_AT,
     rows: MAX_WORKERS,
     cols: WORKERCOLS,
+    halved: false,
 };
 
 const BOUNDS_AT: usize = CURSORS_AT + MAX_WORKERS * WORKERCOLS;
@@ -65,6 +68,7 @@ pub const BOUNDS: Region = Region {
     base: BOUNDS_AT,
     rows: MAX_WORKERS,
     cols: SENDROOM + 1,
+    halved: false,
 };
 
 const LOG_AT: usize = BOUNDS_AT + MAX_WORKERS * (SENDROOM + 1);
@@ -74,6 +78,7 @@ pub const LOG: Region = Region {
     base: LOG_AT,
     rows: MAX_WORKERS,
     cols: LABELROOM,
+    halved: false,
 };
 
 const WORK_AT: usize = LOG_AT + MAX_WORKERS * LABELROOM;
@@ -83,6 +88,7 @@ pub const WORK: Region = Region {
     base: WORK_AT,
     rows: MAX_WORKERS,
     cols: LABELROOM,
+    halved: false,
 };
 
 const OUT_AT: usize = WORK_AT + MAX_WORKERS * LABELROOM;
@@ -92,6 +98,7 @@ pub const OUT: Region = Region {
     base: OUT_AT,
     rows: MAX_WORKERS,
     cols: OUTROOM,
+    halved: false,
 };
 
 const WANTED_AT: usize = OUT_AT + MAX_WORKERS * OUTROOM;
@@ -101,6 +108,7 @@ pub const WANTED: Region = Region {
     base: WANTED_AT,
     rows: 1,
     cols: POLLROOM + 1,
+    halved: false,
 };
 
 const DOMAIN_AT: usize = WANTED_AT + POLLROOM + 1;
@@ -110,6 +118,7 @@ pub const DOMAIN: Region = Region {
     base: DOMAIN_AT,
     rows: MAX_VARIABLES,
     cols: VALUEROOM,
+    halved: false,
 };
 
 const COUNTERS_AT: usize = DOMAIN_AT + MAX_VARIABLES * VALUEROOM;
@@ -119,15 +128,17 @@ pub const COUNTERS: Region = Region {
     base: COUNTERS_AT,
     rows: COUNTERMAX + 1,
     cols: VALUEROOM,
+    halved: true,
 };
 
-const HEADS_AT: usize = COUNTERS_AT + (COUNTERMAX + 1) * VALUEROOM;
+const HEADS_AT: usize = COUNTERS_AT + (COUNTERMAX + 2) / 2 * VALUEROOM;
 
 pub const HEADS: Region = Region {
     id: 9,
     base: HEADS_AT,
     rows: MAX_VARIABLES,
     cols: MAX_VARIABLES,
+    halved: false,
 };
 
 const PLACES_AT: usize = HEADS_AT + MAX_VARIABLES * MAX_VARIABLES;
@@ -137,6 +148,7 @@ pub const PLACES: Region = Region {
     base: PLACES_AT,
     rows: 1,
     cols: PLACEROOM,
+    halved: false,
 };
 
 const NEXT_AT: usize = PLACES_AT + PLACEROOM;
@@ -146,6 +158,7 @@ pub const NEXT: Region = Region {
     base: NEXT_AT,
     rows: 1,
     cols: MAX_CONSTRAINTS,
+    halved: false,
 };
 
 const FIRST_AT: usize = NEXT_AT + MAX_CONSTRAINTS;
@@ -155,6 +168,7 @@ pub const FIRST: Region = Region {
     base: FIRST_AT,
     rows: MAX_WORKERS,
     cols: MAX_VARIABLES,
+    halved: false,
 };
 
 const FOLLOW_AT: usize = FIRST_AT + MAX_WORKERS * MAX_VARIABLES;
@@ -164,6 +178,7 @@ pub const FOLLOW: Region = Region {
     base: FOLLOW_AT,
     rows: MAX_VARIABLES,
     cols: MAX_VARIABLES,
+    halved: false,
 };
 
 // The columns of a worker's row.
@@ -191,24 +206,62 @@ pub const LISTMARK: usize = 1024;
 // What the cell of a value holds while the value is in its domain.
 pub const LISTED: usize = 65535;
 
-// What stands at a row and column of a region.
-pub fn get(cells: &[u16], g: Region, i: usize, j: usize) -> usize
-    requires { ⌜ Fits (now cells) g i j ⌝ }
-    ensures { λ r. ⌜ (r ≡ memOf (now (cells .entry)) (g .id) i j) × (r < 65536) ⌝ }
+// The row of cells where row i of a region stands.
+fn cell_row(g: Region, i: usize) -> usize
+    ensures { λ r. ⌜ r ≡ cellRow g i ⌝ }
+{
+    if g.halved { i / 2 } else { i }
+}
+
+// The cell at a row and column of a region.
+fn place(g: Region, i: usize, j: usize) -> usize
+    requires { ⌜ address g i j < workNeed ⌝ }
+    ensures { λ r. ⌜ r ≡ address g i j ⌝ }
 {
     let base = g.base;
     let cols = g.cols;
-    cells[base + i * cols + j] as usize
+    base + cell_row(g, i) * cols + j
+}
+
+// What a cell has for row i of a region. How far it is shifted is the same along a row, so that a loop over columns has no test.
+fn part(g: Region, i: usize, c: usize) -> usize
+    requires { ⌜ c < 65536 ⌝ }
+    ensures { λ r. ⌜ (r ≡ partOf g i c) × (r < room g) ⌝ }
+{
+    if !g.halved {
+        return c;
+    }
+    (c >> (i % 2 * 8)) % 256
+}
+
+// A cell with v for row i of a region. 65,280 is a cell's high byte: shifted with v, it is always the other row's half.
+fn with_part(g: Region, i: usize, v: usize, c: usize) -> usize
+    requires { ⌜ (v < room g) × (c < 65536) ⌝ }
+    ensures { λ r. ⌜ (r ≡ withPart g i v c) × (r < 65536) ⌝ }
+{
+    if !g.halved {
+        return v;
+    }
+    let low = i % 2 * 8;
+    (c & (65280 >> low)) + (v << low)
+}
+
+// What stands at a row and column of a region.
+pub fn get(cells: &[u16], g: Region, i: usize, j: usize) -> usize
+    requires { ⌜ Fits (now cells) g i j ⌝ }
+    ensures { λ r. ⌜ (r ≡ memOf (now (cells .entry)) (g .id) i j) × (r < room g) ⌝ }
+{
+    let at = place(g, i, j);
+    part(g, i, cells[at] as usize)
 }
 
 // Puts a number at a row and column of a region.
 pub fn put(cells: &mut [u16], g: Region, i: usize, j: usize, v: usize)
-    requires { ⌜ Fits (now cells) g i j × (v < 65536) ⌝ }
+    requires { ⌜ Fits (now cells) g i j × (v < room g) ⌝ }
     ensures { λ r. ⌜ memOf (now (cells .exit)) ≡ store (memOf (now (cells .entry))) (g .id) i j v ⌝ }
 {
-    let base = g.base;
-    let cols = g.cols;
-    cells[base + i * cols + j] = v as u16;
+    let at = place(g, i, j);
+    cells[at] = with_part(g, i, v, cells[at] as usize) as u16;
 }
 
 // The row of the values below n whose cells in row i of a region hold c.

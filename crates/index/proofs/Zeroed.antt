@@ -3,13 +3,14 @@ use Prim.Native.Nat.{ℕ, zero, suc, _≤_}
 use mathlib.Core.Bool.{_&&_}
 use mathlib.Core.List.{List}
 use mathlib.Core.Option.{none}
-use mathlib.Core.Path.{_≡_, refl, sym, subst}
+use mathlib.Core.Path.{_≡_, refl, sym, _∙_, ap, subst}
 use native.Mathlib.Omega.{arith}
 use lib.Dec.{ltb}
 use lib.ListN.{length, getD, replicate, length-replicate}
 use Rattle.base.proofs.Choice.{cond-same}
+use Rattle.cells.proofs.Halves.{part-none}
 use Rattle.cells.specs.Layout.{regionAt, address}
-use Rattle.cells.specs.Memory.{memOf}
+use Rattle.cells.specs.Memory.{partOf, memOf}
 use Rattle.disac4.specs.Need.{workNeed}
 use Rattle.index.proofs.Chains.{indexed}
 use Rattle.index.specs.Index.{Ready, Indexed, indexM}
@@ -33,7 +34,8 @@ zero-at (suc n) (suc i) = zero-at n i
 zero-memory : (n r i j : ℕ) → memOf (zeros n) r i j ≡ 0
 unfolding memOf
 zero-memory n r i j =
-    cond-same (ltb i (regionAt r .rows) && ltb j (regionAt r .cols)) _ 0 0 (zero-at n (address (regionAt r) i j)) refl
+    cond-same (ltb i (regionAt r .rows) && ltb j (regionAt r .cols)) _ 0 0
+    (ap (partOf (regionAt r) i) (zero-at n (address (regionAt r) i j)) ∙ part-none (regionAt r) i) refl
 
 -- and indexing leaves the plan's index in it
 pub zeroed-ready : (b cells : List ℕ) (n : ℕ) → planFault b ≡ none → memOf cells ≡ indexM b (memOf (zeros n))
