@@ -11,14 +11,15 @@
  *   tinshrew_version      the version of the linked library's interface
  *   tinshrew_cells        how many cells of a buffer the linked library needs
  *
- * docs/FORMAT.md has the bytes of a plan and of a turn list, what each turn does, the round and the sweeps. A sodium rule
- * allows a pair exactly if both figures are recorded (65,535 is "not recorded") and their sum is at most the rule's limit.
+ * docs/FORMAT.md has the bytes of a plan and of a turn list, what each turn does, the round and the sweeps. A plan of
+ * version 1 has up to 16 dishes in a slot, one of version 2 up to 32; both are taken by every call. A sodium rule allows a
+ * pair exactly if both figures are recorded (65,535 is "not recorded") and their sum is at most the rule's limit.
  *
  * Every call ends, whatever the bytes are. The library allocates nothing and keeps nothing between calls, so
  * calls may run at the same time, if none writes a buffer of another. It calls nothing of its caller's, and of other
  * libraries memset alone. It has no unwind information: what walks the stack by it, as a profiler or a signal handler may,
- * does not get past the library's frames. tinshrew_run_sweeps takes less than 50 KiB of stack, every other call less than
- * 1 KiB.
+ * does not get past the library's frames. tinshrew_run_sweeps takes less than 62 KiB of stack, every other call less than
+ * 1.5 KiB.
  *
  * Each buffer is a pointer and the number of its cells. No pointer is null, not even one to no cells: of an empty list
  * pass the address of any byte and the length 0. In C++ the data() of an empty vector may be null; tinshrew_bytes takes
@@ -38,15 +39,17 @@
 extern "C" {
 #endif
 
-/* The version of this interface. It goes up with each change of a signature, of a number or of what a call needs. Where
- * tinshrew_version() gives another number, the linked library goes with another header: make no other call. A new call
- * leaves it as it is: a program that makes that call does not link with a library that lacks it.
+/* The version of this interface, not of a plan. It goes up with each change of a signature, of a number or of what a call
+ * needs. Where tinshrew_version() gives another number, the linked library goes with another header: make no other call.
+ * A new call leaves it as it is: a program that makes that call does not link with a library that lacks it.
  */
-#define TINSHREW_VERSION 1
+#define TINSHREW_VERSION 2
 
-/* How many cells of 16 bits a buffer has at least: of work, and of lists (each of the two of the sweeps too). */
-#define TINSHREW_WORK_CELLS 24576
-#define TINSHREW_LIST_CELLS 32
+/* How many cells of 16 bits a buffer has at least, whatever the plan: of work, and of lists (each of the two of the
+ * sweeps too).
+ */
+#define TINSHREW_WORK_CELLS 30720
+#define TINSHREW_LIST_CELLS 64
 
 /* How many bytes a turn list has at most. */
 #define TINSHREW_TURN_BYTES 65536
@@ -77,14 +80,14 @@ enum {
  * Where several apply, the first in this order is given: 9, 10, 11; 1 for an empty plan; 2; the sections in turn; 8; 12.
  * In each section 1 comes first, then
  *   head  3, 4
- *   slot  3 (length under 2), 4, 3, 5, 6
+ *   slot  3 (length under 2), 4 (its own count), 4 (more than 512 dishes with it), 3, 5, 6
  *   rule  3 (length under 3), 7 (kind), 5, 3, 7 (bits)
  */
 enum {
     TINSHREW_TRUNCATED = 1,      /* plan empty (place 0), or a section or its length is cut off (section start) */
-    TINSHREW_BAD_VERSION = 2,    /* version byte is not 1 (0) */
+    TINSHREW_BAD_VERSION = 2,    /* version byte is neither 1 nor 2 (0) */
     TINSHREW_BAD_LENGTH = 3,     /* a section's length is not the one its content calls for (section start) */
-    TINSHREW_BAD_COUNT = 4,      /* kitchens, slots, rules or a dish count out of range (section start) */
+    TINSHREW_BAD_COUNT = 4,      /* kitchens, slots, rules or dishes, of a slot or in all, out of range (section start) */
     TINSHREW_BAD_NUMBER = 5,     /* kitchen or slot number out of range, or first slot not below second (section start) */
     TINSHREW_REPEATED_CODE = 6,  /* a code stands twice in a slot (section start) */
     TINSHREW_BAD_RULE = 7,       /* kind above 1, or a table bit at or past the second slot's count (section start) */
@@ -126,10 +129,13 @@ void tinshrew_check_plan(const uint8_t *plan, size_t plan_len, size_t out[TINSHR
  *   out[4]  polls sent, each poll turn once
  *   out[5]  lowest slot, from 1, with an empty list, whatever the status; 0 if none
  * and
- *   lists[s - 1] holds the listed dishes of slot s: lowest bit for its first dish, 1 where it is still listed.
- *                Cells from the number of slots on keep what they had.
- *   work         what it held before plays no part. Its first TINSHREW_WORK_CELLS cells are 0 afterwards, the rest
- *                keep what they had.
+ *   lists  holds the listed dishes of each slot, a bit for each: lowest bit of a cell for the first of its dishes, 1 where
+ *          it is still listed. Of slot s, with n slots in the plan,
+ *            plan of version 1: lists[s - 1]; cells from n on keep what they had
+ *            plan of version 2: lists[2 * s - 2] for dishes 17 to 32 and lists[2 * s - 1] for dishes 1 to 16; cells from
+ *                               2 * n on keep what they had
+ *   work   what it held before plays no part. Its first TINSHREW_WORK_CELLS cells are 0 afterwards, the rest keep what
+ *          they had.
  */
 void tinshrew_run_turns(const uint8_t *plan, size_t plan_len, const uint8_t *turns, size_t turns_len,
                         uint16_t *work, size_t work_len, uint16_t *lists, size_t lists_len,
@@ -149,8 +155,8 @@ void tinshrew_run_round(const uint8_t *plan, size_t plan_len,
  *   out[1]  number of sweeps, the last one too: from 1 to one more than the plan has dishes
  * and
  *   first, second  hold lists as in tinshrew_run_turns, those of the closed plan. After an odd number of sweeps the last
- *                  one stands in `second`, else in `first`; since it strikes nothing, both hold the same lists. Cells
- *                  from the number of slots on keep what they had, and what the others held before plays no part.
+ *                  one stands in `second`, else in `first`; since it strikes nothing, both hold the same lists. Later
+ *                  cells keep what they had, and what the others held before plays no part.
  */
 void tinshrew_run_sweeps(const uint8_t *plan, size_t plan_len,
                          uint16_t *first, size_t first_len, uint16_t *second, size_t second_len,
@@ -158,7 +164,7 @@ void tinshrew_run_sweeps(const uint8_t *plan, size_t plan_len,
 
 /* Tells where the last of so many sweeps stands, whatever the buffers and the numbers are.
  *   sweeps  number of sweeps, as tinshrew_run_sweeps gives it
- *   count   how many cells are asked for: the number of slots, for all lists
+ *   count   how many cells are asked for: for all lists the number of slots, and twice that for a plan of version 2
  *   out[0]  0
  *   out[1]  2 for `second`, where the number of sweeps is odd; 1 for `first`, where it is even, 0 too
  *   out[2]  how many cells are the answer, from the start of that buffer: `count`, or 0 where it has fewer

@@ -3,20 +3,40 @@
 use crate::reference::plan::{Constraint, Plan, Relation, Value, Variable, NOT_RECORDED};
 use crate::reference::run::Run;
 use crate::reference::state::Turn;
+use crate::reference::version::{Version, MOST_LABELS, ONE, TWO};
 use crate::rng::Rng;
 
 /// The most a random plan may have of each.
 #[derive(Clone, Copy, Debug)]
 pub struct Size {
+    pub version: Version,
     pub workers: usize,
     pub variables: usize,
     pub values: usize,
     pub constraints: usize,
 }
 
-pub const SMALL: Size = Size { workers: 3, variables: 4, values: 4, constraints: 5 };
-pub const MEDIUM: Size = Size { workers: 8, variables: 12, values: 10, constraints: 30 };
-pub const FULL: Size = Size { workers: 8, variables: 32, values: 16, constraints: 128 };
+pub const SMALL: Size = Size { version: ONE, workers: 3, variables: 4, values: 4, constraints: 5 };
+pub const MEDIUM: Size =
+    Size { version: ONE, workers: 8, variables: 12, values: 10, constraints: 30 };
+pub const FULL: Size = full(ONE);
+pub const FULL_IN_TWO: Size = full(TWO);
+
+/// As many values as there may be, in a variable and in all together.
+const fn full(version: Version) -> Size {
+    let variables = MOST_LABELS / version.values;
+    Size { version, workers: 8, variables, values: version.values, constraints: 128 }
+}
+
+/// The lowest `count` bits.
+fn low_bits(count: usize) -> u32 {
+    ((1u64 << count) - 1) as u32
+}
+
+/// The bits from `place` on.
+fn bits_from(place: usize) -> u32 {
+    !low_bits(place.min(32))
+}
 
 fn codes(rng: &mut Rng, count: usize) -> Vec<u16> {
     let narrow = rng.chance(1, 2);
@@ -58,19 +78,19 @@ fn variable(rng: &mut Rng, owner: usize, count: usize, figures: Figures) -> Vari
 }
 
 /// A row of `columns` bits, each set in `part` of `whole` cases.
-fn row(rng: &mut Rng, columns: usize, part: usize, whole: usize) -> u16 {
+fn row(rng: &mut Rng, columns: usize, part: usize, whole: usize) -> u32 {
     (0..columns).filter(|_| rng.chance(part, whole)).fold(0, |row, bit| row | 1 << bit)
 }
 
-fn table(rng: &mut Rng, rows: usize, columns: usize, part: usize) -> Vec<u16> {
+fn table(rng: &mut Rng, rows: usize, columns: usize, part: usize) -> Vec<u32> {
     let style = rng.below(5);
-    let mask = ((1u32 << columns) - 1) as u16;
+    let mask = low_bits(columns);
     (0..rows)
         .map(|a| match style {
             // Strictly less, equal, and one column each: relations that
             // delete one value after the other.
-            0 => mask & !((2u32 << a) - 1) as u16,
-            1 => mask & (1u32 << a) as u16,
+            0 => mask & bits_from(a + 1),
+            1 => mask & 1 << a,
             2 if columns > 0 => 1 << rng.below(columns),
             _ => row(rng, columns, part, 16),
         })
@@ -130,58 +150,73 @@ fn random_constraints(
 
 /// A valid plan of at most that size; `exactly` takes the full size.
 pub fn random_plan(rng: &mut Rng, size: Size, exactly: bool) -> Plan {
-    let up_to = |rng: &mut Rng, low, high| if exactly { high } else { rng.between(low, high) };
-    let workers = up_to(rng, 1, size.workers);
-    let n = up_to(rng, 1, size.variables);
+    let n = if exactly { size.variables } else { rng.between(1, size.variables) };
+    let least = usize::from(!rng.chance(1, 6));
+    let mut left = MOST_LABELS;
+    let counts: Vec<usize> = (0..n)
+        .map(|_| {
+            let drawn = if exactly { size.values } else { rng.between(least, size.values) };
+            let count = drawn.min(left);
+            left -= count;
+            count
+        })
+        .collect();
+    plan_of_counts(rng, size, &counts, exactly)
+}
+
+/// A valid plan whose variables have so many values.
+pub fn plan_of_counts(rng: &mut Rng, size: Size, counts: &[usize], exactly: bool) -> Plan {
+    let workers = if exactly { size.workers } else { rng.between(1, size.workers) };
     let scale = rng.pick(&[4, 40, 1_000, 40_000, 65_534]);
     // Under a sodium rule each value without a figure is deleted; half of the
     // plans have hardly one.
     let figures = Figures { scale, unrecorded: rng.chance(1, 2) };
     let spread = if rng.chance(1, 6) { 1 } else { workers };
-    let least = usize::from(!rng.chance(1, 6));
-    let variables: Vec<Variable> = (0..n)
-        .map(|_| {
-            let count = up_to(rng, least, size.values);
+    let variables: Vec<Variable> = counts
+        .iter()
+        .map(|&count| {
             let owner = rng.between(1, spread);
             variable(rng, owner, count, figures)
         })
         .collect();
     let constraints = random_constraints(rng, &variables, size.constraints, exactly, scale);
-    Plan { workers, variables, constraints }
+    Plan { version: size.version, workers, variables, constraints }
 }
 
-fn tabled(first: usize, second: usize, rows: Vec<u16>) -> Constraint {
+fn tabled(first: usize, second: usize, rows: Vec<u32>) -> Constraint {
     Constraint { first, second, relation: Relation::Table(rows) }
 }
 
 /// Variables of equal size, mostly owned by one worker after the other.
-fn even_variables(rng: &mut Rng, workers: usize, n: usize, values: usize) -> Vec<Variable> {
-    (0..n)
+fn even_variables(rng: &mut Rng, size: Size) -> Vec<Variable> {
+    let workers = size.workers;
+    (0..size.variables)
         .map(|s| {
             let owner = if rng.chance(1, 8) { rng.between(1, workers) } else { s % workers + 1 };
-            variable(rng, owner, values, Figures { scale: 1_000, unrecorded: true })
+            variable(rng, owner, size.values, Figures { scale: 1_000, unrecorded: true })
         })
         .collect()
 }
 
-/// The variables of a full plan.
-fn full_variables(rng: &mut Rng) -> Vec<Variable> {
-    even_variables(rng, FULL.workers, FULL.variables, FULL.values)
+/// Such variables, with these constraints.
+fn even_plan(size: Size, variables: Vec<Variable>, constraints: Vec<Constraint>) -> Plan {
+    Plan { version: size.version, workers: size.workers, variables, constraints }
 }
 
 /// A chain or ring of relations that deletes its values one after the other,
 /// from worker to worker.
-pub fn chain_plan(rng: &mut Rng, workers: usize, n: usize, values: usize) -> Plan {
-    let variables = even_variables(rng, workers, n, values);
+pub fn chain_plan(rng: &mut Rng, size: Size) -> Plan {
+    let Size { variables: n, values, .. } = size;
+    let variables = even_variables(rng, size);
     let mut constraints = Vec::new();
-    let mask = ((1u32 << values) - 1) as u16;
+    let mask = low_bits(values);
     // Mostly strictly less; sometimes at most, or less by at most two.
     let style = rng.below(4);
-    let rise = move |a: usize| -> u16 {
+    let rise = move |a: usize| -> u32 {
         match style {
-            0 => mask & (6u32 << a) as u16,
-            1 if a % 3 == 0 => mask & (u32::MAX << a) as u16,
-            _ => mask & (u32::MAX << (a + 1)) as u16,
+            0 => mask & 6 << a,
+            1 if a % 3 == 0 => mask & bits_from(a),
+            _ => mask & bits_from(a + 1),
         }
     };
     for first in 1..n {
@@ -193,11 +228,10 @@ pub fn chain_plan(rng: &mut Rng, workers: usize, n: usize, values: usize) -> Pla
         for _ in 0..rng.below(3) {
             let first = rng.between(1, n - 2);
             let second = rng.between(first + 2, n);
-            let rows = (0..values).map(|a| mask & ((1u32 << a) - 1) as u16).collect();
-            constraints.push(tabled(first, second, rows));
+            constraints.push(tabled(first, second, (0..values).map(low_bits).collect()));
         }
     }
-    Plan { workers, variables, constraints }
+    even_plan(size, variables, constraints)
 }
 
 /// A ring of at least three variables that loses its labels one by one: each
@@ -205,15 +239,16 @@ pub fn chain_plan(rng: &mut Rng, workers: usize, n: usize, values: usize) -> Pla
 /// variable with the next one of the first. So the first value of the first
 /// variable has no support, and each deletion takes the only support of one
 /// other label. The last values also go with each other, and stay.
-pub fn ring_plan(rng: &mut Rng, workers: usize, n: usize, values: usize) -> Plan {
-    let variables = even_variables(rng, workers, n, values);
-    let same: Vec<u16> = (0..values).map(|a| 1 << a).collect();
-    let mut one_less: Vec<u16> = same.iter().map(|row| row >> 1).collect();
+pub fn ring_plan(rng: &mut Rng, size: Size) -> Plan {
+    let Size { variables: n, values, .. } = size;
+    let variables = even_variables(rng, size);
+    let same: Vec<u32> = (0..values).map(|a| 1 << a).collect();
+    let mut one_less: Vec<u32> = same.iter().map(|row| row >> 1).collect();
     one_less[values - 1] |= same[values - 1];
     let mut constraints: Vec<Constraint> =
         (1..n).map(|first| tabled(first, first + 1, same.clone())).collect();
     constraints.push(tabled(1, n, one_less));
-    Plan { workers, variables, constraints }
+    even_plan(size, variables, constraints)
 }
 
 /// Makes each figure recorded and any two of them less than 65,535.
@@ -223,15 +258,30 @@ fn record_all(plan: &mut Plan) {
     }
 }
 
+/// Two variables for one constraint more of a full plan. Where there is room
+/// for one over every two variables, two that have none yet come first.
+fn pair_to_fill(rng: &mut Rng, size: Size, constraints: &[Constraint]) -> (usize, usize) {
+    let n = size.variables;
+    if n * (n - 1) / 2 <= size.constraints {
+        let touched = |pair| constraints.iter().any(|one| (one.first, one.second) == pair);
+        let pairs = (1..=n).flat_map(|first| (first + 1..=n).map(move |second| (first, second)));
+        let untouched: Vec<(usize, usize)> = pairs.filter(|&pair| !touched(pair)).collect();
+        if !untouched.is_empty() {
+            return rng.pick(&untouched);
+        }
+    }
+    pair(rng, n)
+}
+
 /// Adds constraints up to the full number: sodium rules that allow every two
 /// recorded figures, and tables of these rows.
-fn fill_up(rng: &mut Rng, plan: &mut Plan, rows: impl Fn(usize) -> u16) {
-    while plan.constraints.len() < FULL.constraints {
-        let (first, second) = pair(rng, FULL.variables);
+fn fill_up(rng: &mut Rng, size: Size, plan: &mut Plan, rows: impl Fn(usize) -> u32) {
+    while plan.constraints.len() < size.constraints {
+        let (first, second) = pair_to_fill(rng, size, &plan.constraints);
         let relation = if rng.chance(1, 3) {
             Relation::Sodium(65_535)
         } else {
-            Relation::Table((0..FULL.values).map(&rows).collect())
+            Relation::Table((0..size.values).map(&rows).collect())
         };
         plan.constraints.push(Constraint { first, second, relation });
     }
@@ -239,45 +289,48 @@ fn fill_up(rng: &mut Rng, plan: &mut Plan, rows: impl Fn(usize) -> u16) {
 
 /// A full plan with such a ring through all variables, where every deletion
 /// takes a sweep of its own; the other constraints allow everything.
-pub fn full_ring(rng: &mut Rng) -> Plan {
-    let mut plan = ring_plan(rng, FULL.workers, FULL.variables, FULL.values);
+pub fn full_ring(rng: &mut Rng, size: Size) -> Plan {
+    let mut plan = ring_plan(rng, size);
     record_all(&mut plan);
-    fill_up(rng, &mut plan, |_| u16::MAX);
+    fill_up(rng, size, &mut plan, |_| low_bits(size.values));
     plan
 }
 
-/// The full plan of the benchmark: 8 workers, 32 variables of 16 values, 128
-/// constraints, and a chain through all variables that alone deletes hundreds
-/// of labels.
-pub fn full_plan(rng: &mut Rng, strictly: bool) -> Plan {
-    let at_most = |a: usize| (0xFFFFu32 << a) as u16;
+/// The full plan of the benchmark: a chain through all variables that alone
+/// deletes hundreds of labels, and constraints up to the full number. With
+/// `strictly` no label is left.
+pub fn full_plan(rng: &mut Rng, size: Size, strictly: bool) -> Plan {
+    let Size { variables: n, values, .. } = size;
+    let at_least = |a: usize| low_bits(values) & bits_from(a);
+    // From step to step values rise by so much that they run out; or by one at
+    // so many steps that they rise by about half of a variable's values.
+    let rise = |first: usize| match strictly {
+        true => values / (n - 1) + 1,
+        false => usize::from(first % (2 * n / values) == 0),
+    };
     let step = |first: usize| {
-        // Strictly less along 32 variables of 16 values deletes all labels;
-        // otherwise every fourth step is strict and a core stays.
-        let strict = usize::from(strictly || first % 4 == 0);
-        tabled(first, first + 1, (0..FULL.values).map(|a| at_most(a + strict)).collect())
+        tabled(first, first + 1, (0..values).map(|a| at_least(a + rise(first))).collect())
     };
-    let variables = full_variables(rng);
-    let constraints = (1..FULL.variables).map(step).collect();
-    let mut plan = Plan { workers: FULL.workers, variables, constraints };
+    let variables = even_variables(rng, size);
+    let mut plan = even_plan(size, variables, (1..n).map(step).collect());
     record_all(&mut plan);
-    // At most as large, which the chain implies already.
-    fill_up(rng, &mut plan, at_most);
+    // At least as large, which the chain implies already.
+    fill_up(rng, size, &mut plan, at_least);
     plan
 }
 
-/// A full plan with 128 tables of even density, `part` of 256 pairs allowed,
-/// on pairs of variables drawn evenly. Below about 90 it mostly loses every
-/// label, above about 100 only some.
-pub fn scattered_plan(rng: &mut Rng, part: usize) -> Plan {
-    let variables = full_variables(rng);
-    let scattered = |_| {
-        let (first, second) = pair(rng, FULL.variables);
-        let rows = (0..FULL.values).map(|_| row(rng, FULL.values, part, 256)).collect();
-        tabled(first, second, rows)
-    };
-    let constraints = (0..FULL.constraints).map(scattered).collect();
-    Plan { workers: FULL.workers, variables, constraints }
+/// A full plan of tables with even density, `part` of 256 pairs allowed. In
+/// version 1 it mostly loses every label below about 90, above about 100 only
+/// some; with 32 values in a variable below about 55 and above about 65.
+pub fn scattered_plan(rng: &mut Rng, size: Size, part: usize) -> Plan {
+    let variables = even_variables(rng, size);
+    let mut constraints = Vec::new();
+    while constraints.len() < size.constraints {
+        let (first, second) = pair_to_fill(rng, size, &constraints);
+        let rows = (0..size.values).map(|_| row(rng, size.values, part, 256)).collect();
+        constraints.push(tabled(first, second, rows));
+    }
+    even_plan(size, variables, constraints)
 }
 
 /// Allowed turns drawn evenly.
@@ -374,22 +427,60 @@ pub fn guided_turns(rng: &mut Rng, plan: &Plan, most: usize, starving: bool) -> 
 #[cfg(test)]
 mod tests {
     use super::*;
-    use crate::reference::lists::cells;
-    use crate::reference::plan::Network;
+    use crate::reference::lists::{cells, Lists};
+    use crate::reference::plan::{decode, Network};
     use crate::reference::sweep::sweeps;
 
     /// How many labels each sweep deletes.
     fn deletions(plan: &Plan) -> Vec<u32> {
-        let listed = |cells: Vec<u16>| cells.iter().map(|cell| cell.count_ones()).sum();
+        let listed = |lists: &Lists| -> u32 {
+            cells(plan.version, lists).iter().map(|cell| cell.count_ones()).sum()
+        };
         let all = sweeps(plan, &Network::new(plan));
-        let counts: Vec<u32> = all.iter().map(cells).map(listed).collect();
+        let counts: Vec<u32> = all.iter().map(listed).collect();
         counts.windows(2).map(|pair| pair[0] - pair[1]).collect()
+    }
+
+    #[test]
+    fn full_plans_are_accepted_and_full() {
+        let mut rng = Rng::new(1);
+        for size in [FULL, FULL_IN_TWO] {
+            for plan in [
+                random_plan(&mut rng, size, true),
+                full_plan(&mut rng, size, true),
+                full_plan(&mut rng, size, false),
+                full_ring(&mut rng, size),
+                scattered_plan(&mut rng, size, 64),
+            ] {
+                assert_eq!(decode(&plan.encode()).as_ref(), Ok(&plan));
+                assert_eq!((plan.labels(), plan.constraints.len()), (512, 128));
+            }
+        }
+    }
+
+    #[test]
+    fn full_plans_of_version_2_tie_every_two_variables() {
+        let mut rng = Rng::new(1);
+        for plan in [
+            full_plan(&mut rng, FULL_IN_TWO, false),
+            full_ring(&mut rng, FULL_IN_TWO),
+            scattered_plan(&mut rng, FULL_IN_TWO, 64),
+        ] {
+            let network = Network::new(&plan);
+            let tied = |one| (one + 1..=16).filter(|&other| network.tied(one, other)).count();
+            assert_eq!((1..=16).map(tied).sum::<usize>(), 120);
+        }
     }
 
     #[test]
     fn rings_lose_one_label_a_sweep() {
         let mut rng = Rng::new(1);
-        for (plan, lost) in [(ring_plan(&mut rng, 2, 3, 2), 3), (full_ring(&mut rng), 32 * 15)] {
+        let least = Size { workers: 2, variables: 3, values: 2, ..SMALL };
+        for (plan, lost) in [
+            (ring_plan(&mut rng, least), 3),
+            (full_ring(&mut rng, FULL), 32 * 15),
+            (full_ring(&mut rng, FULL_IN_TWO), 16 * 31),
+        ] {
             assert_eq!(deletions(&plan), [vec![1; lost], vec![0]].concat());
         }
     }

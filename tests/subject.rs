@@ -150,11 +150,12 @@ trait StandIn {
     }
 }
 
-/// Cells that a stand-in is lent beyond those of the caller: work cells, and
-/// those of the two buffers of the sweeps.
+/// Cells that a stand-in is lent beyond those of the caller: work cells, list
+/// cells, and those of the two buffers of the sweeps.
 #[derive(Default)]
 struct Spare {
     work: usize,
+    lists: usize,
     first: usize,
     second: usize,
 }
@@ -176,7 +177,7 @@ unsafe extern "C" fn run_turns<S: StandIn>(
 ) {
     let (plan, turns) = (from_raw_parts(plan, plan_len), from_raw_parts(turns, turns_len));
     let work = from_raw_parts_mut(work, work_len + S::spare().work);
-    let lists = from_raw_parts_mut(lists, lists_len);
+    let lists = from_raw_parts_mut(lists, lists_len + S::spare().lists);
     write_answer(S::run_turns(plan, turns, work, lists), &mut *out);
 }
 
@@ -191,7 +192,7 @@ unsafe extern "C" fn run_round<S: StandIn>(
 ) {
     let plan = from_raw_parts(plan, plan_len);
     let work = from_raw_parts_mut(work, work_len + S::spare().work);
-    let lists = from_raw_parts_mut(lists, lists_len);
+    let lists = from_raw_parts_mut(lists, lists_len + S::spare().lists);
     write_answer(S::run_round(plan, work, lists), &mut *out);
 }
 
@@ -319,6 +320,9 @@ pub fn fast() -> Subject {
 
 static FAULT: AtomicUsize = AtomicUsize::new(0);
 
+/// How many list cells more are needed than when there was version 1 alone.
+const FORMER_MISSING: usize = LIST_CELLS - fast::FORMER_LISTS;
+
 fn current() -> Faulty {
     Faulty(fault::ALL[FAULT.load(Ordering::Relaxed)])
 }
@@ -352,7 +356,12 @@ impl StandIn for Wrong {
         let none = Spare::default();
         match current().0 {
             Fault::WorkOneLess => Spare { work: 1, ..none },
+            Fault::ListsOneLess => Spare { lists: 1, ..none },
+            Fault::FormerLists => Spare { lists: FORMER_MISSING, ..none },
             Fault::SweepListsOneLess => Spare { first: 1, second: 1, ..none },
+            Fault::FormerSweepLists => {
+                Spare { first: FORMER_MISSING, second: FORMER_MISSING, ..none }
+            }
             Fault::FirstLengthOnly => Spare { second: LIST_CELLS, ..none },
             Fault::SecondLengthOnly => Spare { first: LIST_CELLS, ..none },
             _ => none,

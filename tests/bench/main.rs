@@ -6,7 +6,7 @@
 //   bench --fast   the fast implementation itself, through the interface
 //
 // All get the same bytes and the same lent buffers, filled with garbage
-// outside the timed part. The library sets the first 24,576 work cells to 0,
+// outside the timed part. The library sets the first 30,720 work cells to 0,
 // as it must; the Rust implementation does not use them, and is timed both
 // without clearing them and with. The plan is decoded in each timed run.
 
@@ -16,10 +16,13 @@ use std::process::exit;
 use std::time::{Duration, Instant};
 
 use tinshrew_tests::fast::{self, Sound};
-use tinshrew_tests::generate::{full_plan, full_ring, random_turns, scattered_plan};
+use tinshrew_tests::generate::{
+    full_plan, full_ring, random_turns, scattered_plan, Size, FULL, FULL_IN_TWO,
+};
 use tinshrew_tests::reference::plan::decode;
 use tinshrew_tests::reference::run::{decode_turns, Run};
 use tinshrew_tests::reference::state::Turn;
+use tinshrew_tests::reference::version::Version;
 use tinshrew_tests::reference::{LIST_CELLS, WORK_CELLS};
 use tinshrew_tests::rng::Rng;
 use tinshrew_tests::subject::{self, write_answer, Subject};
@@ -113,6 +116,12 @@ fn same<T: PartialEq + Debug>(what: &str, found: T, expected: T) {
     }
 }
 
+/// How many list cells the lists of an accepted plan take.
+fn list_cells(plan: &[u8]) -> usize {
+    let version = Version::of_byte(plan[0]).expect("an accepted plan");
+    usize::from(plan[4]) * version.cells
+}
+
 /// How many of a plan's labels are not in these list cells.
 fn deleted(plan: &[u8], cells: &[u16]) -> usize {
     let listed: usize = cells.iter().map(|cell| cell.count_ones() as usize).sum();
@@ -128,13 +137,13 @@ fn agree(
     turns: Option<&[u8]>,
     buffers: &mut Buffers,
 ) -> ([usize; 6], usize) {
-    let n = usize::from(plan[4]);
+    let cells = list_cells(plan);
     buffers.fill();
     let found = call(subject, plan, turns, buffers);
-    let lists = buffers.lists[..n].to_vec();
+    let lists = buffers.lists[..cells].to_vec();
     buffers.fill();
     let expected = rust(plan, turns, buffers, true);
-    same(what, (found, &lists[..]), (expected, &buffers.lists[..n]));
+    same(what, (found, &lists[..]), (expected, &buffers.lists[..cells]));
     (found, deleted(plan, &lists))
 }
 
@@ -168,10 +177,10 @@ fn print_times(names: &[&str], times: &[(f64, f64)]) {
 
 /// The answer of the sweeps, and the cells of the first and the second buffer.
 fn swept(subject: &Subject, plan: &[u8], buffers: &mut Buffers) -> ([usize; 2], [Vec<u16>; 2]) {
-    let n = usize::from(plan[4]);
+    let cells = list_cells(plan);
     buffers.fill();
     let answer = sweeps(subject, plan, buffers);
-    (answer, [&buffers.lists, &buffers.second].map(|cells| cells[..n].to_vec()))
+    (answer, [&buffers.lists, &buffers.second].map(|buffer| buffer[..cells].to_vec()))
 }
 
 /// The sweeps must give the same in Rust, and the lists of the round run,
@@ -257,6 +266,47 @@ fn idle_list(rng: &mut Rng) -> Vec<u8> {
     (0..32_768).flat_map(|_| rng.pick(&turns).encode()).collect()
 }
 
+/// The full plans and the turn lists of a version's measures.
+struct Inputs {
+    all_deleted: Vec<u8>,
+    core_kept: Vec<u8>,
+    scattered: Vec<u8>,
+    idle: Vec<u8>,
+    even: Vec<u8>,
+    one_by_one: Vec<u8>,
+}
+
+impl Inputs {
+    /// `part` of 256 pairs are allowed where they are scattered.
+    fn new(rng: &mut Rng, size: Size, part: usize) -> Inputs {
+        Inputs {
+            all_deleted: full_plan(rng, size, true).encode(),
+            core_kept: full_plan(rng, size, false).encode(),
+            scattered: scattered_plan(rng, size, part).encode(),
+            idle: idle_list(rng),
+            even: random_turns(rng, size.workers, 32_768),
+            one_by_one: full_ring(rng, size).encode(),
+        }
+    }
+
+    fn measure(&self, subject: &Subject) {
+        let (core_kept, idle, even) = (&self.core_kept, &self.idle, &self.even);
+        measure(subject, "round, full plan, every label struck", &self.all_deleted, None);
+        measure(subject, "round, full plan, a core kept", core_kept, None);
+        measure(subject, "round, full random plan", &self.scattered, None);
+        measure(subject, "32,768 turns, mostly idle, full plan", core_kept, Some(idle));
+        measure_idle(subject, core_kept, idle);
+        measure(subject, "32,768 turns drawn evenly, full plan", core_kept, Some(even));
+        measure_idle(subject, core_kept, even);
+        measure(subject, "no turns, full plan", core_kept, Some(&[]));
+        println!("sweeps beside the same subject's round run; target: no ratio above 100");
+        measure_sweeps(subject, "full plan, every label struck", &self.all_deleted);
+        measure_sweeps(subject, "full plan, a core kept", core_kept);
+        measure_sweeps(subject, "full random plan", &self.scattered);
+        measure_sweeps(subject, "full plan, one strike a sweep", &self.one_by_one);
+    }
+}
+
 fn main() {
     let stand_in = match std::env::args().nth(1).as_deref() {
         None => subject::library(),
@@ -273,23 +323,11 @@ fn main() {
     };
     println!("median times; lent buffers hold garbage before each run, filled untimed");
     let mut rng = Rng::new(11);
-    let all_deleted = full_plan(&mut rng, true).encode();
-    let core_kept = full_plan(&mut rng, false).encode();
-    let scattered = scattered_plan(&mut rng, 64).encode();
-    measure(&subject, "round, full plan, every label struck", &all_deleted, None);
-    measure(&subject, "round, full plan, a core kept", &core_kept, None);
-    measure(&subject, "round, full random plan", &scattered, None);
-    let idle = idle_list(&mut rng);
-    measure(&subject, "32,768 turns, mostly idle, full plan", &core_kept, Some(&idle));
-    measure_idle(&subject, &core_kept, &idle);
-    let even = random_turns(&mut rng, 8, 32_768);
-    measure(&subject, "32,768 turns drawn evenly, full plan", &core_kept, Some(&even));
-    measure_idle(&subject, &core_kept, &even);
-    measure(&subject, "no turns, full plan", &core_kept, Some(&[]));
-    println!("sweeps beside the same subject's round run; target: no ratio above 100");
-    let one_by_one = full_ring(&mut rng).encode();
-    measure_sweeps(&subject, "full plan, every label struck", &all_deleted);
-    measure_sweeps(&subject, "full plan, a core kept", &core_kept);
-    measure_sweeps(&subject, "full random plan", &scattered);
-    measure_sweeps(&subject, "full plan, one strike a sweep", &one_by_one);
+    for (size, part) in [(FULL, 64), (FULL_IN_TWO, 36)] {
+        println!(
+            "version {}, full plans: {} slots of {} dishes, {} rules",
+            size.version.byte, size.variables, size.values, size.constraints
+        );
+        Inputs::new(&mut rng, size, part).measure(&subject);
+    }
 }

@@ -10,11 +10,13 @@ use std::ops::Range;
 use tinshrew_tests::reference::largest::largest_lists;
 use tinshrew_tests::reference::run::{run_round, run_turns, Run};
 use tinshrew_tests::reference::worked::hex;
+use tinshrew_tests::reference::LIST_CELLS;
 use tinshrew_tests::rng::Rng;
 use tinshrew_tests::subject::{reference_answer, reference_check, write_answer, Subject};
 
-/// Cells and bytes on either side of what is lent.
-const GUARD: usize = 64;
+/// Cells and bytes on either side of what is lent. A wrong variant may write
+/// all list cells behind those that it was lent.
+const GUARD: usize = LIST_CELLS;
 
 /// Where so many lent cells or bytes lie between their guards.
 fn within(count: usize) -> Range<usize> {

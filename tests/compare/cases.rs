@@ -1,15 +1,17 @@
 // The kinds of cases. A case follows from the seed and its number: the first
-// ones are fixed (worked plans, every damage of a kind to plan P, every pair
-// of faults), the others are drawn.
+// ones are fixed, the others are drawn.
 
-use std::sync::OnceLock;
+mod fixed;
 
+use tinshrew_tests::fast::{FORMER_LISTS, FORMER_WORK};
 use tinshrew_tests::generate::{
-    chain_plan, full_plan, full_ring, guided_turns, random_plan, random_turns, ring_plan,
-    round_like_turns, scattered_plan, Size, FULL, MEDIUM, SMALL,
+    chain_plan, full_plan, full_ring, guided_turns, plan_of_counts, random_plan, random_turns,
+    ring_plan, round_like_turns, scattered_plan, Size, FULL, FULL_IN_TWO, MEDIUM, SMALL,
 };
 use tinshrew_tests::reference::plan::{decode, Plan};
-use tinshrew_tests::reference::worked::{no_values, plan_p, turns_t, worked};
+use tinshrew_tests::reference::version::{Version, MOST_LABELS, ONE, TWO, VERSIONS};
+use tinshrew_tests::reference::worked::plan_p;
+use tinshrew_tests::reference::worked::wide::{plan_p_in_two, plan_q};
 use tinshrew_tests::reference::{LIST_CELLS, WORK_CELLS};
 use tinshrew_tests::rng::Rng;
 
@@ -22,8 +24,9 @@ fn enough(rng: &mut Rng, needed: usize) -> usize {
 }
 
 fn case(kind: &str, rng: &mut Rng, plan: Vec<u8>, turns: Vec<u8>) -> Case {
+    let version = if plan.first() == Some(&TWO.byte) { "version 2: " } else { "" };
     Case {
-        kind: kind.to_string(),
+        kind: format!("{version}{kind}"),
         plan,
         plan_after: Vec::new(),
         turns,
@@ -36,156 +39,47 @@ fn case(kind: &str, rng: &mut Rng, plan: Vec<u8>, turns: Vec<u8>) -> Case {
     }
 }
 
-/// How many cases a group has, and its case of each number.
-type Group = (usize, fn(usize, &mut Rng) -> Case);
-
-/// The fixed cases in order.
-fn groups() -> [Group; 8] {
-    [
-        (worked_plans().len(), worked_plan),
-        (3 * BUFFERS, buffers),
-        (3 * SWEEP_BUFFERS, sweep_buffers),
-        (2 * LENGTHS.len(), turn_list_length),
-        (PLAN_P + 2, cut),
-        (PLAN_P * CHANGES, byte_changed),
-        (3 * ACTORS * ACTIONS, every_turn),
-        (2 * PAIRS, pair_of_faults),
-    ]
-}
-
-fn fixed(number: usize, rng: &mut Rng) -> Option<Case> {
-    let mut at = number;
-    for (count, make) in groups() {
-        if at < count {
-            return Some(make(at, rng));
-        }
-        at -= count;
-    }
-    None
-}
-
-fn worked_plans() -> &'static [(Vec<u8>, Vec<u8>)] {
-    static WORKED: OnceLock<Vec<(Vec<u8>, Vec<u8>)>> = OnceLock::new();
-    WORKED.get_or_init(worked)
-}
-
-fn worked_plan(at: usize, rng: &mut Rng) -> Case {
-    let (plan, turns) = worked_plans()[at].clone();
-    case("worked", rng, plan, turns)
-}
-
-const WORK_SIZES: [usize; 6] =
-    [0, 1, WORK_CELLS - 1, WORK_CELLS, WORK_CELLS + 1, WORK_CELLS + 500];
-const LIST_SIZES: [usize; 8] = [0, 1, 2, 3, 31, 32, 33, 90];
-const BUFFERS: usize = WORK_SIZES.len() * LIST_SIZES.len();
-
-const SWEEP_BUFFERS: usize = LIST_SIZES.len() * LIST_SIZES.len();
-
-/// Plan P, a wrong one, and one without labels.
-fn plan_for_buffers(at: usize) -> Vec<u8> {
-    [plan_p(), vec![2], no_values()][at].clone()
-}
-
-/// Buffers of all sizes of interest, with each of these plans.
-fn buffers(at: usize, rng: &mut Rng) -> Case {
-    let size = at % BUFFERS;
-    let (work, lists) = (WORK_SIZES[size / LIST_SIZES.len()], LIST_SIZES[size % LIST_SIZES.len()]);
-    let plan = plan_for_buffers(at / BUFFERS);
-    Case { work, lists, ..case("buffers", rng, plan, turns_t()) }
-}
-
-/// The same of the two buffers of the sweeps.
-fn sweep_buffers(at: usize, rng: &mut Rng) -> Case {
-    let size = at % SWEEP_BUFFERS;
-    let sweep_lists = [size / LIST_SIZES.len(), size % LIST_SIZES.len()].map(|at| LIST_SIZES[at]);
-    let plan = plan_for_buffers(at / SWEEP_BUFFERS);
-    Case { sweep_lists, ..case("buffers of the sweeps", rng, plan, turns_t()) }
-}
-
-/// Turn lists of all lengths of interest.
-const LENGTHS: [usize; 14] =
-    [0, 1, 2, 3, 33, 34, 35, 65_534, 65_535, 65_536, 65_537, 65_538, 65_540, 131_072];
-
-fn turn_list_length(at: usize, rng: &mut Rng) -> Case {
-    let length = LENGTHS[at % LENGTHS.len()];
-    let plan = [plan_p(), vec![]][at / LENGTHS.len()].clone();
-    let mut turns = turns_t();
-    while turns.len() < length + 2 {
-        turns.extend_from_within(..turns.len().min(length + 2 - turns.len()));
-    }
-    let turns_after = turns.split_off(length);
-    Case { turns_after, ..case("turn list length", rng, plan, turns) }
-}
-
-/// The bytes of plan P.
-const PLAN_P: usize = 58;
-
-/// Plan P cut at every place, whole, and with a byte behind it.
-fn cut(at: usize, rng: &mut Rng) -> Case {
-    let mut plan = plan_p();
-    let plan_after = plan.split_off(at.min(plan.len()));
-    if at > PLAN_P {
-        plan.push(0);
-    }
-    Case { plan_after, ..case("cut", rng, plan, turns_t()) }
-}
-
-/// Each bit of a byte, and five more.
-const CHANGES: usize = 8 + 5;
-
-/// Each byte of plan P set to a number of values.
-fn byte_changed(at: usize, rng: &mut Rng) -> Case {
-    let mut plan = plan_p();
-    let byte = &mut plan[at / CHANGES];
-    *byte = match at % CHANGES {
-        8 => byte.wrapping_add(1),
-        9 => byte.wrapping_sub(1),
-        10 => 0,
-        11 => 255,
-        12 => rng.byte(),
-        bit => *byte ^ 1 << bit,
-    };
-    case("one byte changed", rng, plan, turns_t())
-}
-
-const ACTORS: usize = 11;
-const ACTIONS: usize = 15;
-
-/// Each turn of a low actor and action, behind some allowed ones.
-fn every_turn(at: usize, rng: &mut Rng) -> Case {
-    let workers = [1, 2, 8][at / (ACTORS * ACTIONS)];
-    let (actor, action) = ((at / ACTIONS % ACTORS) as u8, (at % ACTIONS) as u8);
-    let mut plan = random_plan(rng, SMALL, true);
-    plan.workers = workers;
-    for variable in &mut plan.variables {
-        variable.owner = rng.between(1, workers);
-    }
-    let most = rng.below(4);
-    let mut turns = guided_turns(rng, &plan, most, false);
-    turns.extend([actor, action]);
-    turns.extend(random_turns(rng, workers, 2));
-    case("every turn", rng, plan.encode(), turns)
-}
-
 /// The ordered pairs of faults.
 const PAIRS: usize = FAULTS.len() * FAULTS.len();
 
-/// Each ordered pair of faults, in the same sections and in others.
-fn pair_of_faults(at: usize, rng: &mut Rng) -> Case {
-    competing(rng, at % PAIRS, at >= PAIRS)
+/// Counts that are together as many labels as a plan may have: full variables,
+/// and a few small ones, mostly behind them.
+fn all_labels(rng: &mut Rng) -> Vec<usize> {
+    let full = MOST_LABELS / TWO.values - 1;
+    let mut counts = vec![TWO.values; full];
+    let mut left = MOST_LABELS - full * TWO.values;
+    for _ in 0..3 {
+        counts.push(rng.below(left.min(12) + 1));
+        left -= counts[counts.len() - 1];
+    }
+    counts.push(left);
+    if rng.chance(1, 4) {
+        counts.rotate_left(rng.below(full));
+    }
+    counts
 }
 
-fn competing(rng: &mut Rng, pair: usize, other_section: bool) -> Case {
-    let plan = loop {
-        let size = Size { workers: 3, variables: 4, values: 5, constraints: 4 };
-        let mut plan = random_plan(rng, size, false);
+/// A plan to be made wrong: it has tables and limits, and a variable of more
+/// than one value.
+fn sound_plan(rng: &mut Rng, version: Version) -> Plan {
+    let size = Size { version, workers: 3, variables: 4, values: 5, constraints: 4 };
+    loop {
+        let mut plan = if version == TWO && rng.chance(3, 4) {
+            let counts = all_labels(rng);
+            plan_of_counts(rng, size, &counts, false)
+        } else {
+            random_plan(rng, size, false)
+        };
         plan.workers = plan.workers.min(7);
         let tables = plan.constraints.iter().filter(|&one| is_table(one)).count();
-        let values = plan.variables.iter().map(|variable| variable.values.len());
-        if tables > 0 && tables < plan.constraints.len() && values.max() >= Some(2) {
-            break plan;
+        if tables > 0 && tables < plan.constraints.len() && plan.counts().max() >= Some(2) {
+            return plan;
         }
-    };
+    }
+}
+
+fn competing(rng: &mut Rng, version: Version, pair: usize, other_section: bool) -> Case {
+    let plan = sound_plan(rng, version);
     let mut draft = Draft::new(&plan, rng);
     FAULTS[pair / FAULTS.len()].1(&mut draft, rng);
     if other_section {
@@ -211,6 +105,7 @@ const KINDS: &[(&str, usize, Draw)] = &[
     ("small, round-like turns", 700, played),
     ("small, random turns", 500, played),
     ("plan P, guided turns", 500, played),
+    ("plan Q, guided turns", 100, played),
     ("medium, guided turns", 300, played),
     ("medium, starving turns", 120, played),
     ("medium, round-like turns", 120, played),
@@ -239,16 +134,36 @@ fn drawn(rng: &mut Rng) -> Case {
     draw(kind, rng)
 }
 
+/// Such a size in either version, with more values in some of version 2.
+fn of_either(rng: &mut Rng, size: Size) -> Size {
+    match rng.pick(&VERSIONS) {
+        ONE => size,
+        version => Size { version, values: rng.pick(&[size.values, 18, version.values]), ..size },
+    }
+}
+
+/// A full size: in version 2 many values or many variables.
+fn full_of_either(rng: &mut Rng) -> Size {
+    rng.pick(&[FULL, FULL, FULL_IN_TWO, Size { version: TWO, ..FULL }])
+}
+
+/// A valid plan of at most such a size.
+fn up_to(rng: &mut Rng, size: Size) -> Plan {
+    let size = of_either(rng, size);
+    random_plan(rng, size, false)
+}
+
 /// A valid plan of a drawn size, mostly small.
 fn some_plan(rng: &mut Rng) -> Plan {
     match rng.below(12) {
-        0 => random_plan(rng, MEDIUM, false),
-        1 => chain_plan(rng, 3, 6, 5),
+        0 => up_to(rng, MEDIUM),
+        1 => chain_plan(rng, Size { variables: 6, values: 5, ..SMALL }),
         2 if rng.chance(1, 25) => {
+            let size = full_of_either(rng);
             let exactly = rng.chance(1, 2);
-            random_plan(rng, FULL, exactly)
+            random_plan(rng, size, exactly)
         }
-        _ => random_plan(rng, SMALL, false),
+        _ => up_to(rng, SMALL),
     }
 }
 
@@ -260,24 +175,34 @@ fn plan_and_turns(rng: &mut Rng, most: usize) -> (Plan, Vec<u8>) {
 }
 
 fn chain(rng: &mut Rng) -> Plan {
-    let (workers, n) = (rng.between(1, 8), rng.between(2, 14));
-    let values = rng.between(1, 10);
-    chain_plan(rng, workers, n, values)
+    let most = of_either(rng, Size { values: 10, ..SMALL });
+    let (workers, variables) = (rng.between(1, 8), rng.between(2, 14));
+    let values = rng.between(1, most.values);
+    chain_plan(rng, Size { workers, variables, values, ..most })
 }
 
 fn ring(rng: &mut Rng) -> Plan {
-    let (workers, n) = (rng.between(1, 8), rng.between(3, 10));
-    let values = rng.between(1, 6);
-    ring_plan(rng, workers, n, values)
+    let most = of_either(rng, Size { values: 6, ..SMALL });
+    let (workers, variables) = (rng.between(1, 8), rng.between(3, 10));
+    let values = rng.between(1, most.values);
+    ring_plan(rng, Size { workers, variables, values, ..most })
 }
 
 fn full_chain(rng: &mut Rng) -> Plan {
+    let size = full_of_either(rng);
     match rng.below(4) {
-        0 => chain_plan(rng, 8, 32, 16),
-        1 => full_plan(rng, true),
-        2 => full_ring(rng),
-        _ => full_plan(rng, false),
+        0 => chain_plan(rng, size),
+        1 => full_plan(rng, size, true),
+        2 => full_ring(rng, size),
+        _ => full_plan(rng, size, false),
     }
+}
+
+/// A full plan of tables that are about as dense as leaves it some labels.
+fn scattered(rng: &mut Rng) -> Plan {
+    let size = full_of_either(rng);
+    let part = if size.values > FULL.values { rng.between(30, 90) } else { rng.between(50, 130) };
+    scattered_plan(rng, size, part)
 }
 
 fn prefixes(rng: &mut Rng, case: &mut Case) {
@@ -305,17 +230,21 @@ fn played(kind: &str, rng: &mut Rng) -> Case {
 
 fn sort_of_plan(sort: &str, rng: &mut Rng) -> Plan {
     match sort {
-        "small" => random_plan(rng, SMALL, false),
-        "plan P" => decode(&plan_p()).expect("plan P is valid"),
-        "medium" => random_plan(rng, MEDIUM, false),
+        "small" => up_to(rng, SMALL),
+        "plan P" => decode(&rng.pick(&[plan_p, plan_p_in_two])()).expect("plan P is valid"),
+        "plan Q" => plan_q(),
+        "medium" => up_to(rng, MEDIUM),
         "chain" => chain(rng),
         "ring" => ring(rng),
-        "large" => random_plan(rng, FULL, false),
-        "full" if rng.chance(1, 4) => random_plan(rng, FULL, true),
-        "full" => {
-            let part = rng.between(50, 130);
-            scattered_plan(rng, part)
+        "large" => {
+            let version = rng.pick(&VERSIONS);
+            random_plan(rng, Size { version, values: version.values, ..FULL }, false)
         }
+        "full" if rng.chance(1, 4) => {
+            let size = full_of_either(rng);
+            random_plan(rng, size, true)
+        }
+        "full" => scattered(rng),
         "full chain" => full_chain(rng),
         other => panic!("no sort of plan is called {other}"),
     }
@@ -323,7 +252,7 @@ fn sort_of_plan(sort: &str, rng: &mut Rng) -> Plan {
 
 fn sort_of_turns(sort: &str, manner: &str, plan: &Plan, rng: &mut Rng) -> Vec<u8> {
     let most = match sort {
-        "small" | "plan P" => rng.between(1, 160),
+        "small" | "plan P" | "plan Q" => rng.between(1, 160),
         "medium" | "chain" | "ring" | "large" => rng.between(1, 1_500),
         "full" | "full chain" => rng.between(500, 12_000),
         other => panic!("no number of turns for {other}"),
@@ -347,7 +276,7 @@ fn longest_list(kind: &str, rng: &mut Rng) -> Case {
     let plan = match rng.below(6) {
         0 => full_chain(rng),
         1 => chain(rng),
-        _ => random_plan(rng, SMALL, false),
+        _ => up_to(rng, SMALL),
     };
     let count = rng.pick(&[32_768, 32_768, 32_767, 20_000]);
     let mut turns = guided_turns(rng, &plan, 3_000, false);
@@ -365,7 +294,7 @@ fn some_byte_changed(kind: &str, rng: &mut Rng) -> Case {
         0 => bytes[at].wrapping_add(1),
         1 => bytes[at].wrapping_sub(1),
         2 => bytes[at] ^ 1 << rng.below(8),
-        3 => rng.pick(&[0, 1, 2, 16, 17, 255]),
+        3 => rng.pick(&[0, 1, 2, 3, 16, 17, 32, 33, 255]),
         _ => rng.byte(),
     };
     case(kind, rng, bytes, turns)
@@ -391,15 +320,15 @@ fn some_extended(kind: &str, rng: &mut Rng) -> Case {
 }
 
 fn some_faults(_: &str, rng: &mut Rng) -> Case {
-    let pair = rng.below(PAIRS);
+    let (version, pair) = (rng.pick(&VERSIONS), rng.below(PAIRS));
     let other_section = rng.chance(1, 2);
-    competing(rng, pair, other_section)
+    competing(rng, version, pair, other_section)
 }
 
 /// List cells for `n` variables, mostly enough.
 fn some_lists(rng: &mut Rng, n: usize) -> usize {
     match rng.below(4) {
-        0 => rng.pick(&[0, 1, n - 1, n, LIST_CELLS - 1]),
+        0 => rng.pick(&[0, 1, n - 1, n, 2 * n - 1, FORMER_LISTS, LIST_CELLS - 1]),
         1 => LIST_CELLS,
         _ => LIST_CELLS + rng.below(200),
     }
@@ -409,7 +338,7 @@ fn some_buffers(kind: &str, rng: &mut Rng) -> Case {
     let (plan, turns) = plan_and_turns(rng, 40);
     let n = plan.variables.len();
     let work = match rng.below(4) {
-        0 => rng.pick(&[0, 1, WORK_CELLS - 1]),
+        0 => rng.pick(&[0, 1, FORMER_WORK, WORK_CELLS - 1]),
         1 => rng.below(WORK_CELLS),
         2 => WORK_CELLS,
         _ => WORK_CELLS + rng.below(9_000),
@@ -450,5 +379,5 @@ fn some_length(kind: &str, rng: &mut Rng) -> Case {
 /// The case of that number.
 pub fn make(seed: u64, number: u64) -> Case {
     let mut rng = Rng::for_case(seed, number);
-    fixed(number as usize, &mut rng).unwrap_or_else(|| drawn(&mut rng))
+    fixed::case_of(number as usize, &mut rng).unwrap_or_else(|| drawn(&mut rng))
 }

@@ -1,7 +1,9 @@
 // Plans and calls with two faults at once, to see which one is declined.
 
+use tinshrew_tests::fast::{FORMER_LISTS, FORMER_WORK};
 use tinshrew_tests::generate::random_turns;
 use tinshrew_tests::reference::plan::{Constraint, Plan, Relation};
+use tinshrew_tests::reference::version::Version;
 use tinshrew_tests::reference::{LIST_CELLS, WORK_CELLS};
 use tinshrew_tests::rng::Rng;
 
@@ -27,12 +29,19 @@ impl Raw {
     fn get(&self, at: usize) -> u8 {
         self.content.get(at).copied().unwrap_or(0)
     }
+
+    /// How many rows of so many bytes a table has.
+    fn rows(&self, row_bytes: usize) -> usize {
+        self.content.len().saturating_sub(3) / row_bytes
+    }
 }
 
 /// A call to be made wrong.
 #[derive(Clone, Debug)]
 pub struct Draft {
-    version: u8,
+    /// The version that it was drawn in.
+    version: Version,
+    version_byte: u8,
     head: Raw,
     variables: Vec<Raw>,
     constraints: Vec<Raw>,
@@ -44,6 +53,8 @@ pub struct Draft {
     constraint: usize,
     tables: Vec<usize>,
     limits: Vec<usize>,
+    /// By constraint: how many values its second variable has.
+    columns: Vec<usize>,
     pub turns: Vec<u8>,
     pub work: usize,
     pub lists: usize,
@@ -52,11 +63,11 @@ pub struct Draft {
 
 type Spoil = fn(&mut Draft, &mut Rng);
 
-const SHORT_LISTS: &[usize] = &[0, 1, LIST_CELLS - 1];
+const SHORT_LISTS: &[usize] = &[0, 1, FORMER_LISTS, LIST_CELLS - 1];
 
 /// Every single fault.
 pub const FAULTS: &[(&str, Spoil)] = &[
-    ("9 work", |d, r| d.work = r.pick(&[0, 1, WORK_CELLS - 1])),
+    ("9 work", |d, r| d.work = r.pick(&[0, 1, FORMER_WORK, WORK_CELLS - 1])),
     ("10 lists", |d, r| d.lists = r.pick(SHORT_LISTS)),
     ("10 first", |d, r| d.sweep_lists[0] = r.pick(SHORT_LISTS)),
     ("10 second", |d, r| d.sweep_lists[1] = r.pick(SHORT_LISTS)),
@@ -75,7 +86,8 @@ pub const FAULTS: &[(&str, Spoil)] = &[
     ("1 constraint length", |d, r| d.constraint().length = Some(r.pick(&[1_024, 65_535]))),
     ("1 one constraint more", |d, _| d.head.set(2, d.constraints.len() as u8 + 1)),
     ("1 one variable more", |d, _| d.head.set(1, d.variables.len() as u8 + 1)),
-    ("2 version", |d, r| d.version = r.pick(&[0, 2, 255])),
+    ("2 version", |d, r| d.version_byte = r.pick(&[0, 3, 255])),
+    ("3 other version", |d, _| d.version_byte ^= 3),
     ("3 head short", |d, r| d.head.content.truncate(r.below(3))),
     ("3 head long", |d, r| d.head.content.push(r.byte())),
     ("3 variable under 2", |d, r| {
@@ -93,7 +105,7 @@ pub const FAULTS: &[(&str, Spoil)] = &[
     }),
     ("3 variable count", |d, _| {
         let count = d.variable().get(1);
-        d.variable().set(1, count + 1);
+        d.variable().set(1, count.wrapping_add(1));
     }),
     ("3 constraint under 3", |d, r| {
         let length = r.below(3);
@@ -116,15 +128,18 @@ pub const FAULTS: &[(&str, Spoil)] = &[
     ("4 variables", |d, r| d.head.set(1, r.pick(&[0, 33, 255]))),
     ("4 constraints", |d, r| d.head.set(2, r.pick(&[129, 255]))),
     ("4 count", |d, r| {
-        let count = r.pick(&[17, 18, 255]);
-        d.variable().set(1, count);
+        let count = d.count_above(r);
+        d.variable().set(1, count as u8);
     }),
     ("4 count with its length", |d, r| {
-        let count = r.pick(&[17u8, 18, 255]);
-        let more: Vec<u8> = (0..4 * usize::from(count)).map(|_| r.byte()).collect();
-        d.variable().content.truncate(2);
-        d.variable().set(1, count);
-        d.variable().content.extend(more);
+        let count = d.count_above(r);
+        d.refill(count);
+    }),
+    // In a plan that has all labels that it may have.
+    ("4 sum", |d, _| d.refill(d.version.values)),
+    ("4 sum by one", |d, _| {
+        let count = usize::from(d.variable().get(1));
+        d.refill(count + 1);
     }),
     ("5 owner 0", |d, _| d.variable().set(0, 0)),
     ("5 owner", |d, r| {
@@ -164,27 +179,36 @@ pub const FAULTS: &[(&str, Spoil)] = &[
         if !d.tables.is_empty() && !d.tables.contains(&d.constraint) {
             d.constraint = r.pick(&d.tables);
         }
-        let rows = d.constraint().content.len().saturating_sub(3) / 2;
-        if rows > 0 {
-            let at = 3 + 2 * r.below(rows);
-            let high = d.constraint().get(at) | 0x80 >> r.below(4);
-            d.constraint().set(at, high);
+        let Version { values, row_bytes, .. } = d.version;
+        let (columns, rows) = (d.columns[d.constraint], d.constraint().rows(row_bytes));
+        if rows > 0 && columns < values {
+            let between = r.between(columns, values - 1);
+            let bit = r.pick(&[columns, between, values - 1]);
+            // The lowest bit of a row is that of its last byte.
+            let at = 3 + row_bytes * (r.below(rows) + 1) - 1 - bit / 8;
+            let with_bit = d.constraint().get(at) | 1 << bit % 8;
+            d.constraint().set(at, with_bit);
         }
     }),
     ("8 tail", |d, r| d.tail = (0..r.between(1, 9)).map(|_| r.byte()).collect()),
     ("8 one constraint fewer", |d, _| d.head.set(2, d.constraints.len() as u8 - 1)),
 ];
 
+/// The sections of an accepted plan.
+fn sections(plan: &[u8]) -> Vec<Raw> {
+    let mut sections = Vec::new();
+    let mut at = 1;
+    while at < plan.len() {
+        let end = at + 2 + usize::from(plan[at]) * 256 + usize::from(plan[at + 1]);
+        sections.push(Raw { length: None, content: plan[at + 2..end].to_vec() });
+        at = end;
+    }
+    sections
+}
+
 impl Draft {
     pub fn new(plan: &Plan, rng: &mut Rng) -> Draft {
-        let bytes = plan.encode();
-        let mut sections = Vec::new();
-        let mut at = 1;
-        while at < bytes.len() {
-            let end = at + 2 + usize::from(bytes[at]) * 256 + usize::from(bytes[at + 1]);
-            sections.push(Raw { length: None, content: bytes[at + 2..end].to_vec() });
-            at = end;
-        }
+        let mut sections = sections(&plan.encode());
         let constraints = sections.split_off(1 + plan.variables.len());
         let variables = sections.split_off(1);
         let of_kind = |table: bool| -> Vec<usize> {
@@ -194,14 +218,18 @@ impl Draft {
                 .map(|(number, _)| number)
                 .collect()
         };
+        let columns = |one: &Constraint| plan.variables[one.second - 1].values.len();
         let count = rng.below(6);
         Draft {
-            version: 1,
+            version: plan.version,
+            version_byte: plan.version.byte,
             head: sections.remove(0),
-            variable: rng.below(variables.len()),
+            // One of the last, at which the labels may come to their limit.
+            variable: variables.len() - rng.between(1, variables.len().min(4)),
             constraint: rng.below(constraints.len()),
             tables: of_kind(true),
             limits: of_kind(false),
+            columns: plan.constraints.iter().map(columns).collect(),
             variables,
             constraints,
             tail: Vec::new(),
@@ -222,6 +250,19 @@ impl Draft {
         &mut self.constraints[self.constraint]
     }
 
+    /// A count that no variable of this version has.
+    fn count_above(&self, rng: &mut Rng) -> usize {
+        let most = self.version.values;
+        rng.pick(&[most + 1, most + 2, 2 * most, 255])
+    }
+
+    /// Gives the variable so many values, with the length that goes with them.
+    fn refill(&mut self, count: usize) {
+        let owner = self.variable().get(0);
+        let values = (1..=count as u16).flat_map(|code| [code.to_be_bytes(), [0; 2]].concat());
+        self.variable().content = [owner, count as u8].into_iter().chain(values).collect();
+    }
+
     /// Turns to other sections for the next fault.
     pub fn move_on(&mut self, rng: &mut Rng) {
         self.variable = rng.below(self.variables.len());
@@ -234,7 +275,7 @@ impl Draft {
 
     /// The file's bytes, and the bytes that were cut off.
     pub fn encode(&self) -> (Vec<u8>, Vec<u8>) {
-        let mut bytes = vec![self.version];
+        let mut bytes = vec![self.version_byte];
         for raw in [&self.head].into_iter().chain(&self.variables).chain(&self.constraints) {
             let length = raw.length.unwrap_or(raw.content.len()) as u16;
             bytes.extend_from_slice(&length.to_be_bytes());

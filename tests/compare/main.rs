@@ -1,5 +1,5 @@
-// Compares the library with the reference through the C interface, and its
-// sweeps with some worked out by hand.
+// Compares the library with the reference through the C interface, and some of
+// its answers with what was worked out by hand.
 //
 //   compare [cases] [seed]     the library, 100,000 cases and seed 1 by default
 //   compare --self             the reference in the library's place

@@ -38,6 +38,13 @@ faults! {
     CutPlaceIsEnd BoundaryPlaceIsHead HeadRangeFirst Constraints129 LengthBeforeCount
     OwnerBeforeCount CodeBeforeOwner OwnerZero LastCodeUnseen SameVariable
     VariablesBeforeKind LastRowUnseen TailPlaceIsEnd
+    // What the version fixes of them.
+    VersionZero VersionTwoUnknown VersionThree Values32InOne Values16InTwo
+    OneValueMore CodesOfLowHalf FiguresOfLowHalf RowsOf2Bytes RowsOf4Bytes
+    RowHalvesSwapped ColumnHalvesSwapped RowHighUnread HighBitsUnseen
+    FullRowEmpty Bit31Unused
+    // The labels of all variables together.
+    Sum511 Sum513 SumUntested SumOfEarlier SumAtHead SumAtEnd SumAfterLength
     // Constraints.
     Wraps LimitExcluded HighestLimitIsNone UnrecordedAllowed UnrecordedSummed
     FirstUnrecordedSummed SecondUnrecordedSummed UnrecordedIsZero ZeroUnrecorded
@@ -46,6 +53,7 @@ faults! {
     // Loading and deletions.
     CountAfterDeletions NoDeletionAtLoading AllAtLoading OwnDeletionUntreated
     UnlistedLoses DeletedAtOne Descending NewestFirst
+    CountsLowHalf CountsIn5Bits TreatsLowHalf Labels16Apart HighHalfFirst
     // Messages and polls.
     EmptySend SendsOne ControllerNotSent SendsCountedEach SenderUncounted
     ReadGoesFirst CountsLabels FirstPollKept AnswerWithWork AnswerWithOut
@@ -59,15 +67,20 @@ faults! {
     // The report and the lent buffers.
     ClearsOneLess ClearsOneMore ClearsAll WritesAllLists NeverBare
     EmptyOnlyWhenClosed DeclineClears BadTurnLeavesLists
+    ClearsFormer HalvesSwapped HalvesApart OneCellInTwo TwoCellsInOne
+    EmptyHalfKept EmptyByLowHalf EmptyByHighHalf
     // The order of declines and the turn list.
-    ListsBeforeWork WorkOneLess LongestRefused PlanBeforeLength
+    ListsBeforeWork WorkOneLess FormerWork ListsOneLess FormerLists
+    ListsByVersion LongestRefused PlanBeforeLength
     TurnsBeforePlan ControllerSends ReadsItself WorkerPolls TurnPlaceInBytes
     // The sweeps.
     SweepReadsItself SweepsAfterLoading RolesExchanged SupportAgainstSome
     SupportsByConstraint EndsBeforeLast LastUnwritten LastUncounted OneSweepMore
     EndsAtEmptyList AsManyAsLabels LaterFirstCleared LaterSecondCleared
+    SweepHalvesSwapped SweepReadsSwapped SweepKeepsHighHalf EndsByLowHalf
     // Their declines.
     FirstLengthOnly SecondLengthOnly SweepListsOneLess SweepListsOneMore
+    FormerSweepLists SweepListsByVersion
     PlanBeforeSweepLists DeclinedPlanClears ShortListsClear
     // The part that holds the last sweep.
     OtherParity NoSweepIsSecond PartOneLonger WholePartEmpty OtherLength

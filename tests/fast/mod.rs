@@ -3,18 +3,26 @@
 // variants of it (see `fault`) show that the test program catches mistakes;
 // the sound one compiles to code without any of those branches.
 
+mod cells;
 pub mod fault;
 mod plan;
+mod row;
 mod sweeps;
 
 use std::collections::VecDeque;
 
 pub use fault::{Fault, Faults, Faulty, Sound};
-use plan::{decode, Net};
+use plan::{decode, Net, Plan};
+use row::{Row, HALF, LOW_HALF, WIDEST};
 pub use sweeps::{last_sweep, run_sweeps};
 
-const WORK: usize = 24_576;
+const WORK: usize = 30_720;
+const LISTS: usize = 64;
+/// The most variables.
 const MAX: usize = 32;
+/// What a run needed when there was version 1 alone, and in wrong variants.
+pub const FORMER_WORK: usize = 24_576;
+pub const FORMER_LISTS: usize = 32;
 
 pub type Declined = (usize, usize);
 
@@ -29,8 +37,15 @@ fn bits(mut mask: u32) -> impl Iterator<Item = usize> {
     })
 }
 
-fn below(count: u8) -> u16 {
-    ((1u32 << count) - 1) as u16
+/// The first `count` values of a variable.
+fn below<F: Faults>(f: F, count: u8) -> u32 {
+    if f.has(Fault::FullRowEmpty) && usize::from(count) == WIDEST {
+        return 0;
+    }
+    if f.has(Fault::Bit31Unused) && usize::from(count) == WIDEST {
+        return u32::MAX >> 1;
+    }
+    ((1u64 << count) - 1) as u32
 }
 
 #[derive(Clone, Copy)]
@@ -41,10 +56,10 @@ enum Message {
 }
 
 /// A run in progress. Actor 0 is the controller, the others are workers.
-struct Sim<'a, F: Faults> {
+struct Sim<'a, F: Faults, R> {
     f: F,
-    net: &'a Net,
-    domains: [u16; MAX],
+    net: &'a Net<R>,
+    domains: [u32; MAX],
     counters: Vec<[u8; MAX]>,
     work: [VecDeque<u16>; 9],
     out: [Vec<u16>; 9],
@@ -62,14 +77,14 @@ struct Sim<'a, F: Faults> {
     polls_sent: usize,
 }
 
-impl<'a, F: Faults> Sim<'a, F> {
+impl<'a, F: Faults, R: Row> Sim<'a, F, R> {
     /// Full domains, and nothing counted yet.
-    fn new(f: F, net: &'a Net) -> Self {
+    fn new(f: F, net: &'a Net<R>) -> Self {
         let mut sim = Sim {
             f,
             net,
             domains: [0; MAX],
-            counters: vec![[0; MAX]; net.n * 16],
+            counters: vec![[0; MAX]; net.n * R::VALUES],
             work: Default::default(),
             out: Default::default(),
             list_counters: [0; 9],
@@ -85,16 +100,16 @@ impl<'a, F: Faults> Sim<'a, F> {
             polls_sent: 0,
         };
         for s in 0..net.n {
-            sim.domains[s] = below(net.size[s]);
+            sim.domains[s] = below(f, net.size[s]);
         }
         sim
     }
 
-    fn load(f: F, net: &'a Net) -> Self {
+    fn load(f: F, net: &'a Net<R>) -> Self {
         let mut sim = Sim::new(f, net);
         let loaded = sim.domains;
         for s in 0..net.n {
-            for d in bits(u32::from(loaded[s])) {
+            for d in bits(loaded[s]) {
                 let least = sim.count_supports(s, d);
                 if least == 0 && !f.has(Fault::NoDeletionAtLoading) {
                     sim.delete(usize::from(net.owner[s]), s, d);
@@ -110,18 +125,28 @@ impl<'a, F: Faults> Sim<'a, F> {
     /// Counts a label's supports against each tied variable; the least count.
     fn count_supports(&mut self, s: usize, d: usize) -> u32 {
         let net = self.net;
-        let label = 16 * s + d;
+        let label = R::VALUES * s + d;
         let mut least = u32::MAX;
         for t in bits(net.tied[s]) {
-            let mut row = net.rows[label][t];
+            let mut row = net.row(label, t);
             if self.f.has(Fault::CountAfterDeletions) {
                 row &= self.domains[t];
             }
-            let count = row.count_ones();
+            let count = self.count(row);
             self.counters[label][t] = count as u8;
             least = least.min(count);
         }
         least
+    }
+
+    fn count(&self, row: u32) -> u32 {
+        if self.f.has(Fault::CountsLowHalf) {
+            return (row & LOW_HALF).count_ones();
+        }
+        if self.f.has(Fault::CountsIn5Bits) {
+            return row.count_ones() % 32;
+        }
+        row.count_ones()
     }
 
     /// Treats all that any worker has, as no sound variant does.
@@ -139,24 +164,35 @@ impl<'a, F: Faults> Sim<'a, F> {
 
     fn delete(&mut self, k: usize, s: usize, d: usize) {
         self.domains[s] &= !(1 << d);
-        let label = (16 * s + d) as u16;
+        let label = self.named(s, d);
         if !self.f.has(Fault::OwnDeletionUntreated) {
             self.work[k].push_back(label);
         }
         self.out[k].push(label);
     }
 
+    /// The number of a label in the lists of workers.
+    fn named(&self, s: usize, d: usize) -> u16 {
+        if self.f.has(Fault::Labels16Apart) {
+            return (R::VALUES * ((s + d / HALF) % self.net.n) + d % HALF) as u16;
+        }
+        (R::VALUES * s + d) as u16
+    }
+
     fn take_off(&mut self, k: usize, gone: u16) {
         let net = self.net;
-        let (s, row) = (usize::from(gone) / 16, &net.rows[usize::from(gone)]);
+        let (s, row) = (usize::from(gone) / R::VALUES, &net.rows[usize::from(gone)]);
         let first = self.out[k].len();
         for t in bits(net.tied[s] & net.own[k]) {
-            let mut mask = row[t];
+            let mut mask: u32 = row[t].into();
             if !self.f.has(Fault::UnlistedLoses) {
                 mask &= self.domains[t];
             }
-            for e in bits(u32::from(mask)) {
-                let counter = &mut self.counters[16 * t + e][s];
+            if self.f.has(Fault::TreatsLowHalf) {
+                mask &= LOW_HALF;
+            }
+            for e in bits(mask) {
+                let counter = &mut self.counters[R::VALUES * t + e][s];
                 // Only a wrong variant can go below 0.
                 *counter = counter.wrapping_sub(1);
                 let lowest = if self.f.has(Fault::DeletedAtOne) { 1 } else { 0 };
@@ -165,12 +201,24 @@ impl<'a, F: Faults> Sim<'a, F> {
                 }
             }
         }
-        if self.f.has(Fault::Descending) {
-            self.out[k][first..].reverse();
-            let added = self.out[k].len() - first;
-            let from = self.work[k].len() - added;
-            self.work[k].make_contiguous()[from..].reverse();
+        if self.f.has(Fault::Descending) || self.f.has(Fault::HighHalfFirst) {
+            self.reorder(k, first);
         }
+    }
+
+    /// Puts the labels that a treat added, from `first` on, in a wrong order.
+    fn reorder(&mut self, k: usize, first: usize) {
+        let added = &mut self.out[k][first..];
+        if self.f.has(Fault::Descending) {
+            added.reverse();
+        } else {
+            added.sort_by_key(|&label| {
+                let (s, d) = (usize::from(label) / R::VALUES, usize::from(label) % R::VALUES);
+                (s, d < HALF)
+            });
+        }
+        let from = self.work[k].len() - added.len();
+        self.work[k].make_contiguous()[from..].copy_from_slice(added);
     }
 
     /// Plays a turn; true when it did something.
@@ -388,26 +436,46 @@ impl<'a, F: Faults> Sim<'a, F> {
         }
     }
 
+    /// How many of so many work cells are set to 0.
+    fn cleared(&self, lent: usize) -> usize {
+        let f = self.f;
+        if f.has(Fault::ClearsOneLess) {
+            WORK - 1
+        } else if f.has(Fault::ClearsOneMore) {
+            lent.min(WORK + 1)
+        } else if f.has(Fault::ClearsAll) {
+            lent
+        } else if f.has(Fault::ClearsFormer) {
+            FORMER_WORK
+        } else if f.has(Fault::FormerWork) {
+            lent.min(WORK)
+        } else {
+            WORK
+        }
+    }
+
+    /// The lowest variable with an empty list, from 1; 0 if none.
+    fn lowest_empty(&self) -> usize {
+        let f = self.f;
+        let is_empty = |&list: &u32| {
+            list == 0
+                || f.has(Fault::EmptyByLowHalf) && list & LOW_HALF == 0
+                || f.has(Fault::EmptyByHighHalf) && R::CELLS == 2 && list & !LOW_HALF == 0
+        };
+        self.domains[..self.net.n].iter().position(is_empty).map_or(0, |s| s + 1)
+    }
+
     fn deliver(&self, work: &mut [u16], lists: &mut [u16], clear: bool) -> [usize; 5] {
         let f = self.f;
-        let n = self.net.n;
         if clear {
-            let cleared = if f.has(Fault::ClearsOneLess) {
-                WORK - 1
-            } else if f.has(Fault::ClearsOneMore) {
-                work.len().min(WORK + 1)
-            } else if f.has(Fault::ClearsAll) {
-                work.len()
-            } else {
-                WORK
-            };
+            let cleared = self.cleared(work.len());
             work[..cleared].fill(0);
         }
-        lists[..n].copy_from_slice(&self.domains[..n]);
+        let written = cells::put(f, self.net, &self.domains, lists);
         if f.has(Fault::WritesAllLists) {
-            lists[..MAX].copy_from_slice(&self.domains);
+            lists[written..LISTS].fill(0);
         }
-        let empty = self.domains[..n].iter().position(|&mask| mask == 0).map_or(0, |s| s + 1);
+        let empty = self.lowest_empty();
         let status = match (self.closed, empty) {
             (false, _) => 0,
             (true, 0) => 1,
@@ -419,14 +487,24 @@ impl<'a, F: Faults> Sim<'a, F> {
     }
 }
 
-fn buffers<F: Faults>(f: F, work: &[u16], lists: &[u16]) -> Result<(), Declined> {
-    if f.has(Fault::ListsBeforeWork) && lists.len() < MAX {
+/// How many list cells a call needs; `by_version` in the variant that goes by
+/// the plan's.
+fn lists_needed<F: Faults>(f: F, plan: &[u8], by_version: Fault) -> usize {
+    if f.has(by_version) && plan.first() != Some(&u32::VERSION) {
+        return FORMER_LISTS;
+    }
+    LISTS
+}
+
+fn buffers<F: Faults>(f: F, plan: &[u8], work: &[u16], lists: &[u16]) -> Result<(), Declined> {
+    let short_lists = lists.len() < lists_needed(f, plan, Fault::ListsByVersion);
+    if f.has(Fault::ListsBeforeWork) && short_lists {
         return Err((10, 0));
     }
-    if work.len() < WORK {
+    if work.len() < if f.has(Fault::FormerWork) { FORMER_WORK } else { WORK } {
         return Err((9, 0));
     }
-    if lists.len() < MAX {
+    if short_lists {
         return Err((10, 0));
     }
     Ok(())
@@ -458,8 +536,7 @@ fn check_turns<F: Faults>(f: F, p: usize, turns: &[u8]) -> Result<(), Declined> 
 }
 
 pub fn check_plan<F: Faults>(f: F, plan: &[u8]) -> Result<[usize; 4], Declined> {
-    let net = decode(f, plan)?;
-    Ok([net.p, net.n, net.constraints, net.labels()])
+    Ok(decode(f, plan)?.numbers())
 }
 
 /// The turn run; `clear` sets the work cells to 0 as the document asks.
@@ -471,7 +548,7 @@ pub fn run_turns<F: Faults>(
     lists: &mut [u16],
     clear: bool,
 ) -> Result<[usize; 5], Declined> {
-    buffers(f, work, lists)?;
+    buffers(f, plan, work, lists)?;
     let most = if f.has(Fault::LongestRefused) { 65_534 } else { 65_536 };
     let wrong_length = turns.len() % 2 != 0 || turns.len() > most;
     if wrong_length && !f.has(Fault::PlanBeforeLength) {
@@ -484,23 +561,19 @@ pub fn run_turns<F: Faults>(
     if f.has(Fault::DeclineClears) && decoded.is_err() {
         work[..WORK].fill(0);
     }
-    let net = decoded?;
+    let plan = decoded?;
     if wrong_length {
         return Err((11, 0));
     }
-    let checked = check_turns(f, net.p, turns);
+    let checked = check_turns(f, plan.workers(), turns);
     if f.has(Fault::BadTurnLeavesLists) && checked.is_err() {
         lists[0] = 0;
     }
     checked?;
-    let mut sim = Sim::load(f, &net);
-    for turn in turns.chunks_exact(2) {
-        sim.turn(usize::from(turn[0]), usize::from(turn[1]));
-        if f.has(Fault::FirstTurnOnly) {
-            break;
-        }
-    }
-    Ok(sim.deliver(work, lists, clear))
+    Ok(match &plan {
+        Plan::One(net) => play_turns(f, net, turns).deliver(work, lists, clear),
+        Plan::Two(net) => play_turns(f, net, turns).deliver(work, lists, clear),
+    })
 }
 
 /// The round run; `clear` as above.
@@ -511,9 +584,26 @@ pub fn run_round<F: Faults>(
     lists: &mut [u16],
     clear: bool,
 ) -> Result<[usize; 5], Declined> {
-    buffers(f, work, lists)?;
-    let net = decode(f, plan)?;
-    let mut sim = Sim::load(f, &net);
+    buffers(f, plan, work, lists)?;
+    Ok(match &decode(f, plan)? {
+        Plan::One(net) => play_rounds(f, net).deliver(work, lists, clear),
+        Plan::Two(net) => play_rounds(f, net).deliver(work, lists, clear),
+    })
+}
+
+fn play_turns<'a, F: Faults, R: Row>(f: F, net: &'a Net<R>, turns: &[u8]) -> Sim<'a, F, R> {
+    let mut sim = Sim::load(f, net);
+    for turn in turns.chunks_exact(2) {
+        sim.turn(usize::from(turn[0]), usize::from(turn[1]));
+        if f.has(Fault::FirstTurnOnly) {
+            break;
+        }
+    }
+    sim
+}
+
+fn play_rounds<F: Faults, R: Row>(f: F, net: &Net<R>) -> Sim<'_, F, R> {
+    let mut sim = Sim::load(f, net);
     let mut rounds = 0;
     while !sim.closed {
         sim.round();
@@ -523,5 +613,5 @@ pub fn run_round<F: Faults>(
             break;
         }
     }
-    Ok(sim.deliver(work, lists, clear))
+    sim
 }

@@ -1,10 +1,35 @@
 // A plan as rows of supports, each a bit mask.
 
 use super::fault::{Fault, Faults};
+use super::row::{Row, HALF, LOW_HALF, WIDEST};
 use super::{below, Declined, MAX};
 
-/// A decoded plan. A label is 16 * variable + value, both from 0.
-pub struct Net {
+/// The most labels of a plan.
+const MOST_LABELS: usize = 512;
+
+/// A decoded plan of either version.
+pub enum Plan {
+    One(Net<u16>),
+    Two(Net<u32>),
+}
+
+impl Plan {
+    pub fn workers(&self) -> usize {
+        self.numbers()[0]
+    }
+
+    /// The numbers of workers, variables, constraints and labels.
+    pub fn numbers(&self) -> [usize; 4] {
+        match self {
+            Plan::One(net) => net.numbers(),
+            Plan::Two(net) => net.numbers(),
+        }
+    }
+}
+
+/// A decoded plan of one version. A label is `R::VALUES` * variable + value,
+/// both from 0.
+pub struct Net<R> {
     pub p: usize,
     pub n: usize,
     pub constraints: usize,
@@ -15,17 +40,17 @@ pub struct Net {
     /// By worker: its variables.
     pub own: [u32; 9],
     /// By label and other variable: the values that support it.
-    pub rows: Vec<[u16; MAX]>,
+    pub rows: Vec<[R; MAX]>,
     /// Each constraint by itself, for the wrong variant that looks at one
     /// after the other.
-    pub single: Vec<(usize, usize, [u16; 16])>,
+    pub single: Vec<(usize, usize, [R; WIDEST])>,
 }
 
 /// The sodium figure of each label.
-type Sodium = [u16; MAX * 16];
+type Sodium = [u16; MAX * WIDEST];
 
-impl Net {
-    fn new(p: usize, n: usize, constraints: usize) -> Net {
+impl<R: Row> Net<R> {
+    fn new(p: usize, n: usize, constraints: usize) -> Net<R> {
         Net {
             p,
             n,
@@ -34,9 +59,13 @@ impl Net {
             size: [0; MAX],
             tied: [0; MAX],
             own: [0; 9],
-            rows: vec![[0; MAX]; n * 16],
+            rows: vec![[R::default(); MAX]; n * R::VALUES],
             single: Vec::new(),
         }
+    }
+
+    fn numbers(&self) -> [usize; 4] {
+        [self.p, self.n, self.constraints, self.labels()]
     }
 
     pub fn labels(&self) -> usize {
@@ -47,14 +76,22 @@ impl Net {
         usize::from(self.size[s])
     }
 
+    /// The values of variable `t` that support a label.
+    pub fn row(&self, label: usize, t: usize) -> u32 {
+        self.rows[label][t].into()
+    }
+
     /// Takes variable `s` from its section, which has been checked.
-    fn add_variable(&mut self, s: usize, body: &[u8], sodium: &mut Sodium) {
-        let (owner, size) = (body[0], body[1]);
+    fn add_variable<F: Faults>(&mut self, f: F, s: usize, body: &[u8], sodium: &mut Sodium) {
+        let owner = body[0];
+        // Only a wrong variant accepts more.
+        let size = body[1].min(R::VALUES as u8);
         self.owner[s] = owner;
         self.size[s] = size;
         self.own[usize::from(owner)] |= 1 << s;
         for d in 0..usize::from(size) {
-            sodium[16 * s + d] = word(body, 4 + 4 * d);
+            let read = if f.has(Fault::FiguresOfLowHalf) { d % HALF } else { d };
+            sodium[R::VALUES * s + d] = word(body, 4 + 4 * read);
         }
     }
 
@@ -62,24 +99,25 @@ impl Net {
     /// with those over the same two that came before. Not inlined, since the
     /// innermost loop would then be short of registers.
     #[inline(never)]
-    fn tie<F: Faults>(&mut self, f: F, a: usize, b: usize, rows: &[u16; 16]) {
+    fn tie<F: Faults>(&mut self, f: F, a: usize, b: usize, rows: &[R; WIDEST]) {
         let known = self.tied[a] >> b & 1 == 1;
         self.tied[a] |= 1 << b;
         self.tied[b] |= 1 << a;
         let count = self.size(a);
         for d in 0..count {
-            let row = &mut self.rows[16 * a + d][b];
+            let row = &mut self.rows[R::VALUES * a + d][b];
             *row = if known { both(f, *row, rows[d]) } else { rows[d] };
         }
         for e in 0..self.size(b) {
-            let mut column = 0;
+            let mut column = R::default();
+            let bit = if f.has(Fault::ColumnHalvesSwapped) { (e + HALF) % R::VALUES } else { e };
             for d in 0..count {
-                column |= (self.rows[16 * a + d][b] >> e & 1) << d;
+                column = column | (self.rows[R::VALUES * a + d][b] >> bit & R::cut(1)) << d;
             }
             if f.has(Fault::OneWay) {
-                column = below(self.size[a]);
+                column = R::cut(below(f, self.size[a]));
             }
-            self.rows[16 * b + e][a] = column;
+            self.rows[R::VALUES * b + e][a] = column;
         }
     }
 
@@ -89,15 +127,16 @@ impl Net {
         for s in 0..self.n {
             self.tied[s] |= 1 << s;
             for d in 0..self.size(s) {
-                let recorded = sodium[16 * s + d] != u16::MAX;
-                self.rows[16 * s + d][s] = u16::from(recorded) << d;
+                let label = R::VALUES * s + d;
+                let recorded = sodium[label] != u16::MAX;
+                self.rows[label][s] = R::cut(u32::from(recorded) << d);
             }
         }
     }
 }
 
 /// The pairs that an earlier row and a later one allow together.
-fn both<F: Faults>(f: F, earlier: u16, later: u16) -> u16 {
+fn both<F: Faults, R: Row>(f: F, earlier: R, later: R) -> R {
     if f.has(Fault::EitherConstraint) {
         earlier | later
     } else if f.has(Fault::LastConstraintOnly) {
@@ -127,15 +166,40 @@ fn section<F: Faults>(f: F, bytes: &[u8], start: usize) -> Result<&[u8], Decline
     Ok(&bytes[start + 2..start + 2 + length])
 }
 
-pub fn decode<F: Faults>(f: F, bytes: &[u8]) -> Result<Net, Declined> {
+pub fn decode<F: Faults>(f: F, bytes: &[u8]) -> Result<Plan, Declined> {
+    let Some(&version) = bytes.first() else {
+        return Err((1, 0));
+    };
+    match version_taken(f, version) {
+        u16::VERSION => Ok(Plan::One(decode_sections(f, bytes)?)),
+        u32::VERSION => Ok(Plan::Two(decode_sections(f, bytes)?)),
+        _ => Err((2, 0)),
+    }
+}
+
+/// The version that a byte is taken for; a sound variant takes it as it is.
+fn version_taken<F: Faults>(f: F, byte: u8) -> u8 {
+    match byte {
+        0 if f.has(Fault::VersionZero) => 1,
+        2 if f.has(Fault::VersionTwoUnknown) => 0,
+        3 if f.has(Fault::VersionThree) => 2,
+        _ => byte,
+    }
+}
+
+fn decode_sections<F: Faults, R: Row>(f: F, bytes: &[u8]) -> Result<Net<R>, Declined> {
     let (p, n, constraints) = decode_head(f, bytes)?;
     let mut net = Net::new(p, n, constraints);
-    let mut sodium = [0; MAX * 16];
+    let mut sodium = [0; MAX * WIDEST];
     let mut start = 6;
+    let mut labels = 0;
     for s in 0..n {
         let body = section(f, bytes, start)?;
-        check_variable(f, body, start, p)?;
-        net.add_variable(s, body, &mut sodium);
+        labels = check_variable::<F, R>(f, body, start, p, labels)?;
+        if f.has(Fault::SumAtEnd) && s + 1 == n && labels > MOST_LABELS {
+            return Err((4, start));
+        }
+        net.add_variable(f, s, body, &mut sodium);
         start += 2 + body.len();
     }
     for _ in 0..constraints {
@@ -152,14 +216,8 @@ pub fn decode<F: Faults>(f: F, bytes: &[u8]) -> Result<Net, Declined> {
     Ok(net)
 }
 
-/// Version and head: the numbers of workers, variables and constraints.
+/// The head: the numbers of workers, variables and constraints.
 fn decode_head<F: Faults>(f: F, bytes: &[u8]) -> Result<(usize, usize, usize), Declined> {
-    let Some(&version) = bytes.first() else {
-        return Err((1, 0));
-    };
-    if version != 1 {
-        return Err((2, 0));
-    }
     let head = section(f, bytes, 1)?;
     if f.has(Fault::HeadRangeFirst) && head.first().is_some_and(|p| !(1..=8).contains(p)) {
         return Err((4, 1));
@@ -175,7 +233,14 @@ fn decode_head<F: Faults>(f: F, bytes: &[u8]) -> Result<(usize, usize, usize), D
     Ok((p, n, constraints))
 }
 
-fn check_variable<F: Faults>(f: F, body: &[u8], start: usize, p: usize) -> Result<(), Declined> {
+/// Checks a variable's section; the labels with those before it.
+fn check_variable<F: Faults, R: Row>(
+    f: F,
+    body: &[u8],
+    start: usize,
+    p: usize,
+    before: usize,
+) -> Result<usize, Declined> {
     if body.len() < 2 {
         return Err((3, start));
     }
@@ -187,47 +252,90 @@ fn check_variable<F: Faults>(f: F, body: &[u8], start: usize, p: usize) -> Resul
     if f.has(Fault::OwnerBeforeCount) && (owner == 0 || owner > p) {
         return Err((5, start));
     }
-    if size > 16 {
+    if size > most_values::<F, R>(f) {
         return Err((4, start));
+    }
+    let summed = check_sum(f, before, size, start);
+    if !f.has(Fault::SumAfterLength) {
+        summed?;
     }
     if body.len() != expected {
         return Err((3, start));
     }
+    summed?;
+    check_content(f, body, start, p)?;
+    Ok(before + size)
+}
+
+/// Checks a variable's owner and codes.
+fn check_content<F: Faults>(f: F, body: &[u8], start: usize, p: usize) -> Result<(), Declined> {
+    let (owner, size) = (usize::from(body[0]), usize::from(body[1]));
     if f.has(Fault::CodeBeforeOwner) && repeats(body, size) {
         return Err((6, start));
     }
     if owner == 0 && !f.has(Fault::OwnerZero) || owner > p {
         return Err((5, start));
     }
-    let scanned = size - usize::from(f.has(Fault::LastCodeUnseen) && size > 0);
-    if repeats(body, scanned) {
+    if repeats(body, scanned(f, size)) {
         return Err((6, start));
     }
     Ok(())
+}
+
+/// The most values of a variable.
+fn most_values<F: Faults, R: Row>(f: F) -> usize {
+    if f.has(Fault::Values32InOne) {
+        u32::VALUES
+    } else if f.has(Fault::Values16InTwo) {
+        u16::VALUES
+    } else {
+        R::VALUES + usize::from(f.has(Fault::OneValueMore))
+    }
+}
+
+/// Declines a variable of that size which brings the labels above their limit.
+fn check_sum<F: Faults>(f: F, before: usize, size: usize, start: usize) -> Result<(), Declined> {
+    if f.has(Fault::SumUntested) || f.has(Fault::SumAtEnd) {
+        return Ok(());
+    }
+    let labels = if f.has(Fault::SumOfEarlier) { before } else { before + size };
+    let most = MOST_LABELS + usize::from(f.has(Fault::Sum513)) - usize::from(f.has(Fault::Sum511));
+    if labels > most {
+        return Err((4, if f.has(Fault::SumAtHead) { 1 } else { start }));
+    }
+    Ok(())
+}
+
+/// How many of so many codes are looked at; a sound variant looks at all.
+fn scanned<F: Faults>(f: F, size: usize) -> usize {
+    if f.has(Fault::CodesOfLowHalf) {
+        return size.min(HALF);
+    }
+    size - usize::from(f.has(Fault::LastCodeUnseen) && size > 0)
 }
 
 fn repeats(body: &[u8], size: usize) -> bool {
     (1..size).any(|d| (0..d).any(|e| word(body, 2 + 4 * d) == word(body, 2 + 4 * e)))
 }
 
-fn decode_constraint<F: Faults>(
+fn decode_constraint<F: Faults, R: Row>(
     f: F,
     body: &[u8],
     start: usize,
-    net: &mut Net,
+    net: &mut Net<R>,
     sodium: &Sodium,
 ) -> Result<(), Declined> {
     let (a, b) = decode_scope(f, body, start, net)?;
     let rows = if body[2] == 0 {
         table_rows(f, body, start, net, a, b)?
     } else {
-        let none_recorded = |s| (0..net.size(s)).all(|d| sodium[16 * s + d] == u16::MAX);
+        let none_recorded = |s| (0..net.size(s)).all(|d| sodium[R::VALUES * s + d] == u16::MAX);
         if f.has(Fault::NoneRecordedUntied) && (none_recorded(a) || none_recorded(b)) {
             return Ok(());
         }
         sodium_rows(f, word(body, 3), net, sodium, a, b)
     };
-    if f.has(Fault::NothingAllowedUntied) && rows.iter().all(|&row| row == 0) {
+    if f.has(Fault::NothingAllowedUntied) && rows.iter().all(|&row| row.into() == 0) {
         return Ok(());
     }
     net.tie(f, a, b, &rows);
@@ -238,11 +346,11 @@ fn decode_constraint<F: Faults>(
 }
 
 /// The two variables of a constraint, once its kind and length are right.
-fn decode_scope<F: Faults>(
+fn decode_scope<F: Faults, R: Row>(
     f: F,
     body: &[u8],
     start: usize,
-    net: &Net,
+    net: &Net<R>,
 ) -> Result<(usize, usize), Declined> {
     if body.len() < 3 {
         return Err((3, start));
@@ -262,50 +370,81 @@ fn decode_scope<F: Faults>(
         return Err((5, start));
     }
     let (a, b) = (first - 1, second - 1);
-    if body.len() != if kind == 1 { 5 } else { 3 + 2 * net.size(a) } {
+    if body.len() != if kind == 1 { 5 } else { 3 + row_bytes::<F, R>(f) * net.size(a) } {
         return Err((3, start));
     }
     Ok((a, b))
 }
 
+/// Bytes of a table's row.
+fn row_bytes<F: Faults, R: Row>(f: F) -> usize {
+    if f.has(Fault::RowsOf2Bytes) {
+        u16::BYTES
+    } else if f.has(Fault::RowsOf4Bytes) {
+        u32::BYTES
+    } else {
+        R::BYTES
+    }
+}
+
+/// The row of value `d` in a table.
+fn read_row<F: Faults, R: Row>(f: F, body: &[u8], d: usize) -> u32 {
+    let bytes = row_bytes::<F, R>(f);
+    let at = 3 + bytes * d;
+    if bytes == u16::BYTES {
+        return u32::from(word(body, at));
+    }
+    let (high, low) = (u32::from(word(body, at)), u32::from(word(body, at + 2)));
+    if f.has(Fault::RowHalvesSwapped) {
+        low << 16 | high
+    } else if f.has(Fault::RowHighUnread) {
+        low
+    } else {
+        high << 16 | low
+    }
+}
+
 /// The rows of a table.
-fn table_rows<F: Faults>(
+fn table_rows<F: Faults, R: Row>(
     f: F,
     body: &[u8],
     start: usize,
-    net: &Net,
+    net: &Net<R>,
     a: usize,
     b: usize,
-) -> Result<[u16; 16], Declined> {
-    let (count, full) = (net.size(a), below(net.size[b]));
-    let mut rows = [0; 16];
+) -> Result<[R; WIDEST], Declined> {
+    let (count, full) = (net.size(a), below(f, net.size[b]));
+    let mut rows = [R::default(); WIDEST];
     for (d, row) in rows.iter_mut().enumerate().take(count) {
-        *row = word(body, 3 + 2 * d);
+        let read = read_row::<F, R>(f, body, d);
         let last = f.has(Fault::LastRowUnseen) && d + 1 == count;
-        if *row & !full != 0 && !last {
+        let tested = if f.has(Fault::HighBitsUnseen) { read & LOW_HALF } else { read };
+        if tested & !full != 0 && !last {
             return Err((7, start));
         }
-        *row &= full;
+        *row = R::cut(read & full);
     }
     Ok(rows)
 }
 
 /// The rows that a limit on two recorded figures together allows.
-fn sodium_rows<F: Faults>(
+fn sodium_rows<F: Faults, R: Row>(
     f: F,
     limit: u16,
-    net: &Net,
+    net: &Net<R>,
     sodium: &Sodium,
     a: usize,
     b: usize,
-) -> [u16; 16] {
-    let mut rows = [0; 16];
+) -> [R; WIDEST] {
+    let mut rows = [R::default(); WIDEST];
     for (d, row) in rows.iter_mut().enumerate().take(net.size(a)) {
+        let mut allowed = 0;
         for e in 0..net.size(b) {
-            if sodium_allows(f, sodium[16 * a + d], sodium[16 * b + e], limit) {
-                *row |= 1 << e;
+            if sodium_allows(f, sodium[R::VALUES * a + d], sodium[R::VALUES * b + e], limit) {
+                allowed |= 1 << e;
             }
         }
+        *row = R::cut(allowed);
     }
     rows
 }

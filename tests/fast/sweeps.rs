@@ -3,71 +3,109 @@
 
 use std::mem::swap;
 
+use super::cells;
 use super::fault::{Fault, Faults};
-use super::plan::{decode, Net};
-use super::{below, bits, Declined, MAX};
+use super::plan::{decode, Net, Plan};
+use super::row::{Row, HALF, LOW_HALF, WIDEST};
+use super::{below, bits, lists_needed, Declined, MAX};
 
 /// The values of variable `s` with a support against each tied variable.
-fn supported<F: Faults>(f: F, net: &Net, lists: &[u16], s: usize) -> u16 {
+fn supported<F: Faults, R: Row>(f: F, net: &Net<R>, lists: &[u32], s: usize) -> u32 {
     if f.has(Fault::SupportsByConstraint) {
-        return supported_singly(net, lists, s);
+        return supported_singly(f, net, lists, s);
     }
-    let by = |t: usize| gather(lists[t], |e| net.rows[16 * t + e][s]);
+    let by = |t: usize| gather(lists[t], |e| net.row(R::VALUES * t + e, s));
     let tied = bits(net.tied[s]).map(by);
     if f.has(Fault::SupportAgainstSome) && net.tied[s] != 0 {
         return tied.fold(0, |some, one| some | one);
     }
-    tied.fold(u16::MAX, |all, one| all & one)
+    tied.fold(u32::MAX, |all, one| all & one)
 }
 
 /// The union of a list's rows.
-fn gather(list: u16, row: impl Fn(usize) -> u16) -> u16 {
-    bits(u32::from(list)).fold(0, |union, e| union | row(e))
+fn gather(list: u32, row: impl Fn(usize) -> u32) -> u32 {
+    bits(list).fold(0, |union, e| union | row(e))
 }
 
 /// The values with a support under each constraint by itself, as no sound
 /// variant has it.
-fn supported_singly(net: &Net, lists: &[u16], s: usize) -> u16 {
-    let by = |&(a, b, rows): &(usize, usize, [u16; 16])| {
+fn supported_singly<F: Faults, R: Row>(f: F, net: &Net<R>, lists: &[u32], s: usize) -> u32 {
+    let by = |&(a, b, rows): &(usize, usize, [R; WIDEST])| {
+        let row = |d: usize| -> u32 { rows[d].into() };
         if s == a {
-            gather(below(net.size[a]), |d| u16::from(rows[d] & lists[b] != 0) << d)
+            gather(below(f, net.size[a]), |d| u32::from(row(d) & lists[b] != 0) << d)
         } else if s == b {
-            gather(lists[a], |d| rows[d])
+            gather(lists[a], row)
         } else {
-            u16::MAX
+            u32::MAX
         }
     };
-    net.single.iter().map(by).fold(u16::MAX, |all, one| all & one)
+    net.single.iter().map(by).fold(u32::MAX, |all, one| all & one)
 }
 
-fn sweep<F: Faults>(f: F, net: &Net, before: &[u16]) -> [u16; MAX] {
-    let mut after = [0; MAX];
-    after[..net.n].copy_from_slice(before);
+fn sweep<F: Faults, R: Row>(f: F, net: &Net<R>, before: &[u32; MAX]) -> [u32; MAX] {
+    let mut after = *before;
     for s in 0..net.n {
         let read = if f.has(Fault::SweepReadsItself) { &after } else { before };
-        let kept = supported(f, net, read, s);
+        let mut kept = supported(f, net, read, s);
+        if f.has(Fault::SweepKeepsHighHalf) {
+            kept |= !LOW_HALF;
+        }
         after[s] &= kept;
     }
     after
 }
 
 /// Whether this sweep is the last; a sound one is when it deletes nothing.
-fn is_last<F: Faults>(f: F, net: &Net, sweeps: usize, before: &[u16], after: &[u16]) -> bool {
+fn is_last<F: Faults, R: Row>(
+    f: F,
+    net: &Net<R>,
+    sweeps: usize,
+    before: &[u32; MAX],
+    after: &[u32; MAX],
+) -> bool {
+    let low_halves = |lists: &[u32; MAX]| lists.map(|list| list & LOW_HALF);
     after == before
-        || f.has(Fault::EndsAtEmptyList) && after.contains(&0)
+        || f.has(Fault::EndsByLowHalf) && low_halves(after) == low_halves(before)
+        || f.has(Fault::EndsAtEmptyList) && after[..net.n].contains(&0)
         || f.has(Fault::AsManyAsLabels) && sweeps == net.labels()
 }
 
+/// Lists with their halves exchanged where the fault is there.
+fn turned<F: Faults, R: Row>(f: F, fault: Fault, lists: [u32; MAX]) -> [u32; MAX] {
+    if f.has(fault) && R::CELLS == 2 {
+        return lists.map(|list| list.rotate_left(HALF as u32));
+    }
+    lists
+}
+
+/// Writes lists into a buffer.
+fn write<F: Faults, R: Row>(f: F, net: &Net<R>, lists: [u32; MAX], buffer: &mut [u16]) {
+    cells::put(f, net, &turned::<F, R>(f, Fault::SweepHalvesSwapped, lists), buffer);
+}
+
+/// Reads the lists of a buffer.
+fn read<F: Faults, R: Row>(f: F, net: &Net<R>, buffer: &[u16]) -> [u32; MAX] {
+    let lists = turned::<F, R>(f, Fault::SweepHalvesSwapped, cells::get(f, net, buffer));
+    turned::<F, R>(f, Fault::SweepReadsSwapped, lists)
+}
+
 /// Plays the sweeps from the lists that `from` holds; their number.
-fn play<'a, F: Faults>(f: F, net: &Net, mut from: &'a mut [u16], mut to: &'a mut [u16]) -> usize {
+fn play<'a, F: Faults, R: Row>(
+    f: F,
+    net: &Net<R>,
+    mut from: &'a mut [u16],
+    mut to: &'a mut [u16],
+) -> usize {
     let mut sweeps = 0;
     loop {
-        let after = &sweep(f, net, from)[..net.n];
+        let before = read(f, net, from);
+        let after = sweep(f, net, &before);
         sweeps += 1;
-        let last = is_last(f, net, sweeps, from, after);
+        let last = is_last(f, net, sweeps, &before, &after);
         let unwritten = f.has(Fault::LastUnwritten) || f.has(Fault::EndsBeforeLast);
         if !(last && unwritten) {
-            to.copy_from_slice(after);
+            write(f, net, after, to);
         }
         if last {
             return counted(f, sweeps);
@@ -89,7 +127,8 @@ pub fn run_sweeps<F: Faults>(
     first: &mut [u16],
     second: &mut [u16],
 ) -> Result<[usize; 1], Declined> {
-    let need = MAX + usize::from(f.has(Fault::SweepListsOneMore));
+    let need = lists_needed(f, plan, Fault::SweepListsByVersion)
+        + usize::from(f.has(Fault::SweepListsOneMore));
     let short = first.len() < need || second.len() < need;
     if f.has(Fault::ShortListsClear) && short {
         first.fill(0);
@@ -102,30 +141,38 @@ pub fn run_sweeps<F: Faults>(
     if f.has(Fault::DeclinedPlanClears) && decoded.is_err() {
         first.fill(0);
     }
-    let net = decoded?;
+    let plan = decoded?;
     if short {
         return Err((10, 0));
     }
-    Ok([sweep_all(f, &net, first, second)])
+    Ok([match &plan {
+        Plan::One(net) => sweep_all(f, net, first, second),
+        Plan::Two(net) => sweep_all(f, net, first, second),
+    }])
 }
 
 /// The sweeps of a plan that was accepted, over buffers that are long enough.
-fn sweep_all<F: Faults>(f: F, net: &Net, first: &mut [u16], second: &mut [u16]) -> usize {
-    let (first, first_later) = first.split_at_mut(net.n);
-    let (second, second_later) = second.split_at_mut(net.n);
+fn sweep_all<F: Faults, R: Row>(
+    f: F,
+    net: &Net<R>,
+    first: &mut [u16],
+    second: &mut [u16],
+) -> usize {
+    let later = net.n * R::CELLS;
     if f.has(Fault::LaterFirstCleared) {
-        first_later.fill(0);
+        first[later..].fill(0);
     }
     if f.has(Fault::LaterSecondCleared) {
-        second_later.fill(0);
+        second[later..].fill(0);
     }
-    for (cell, &size) in first.iter_mut().zip(&net.size) {
-        *cell = below(size);
+    let mut loaded = [0; MAX];
+    for (list, &size) in loaded.iter_mut().zip(&net.size[..net.n]) {
+        *list = below(f, size);
     }
     if f.has(Fault::SweepsAfterLoading) {
-        let loaded = sweep(f, net, first);
-        first.copy_from_slice(&loaded[..net.n]);
+        loaded = sweep(f, net, &loaded);
     }
+    write(f, net, loaded, first);
     if f.has(Fault::RolesExchanged) {
         play(f, net, second, first)
     } else {

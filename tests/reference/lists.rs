@@ -1,6 +1,7 @@
 // The lists of a plan, and what supports a label on them.
 
 use super::plan::{Network, Plan};
+use super::version::Version;
 
 /// By variable and value, both from 0: whether the label is listed.
 pub type Lists = Vec<Vec<bool>>;
@@ -19,8 +20,16 @@ pub fn supported(plan: &Plan, network: &Network, lists: &Lists, one: usize, a: u
     })
 }
 
-/// One cell for each variable, lowest bit for its first value.
-pub fn cells(lists: &Lists) -> Vec<u16> {
-    let cell = |list: &Vec<bool>| (0..).zip(list).map(|(at, &kept)| u16::from(kept) << at).sum();
-    lists.iter().map(cell).collect()
+/// How many values a list cell holds.
+const CELL_VALUES: usize = 16;
+
+/// The cells of each variable in turn, lowest bit for its first value. Where
+/// there are two, the first holds the higher half.
+pub fn cells(version: Version, lists: &Lists) -> Vec<u16> {
+    let listed = |list: &[bool], value: usize| list.get(value) == Some(&true);
+    let cell = |list: &[bool], lowest: usize| {
+        (0..CELL_VALUES).map(|bit| u16::from(listed(list, lowest + bit)) << bit).sum()
+    };
+    let parts = |list| (0..version.cells).rev().map(move |part| cell(list, CELL_VALUES * part));
+    lists.iter().flat_map(|list| parts(list)).collect()
 }

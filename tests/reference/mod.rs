@@ -10,12 +10,13 @@ pub mod run;
 pub mod state;
 pub mod sweep;
 pub mod trace;
+pub mod version;
 pub mod worked;
 
 /// Work cells a run needs and leaves at 0.
-pub const WORK_CELLS: usize = 24_576;
+pub const WORK_CELLS: usize = 30_720;
 /// List cells a run needs, and each of the two buffers of the sweeps.
-pub const LIST_CELLS: usize = 32;
+pub const LIST_CELLS: usize = 64;
 /// Longest turn list in bytes.
 pub const TURN_BYTES: usize = 65_536;
 

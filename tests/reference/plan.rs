@@ -1,6 +1,7 @@
 // The plan as bytes: every check in the document's order, and the relations
 // between variables (slots) that follow from the constraints (rules).
 
+use super::version::{Version, MOST_LABELS};
 use super::{decline, Decline};
 
 /// The sodium figure that stands for "not recorded".
@@ -20,8 +21,9 @@ pub struct Variable {
 
 #[derive(Clone, Debug, PartialEq, Eq)]
 pub enum Relation {
-    /// One row for each value of the first variable.
-    Table(Vec<u16>),
+    /// One row for each value of the first variable, lowest bit for the
+    /// second variable's first value.
+    Table(Vec<u32>),
     /// The limit of a sodium rule, which allows two recorded figures whose
     /// sum is at most that.
     Sodium(u16),
@@ -37,6 +39,7 @@ pub struct Constraint {
 
 #[derive(Clone, Debug, PartialEq, Eq)]
 pub struct Plan {
+    pub version: Version,
     pub workers: usize,
     pub variables: Vec<Variable>,
     pub constraints: Vec<Constraint>,
@@ -44,6 +47,11 @@ pub struct Plan {
 
 fn word(bytes: &[u8], at: usize) -> u16 {
     u16::from_be_bytes([bytes[at], bytes[at + 1]])
+}
+
+/// A table's row from its bytes.
+fn row(bytes: &[u8]) -> u32 {
+    bytes.iter().fold(0, |row, &byte| row << 8 | u32::from(byte))
 }
 
 /// The content of the section that starts at `start`, or decline 1.
@@ -58,13 +66,23 @@ fn section(bytes: &[u8], start: usize) -> Result<&[u8], Decline> {
     Ok(&bytes[start + 2..end])
 }
 
-fn decode_variable(content: &[u8], start: usize, workers: usize) -> Result<Variable, Decline> {
+/// `labels` are those of the variables before this one.
+fn decode_variable(
+    content: &[u8],
+    start: usize,
+    version: Version,
+    workers: usize,
+    labels: usize,
+) -> Result<Variable, Decline> {
     if content.len() < 2 {
         return decline(3, start);
     }
     let owner = usize::from(content[0]);
     let count = usize::from(content[1]);
-    if count > 16 {
+    if count > version.values {
+        return decline(4, start);
+    }
+    if labels + count > MOST_LABELS {
         return decline(4, start);
     }
     if content.len() != 2 + 4 * count {
@@ -88,6 +106,7 @@ fn decode_variable(content: &[u8], start: usize, workers: usize) -> Result<Varia
 fn decode_constraint(
     content: &[u8],
     start: usize,
+    version: Version,
     variables: &[Variable],
 ) -> Result<Constraint, Decline> {
     if content.len() < 3 {
@@ -103,27 +122,52 @@ fn decode_constraint(
     if !in_range.contains(&first) || !in_range.contains(&second) || first >= second {
         return decline(5, start);
     }
-    if kind == 1 {
-        if content.len() != 5 {
-            return decline(3, start);
-        }
-        let relation = Relation::Sodium(word(content, 3));
-        return Ok(Constraint { first, second, relation });
-    }
-    let rows_count = variables[first - 1].values.len();
-    let columns = variables[second - 1].values.len();
-    if content.len() != 3 + 2 * rows_count {
+    let relation = if kind == 1 {
+        decode_limit(content, start)?
+    } else {
+        decode_table(content, start, version, &variables[first - 1], &variables[second - 1])?
+    };
+    Ok(Constraint { first, second, relation })
+}
+
+fn decode_limit(content: &[u8], start: usize) -> Result<Relation, Decline> {
+    if content.len() != 5 {
         return decline(3, start);
     }
-    let rows: Vec<u16> = (0..rows_count).map(|row| word(content, 3 + 2 * row)).collect();
+    Ok(Relation::Sodium(word(content, 3)))
+}
+
+fn decode_table(
+    content: &[u8],
+    start: usize,
+    version: Version,
+    first: &Variable,
+    second: &Variable,
+) -> Result<Relation, Decline> {
+    if content.len() != 3 + version.row_bytes * first.values.len() {
+        return decline(3, start);
+    }
+    let rows: Vec<u32> = content[3..].chunks(version.row_bytes).map(row).collect();
     for row in &rows {
-        for bit in columns..16 {
+        for bit in second.values.len()..version.values {
             if row >> bit & 1 == 1 {
                 return decline(7, start);
             }
         }
     }
-    Ok(Constraint { first, second, relation: Relation::Table(rows) })
+    Ok(Relation::Table(rows))
+}
+
+/// The numbers of workers, variables and constraints.
+fn decode_head(content: &[u8], start: usize) -> Result<[usize; 3], Decline> {
+    if content.len() != 3 {
+        return decline(3, start);
+    }
+    let [workers, variables, constraints] = [0, 1, 2].map(|at| usize::from(content[at]));
+    if !(1..=8).contains(&workers) || !(1..=32).contains(&variables) || constraints > 128 {
+        return decline(4, start);
+    }
+    Ok([workers, variables, constraints])
 }
 
 /// Decodes a plan or gives the first decline, 1 to 8.
@@ -131,44 +175,36 @@ pub fn decode(bytes: &[u8]) -> Result<Plan, Decline> {
     if bytes.is_empty() {
         return decline(1, 0);
     }
-    if bytes[0] != 1 {
+    let Some(version) = Version::of_byte(bytes[0]) else {
         return decline(2, 0);
-    }
+    };
     let mut start = 1;
 
-    let head = section(bytes, start)?;
-    if head.len() != 3 {
-        return decline(3, start);
-    }
-    let workers = usize::from(head[0]);
-    let variable_count = usize::from(head[1]);
-    let constraint_count = usize::from(head[2]);
-    if !(1..=8).contains(&workers)
-        || !(1..=32).contains(&variable_count)
-        || constraint_count > 128
-    {
-        return decline(4, start);
-    }
-    start += 2 + head.len();
+    let content = section(bytes, start)?;
+    let [workers, variable_count, constraint_count] = decode_head(content, start)?;
+    start += 2 + content.len();
 
     let mut variables = Vec::new();
+    let mut labels = 0;
     for _ in 0..variable_count {
         let content = section(bytes, start)?;
-        variables.push(decode_variable(content, start, workers)?);
+        let variable = decode_variable(content, start, version, workers, labels)?;
+        labels += variable.values.len();
+        variables.push(variable);
         start += 2 + content.len();
     }
 
     let mut constraints = Vec::new();
     for _ in 0..constraint_count {
         let content = section(bytes, start)?;
-        constraints.push(decode_constraint(content, start, &variables)?);
+        constraints.push(decode_constraint(content, start, version, &variables)?);
         start += 2 + content.len();
     }
 
     if start < bytes.len() {
         return decline(8, start);
     }
-    Ok(Plan { workers, variables, constraints })
+    Ok(Plan { version, workers, variables, constraints })
 }
 
 impl Constraint {
@@ -189,9 +225,19 @@ impl Constraint {
 }
 
 impl Plan {
+    /// How many values each variable has.
+    pub fn counts(&self) -> impl Iterator<Item = usize> + '_ {
+        self.variables.iter().map(|variable| variable.values.len())
+    }
+
     /// L, the number of loaded labels.
     pub fn labels(&self) -> usize {
-        self.variables.iter().map(|variable| variable.values.len()).sum()
+        self.counts().sum()
+    }
+
+    /// How many list cells the lists take.
+    pub fn list_cells(&self) -> usize {
+        self.variables.len() * self.version.cells
     }
 
     /// The bound on the turns that change something.
@@ -202,33 +248,51 @@ impl Plan {
 
     /// The plan as bytes again.
     pub fn encode(&self) -> Vec<u8> {
-        let mut bytes = vec![1, 0, 3];
-        bytes.push(self.workers as u8);
-        bytes.push(self.variables.len() as u8);
-        bytes.push(self.constraints.len() as u8);
+        let counts = [self.workers, self.variables.len(), self.constraints.len()];
+        let mut bytes = vec![self.version.byte];
+        push_section(&mut bytes, &counts.map(|count| count as u8));
         for variable in &self.variables {
-            let length = 2 + 4 * variable.values.len();
-            bytes.extend_from_slice(&(length as u16).to_be_bytes());
-            bytes.push(variable.owner as u8);
-            bytes.push(variable.values.len() as u8);
-            for value in &variable.values {
-                bytes.extend_from_slice(&value.code.to_be_bytes());
-                bytes.extend_from_slice(&value.sodium.to_be_bytes());
-            }
+            push_section(&mut bytes, &variable.encode());
         }
         for constraint in &self.constraints {
-            let words: &[u16] = match &constraint.relation {
-                Relation::Table(rows) => rows,
-                Relation::Sodium(limit) => std::slice::from_ref(limit),
-            };
-            let kind = u8::from(matches!(constraint.relation, Relation::Sodium(_)));
-            bytes.extend_from_slice(&((3 + 2 * words.len()) as u16).to_be_bytes());
-            bytes.extend_from_slice(&[constraint.first as u8, constraint.second as u8, kind]);
-            for word in words {
-                bytes.extend_from_slice(&word.to_be_bytes());
-            }
+            push_section(&mut bytes, &constraint.encode(self.version));
         }
         bytes
+    }
+}
+
+fn push_section(bytes: &mut Vec<u8>, content: &[u8]) {
+    bytes.extend_from_slice(&(content.len() as u16).to_be_bytes());
+    bytes.extend_from_slice(content);
+}
+
+impl Variable {
+    /// The content of its section.
+    fn encode(&self) -> Vec<u8> {
+        let mut content = vec![self.owner as u8, self.values.len() as u8];
+        for value in &self.values {
+            content.extend_from_slice(&value.code.to_be_bytes());
+            content.extend_from_slice(&value.sodium.to_be_bytes());
+        }
+        content
+    }
+}
+
+impl Constraint {
+    /// The content of its section.
+    fn encode(&self, version: Version) -> Vec<u8> {
+        let kind = u8::from(matches!(self.relation, Relation::Sodium(_)));
+        let mut content = vec![self.first as u8, self.second as u8, kind];
+        match &self.relation {
+            Relation::Table(rows) => {
+                for row in rows {
+                    let bytes = row.to_be_bytes();
+                    content.extend_from_slice(&bytes[bytes.len() - version.row_bytes..]);
+                }
+            }
+            Relation::Sodium(limit) => content.extend_from_slice(&limit.to_be_bytes()),
+        }
+        content
     }
 }
 

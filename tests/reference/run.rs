@@ -1,6 +1,7 @@
 // The calls: plan check, turn run and round run, with the order of declines,
 // the report and what the lent buffers hold afterwards.
 
+use super::lists::{cells, Lists};
 use super::plan::{decode, Network, Plan};
 use super::state::{Event, Label, State, Turn};
 use super::trace::Trace;
@@ -85,19 +86,15 @@ impl Run {
         self.state.is_listed(Label::new(variable, value))
     }
 
-    /// One cell for each variable, lowest bit for its first value.
-    pub fn cells(&self) -> Vec<u16> {
-        (1..=self.plan.variables.len())
-            .map(|variable| {
-                (0..self.plan.variables[variable - 1].values.len())
-                    .filter(|&value| self.is_listed(variable, value))
-                    .fold(0, |cell, value| cell | 1 << value)
-            })
-            .collect()
+    pub fn lists(&self) -> Lists {
+        let list = |(variable, values): (usize, usize)| {
+            (0..values).map(|value| self.is_listed(variable, value)).collect()
+        };
+        (1..).zip(self.plan.counts()).map(list).collect()
     }
 
     pub fn report(&self) -> Report {
-        let empty = self.cells().iter().position(|&cell| cell == 0);
+        let empty = self.lists().iter().position(|list| !list.contains(&true));
         let lowest_empty = empty.map_or(0, |index| index + 1);
         let status = match (self.closed(), lowest_empty) {
             (false, _) => Status::Open,
@@ -116,7 +113,7 @@ impl Run {
     /// Leaves the lent buffers as a call that was not declined does.
     fn deliver(&self, work: &mut [u16], lists: &mut [u16]) {
         work[..WORK_CELLS].fill(0);
-        let cells = self.cells();
+        let cells = cells(self.plan.version, &self.lists());
         lists[..cells.len()].copy_from_slice(&cells);
     }
 }

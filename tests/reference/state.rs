@@ -26,6 +26,21 @@ impl Label {
     pub fn value(self) -> usize {
         usize::from(self.value)
     }
+
+    /// Every label of a plan, variables and values ascending.
+    fn all(plan: &Plan) -> Vec<Label> {
+        let of_variable = |(variable, values): (usize, usize)| {
+            (0..values).map(move |value| Label::new(variable, value))
+        };
+        (1..).zip(plan.counts()).flat_map(of_variable).collect()
+    }
+}
+
+/// How many values of another variable support a label, of all that are loaded.
+fn supports(plan: &Plan, network: &Network, label: Label, other: usize) -> usize {
+    (0..plan.variables[other - 1].values.len())
+        .filter(|&b| network.allowed(label.variable(), label.value(), other, b))
+        .count()
 }
 
 #[derive(Clone, Copy, Debug, PartialEq, Eq)]
@@ -64,6 +79,9 @@ pub struct Controller {
 
 #[derive(Clone, Debug, PartialEq, Eq)]
 pub struct State {
+    /// By variable: how many labels those before it have. So labels are
+    /// counted below; it stays as it is and is shared.
+    starts: Rc<[usize]>,
     /// By label: still listed.
     listed: Vec<bool>,
     /// By label and tied variable: the count of supports; 0 where untied.
@@ -169,16 +187,16 @@ impl Turn {
 }
 
 impl State {
-    fn at(label: Label) -> usize {
-        (label.variable() - 1) * 16 + label.value()
+    fn at(&self, label: Label) -> usize {
+        self.starts[label.variable() - 1] + label.value()
     }
 
-    fn counter_at(plan: &Plan, label: Label, other: usize) -> usize {
-        Self::at(label) * plan.variables.len() + other - 1
+    fn counter_at(&self, plan: &Plan, label: Label, other: usize) -> usize {
+        self.at(label) * plan.variables.len() + other - 1
     }
 
     pub fn is_listed(&self, label: Label) -> bool {
-        self.listed[Self::at(label)]
+        self.listed[self.at(label)]
     }
 
     pub fn channel(&self, from: usize, to: usize) -> &VecDeque<Message> {
@@ -190,14 +208,18 @@ impl State {
         Rc::make_mut(&mut self.channels[from * width + to])
     }
 
-    /// The state after loading.
-    pub fn load(plan: &Plan, network: &Network, events: &mut Vec<Event>) -> State {
-        let n = plan.variables.len();
-        let p = plan.workers;
+    /// The state before loading: nothing is listed, counted or sent.
+    fn empty(plan: &Plan) -> State {
+        let (labels, p) = (plan.labels(), plan.workers);
         let idle = Worker { work: VecDeque::new(), out: Vec::new(), list_counter: 0, held: None };
-        let mut state = State {
-            listed: vec![false; n * 16],
-            counters: vec![0; n * 16 * n],
+        let starts = plan.counts().scan(0, |next, count| {
+            *next += count;
+            Some(*next - count)
+        });
+        State {
+            starts: starts.collect(),
+            listed: vec![false; labels],
+            counters: vec![0; labels * plan.variables.len()],
             workers: vec![idle; p + 1],
             controller: Controller {
                 list_counter: 0,
@@ -207,29 +229,27 @@ impl State {
                 closed: false,
             },
             channels: vec![Rc::new(VecDeque::new()); (p + 1) * (p + 1)],
+        }
+    }
+
+    /// The state after loading.
+    pub fn load(plan: &Plan, network: &Network, events: &mut Vec<Event>) -> State {
+        let mut state = Self::empty(plan);
+        let tied_to = |label: Label| {
+            (1..=plan.variables.len()).filter(move |&other| network.tied(label.variable(), other))
         };
-        for variable in 1..=n {
-            for value in 0..plan.variables[variable - 1].values.len() {
-                let label = Label::new(variable, value);
-                state.listed[Self::at(label)] = true;
-                for other in (1..=n).filter(|&other| network.tied(variable, other)) {
-                    let supports = (0..plan.variables[other - 1].values.len())
-                        .filter(|&b| network.allowed(variable, value, other, b))
-                        .count();
-                    state.counters[Self::counter_at(plan, label, other)] = supports as u8;
-                }
+        for label in Label::all(plan) {
+            let at = state.at(label);
+            state.listed[at] = true;
+            for other in tied_to(label) {
+                let at = state.counter_at(plan, label, other);
+                state.counters[at] = supports(plan, network, label, other) as u8;
             }
         }
-        for variable in 1..=n {
-            for value in 0..plan.variables[variable - 1].values.len() {
-                let label = Label::new(variable, value);
-                let without = (1..=n).any(|other| {
-                    network.tied(variable, other)
-                        && state.counters[Self::counter_at(plan, label, other)] == 0
-                });
-                if without {
-                    state.delete(plan, label, events);
-                }
+        for label in Label::all(plan) {
+            let count = |other| state.counters[state.counter_at(plan, label, other)];
+            if tied_to(label).any(|other| count(other) == 0) {
+                state.delete(plan, label, events);
             }
         }
         state
@@ -238,7 +258,8 @@ impl State {
     /// The owner deletes a label and puts it at the end of both its lists.
     fn delete(&mut self, plan: &Plan, label: Label, events: &mut Vec<Event>) {
         let by = plan.variables[label.variable() - 1].owner;
-        self.listed[Self::at(label)] = false;
+        let at = self.at(label);
+        self.listed[at] = false;
         self.workers[by].work.push_back(label);
         self.workers[by].out.push(label);
         events.push(Event::Deleted { by, label });
@@ -275,9 +296,9 @@ impl State {
                 {
                     continue;
                 }
-                let counter = &mut self.counters[Self::counter_at(plan, label, gone.variable())];
-                *counter -= 1;
-                if *counter == 0 {
+                let at = self.counter_at(plan, label, gone.variable());
+                self.counters[at] -= 1;
+                if self.counters[at] == 0 {
                     self.delete(plan, label, events);
                 }
             }

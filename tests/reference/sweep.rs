@@ -50,7 +50,7 @@ pub fn run_sweeps(plan: &[u8], first: &mut [u16], second: &mut [u16]) -> Result<
     let all = sweeps(&plan, &network);
     for (number, lists) in all.iter().enumerate() {
         let buffer = if number % 2 == 0 { &mut *first } else { &mut *second };
-        let written = cells(lists);
+        let written = cells(plan.version, lists);
         buffer[..written.len()].copy_from_slice(&written);
     }
     Ok(Swept { plan, network, sweeps: all.len() - 1 })

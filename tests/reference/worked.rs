@@ -2,8 +2,10 @@
 // tests on them.
 
 pub mod sweeps;
+pub mod wide;
 
 use super::plan::{Constraint, Plan, Relation, Value, Variable, NOT_RECORDED};
+use super::version::ONE;
 
 /// Bytes from hex digits; blanks do not count.
 pub fn hex(text: &str) -> Vec<u8> {
@@ -26,7 +28,7 @@ fn variable(owner: usize, values: &[(u16, u16)]) -> Variable {
     Variable { owner, values }
 }
 
-fn table(first: usize, second: usize, rows: &[u16]) -> Constraint {
+fn table(first: usize, second: usize, rows: &[u32]) -> Constraint {
     Constraint { first, second, relation: Relation::Table(rows.to_vec()) }
 }
 
@@ -34,8 +36,12 @@ fn sodium(first: usize, second: usize, limit: u16) -> Constraint {
     Constraint { first, second, relation: Relation::Sodium(limit) }
 }
 
+fn plan(workers: usize, variables: Vec<Variable>, constraints: Vec<Constraint>) -> Plan {
+    Plan { version: ONE, workers, variables, constraints }
+}
+
 pub fn no_values() -> Vec<u8> {
-    Plan { workers: 1, variables: vec![variable(1, &[])], constraints: vec![] }.encode()
+    apart(&[&[]], &[]).encode()
 }
 
 /// A limit, two figures, and whether a sodium rule allows the pair.
@@ -67,12 +73,8 @@ const SODIUM: &[(u16, u16, u16, bool)] = &[
 
 /// One value against one, under a sodium rule.
 pub fn two_figures(limit: u16, one: u16, other: u16) -> Vec<u8> {
-    Plan {
-        workers: 1,
-        variables: vec![variable(1, &[(1, one)]), variable(1, &[(2, other)])],
-        constraints: vec![sodium(1, 2, limit)],
-    }
-    .encode()
+    let variables = vec![variable(1, &[(1, one)]), variable(1, &[(2, other)])];
+    plan(1, variables, vec![sodium(1, 2, limit)]).encode()
 }
 
 const SOUP: (u16, u16) = (1, NOT_RECORDED);
@@ -83,7 +85,7 @@ const MAINS: [(u16, u16); 2] = [(3, 600), (4, 900)];
 fn apart(variables: &[&[(u16, u16)]], constraints: &[Constraint]) -> Plan {
     let variables = (1..).zip(variables).map(|(owner, values)| variable(owner, values));
     let variables: Vec<Variable> = variables.collect();
-    Plan { workers: variables.len(), variables, constraints: constraints.to_vec() }
+    plan(variables.len(), variables, constraints.to_vec())
 }
 
 /// A soup without a figure and a broth with one, against two mains.
@@ -150,33 +152,19 @@ fn nothing_allowed() -> [Plan; 4] {
 
 /// One value against two; each table allows one pair only.
 pub fn half_supports() -> Vec<u8> {
-    Plan {
-        workers: 2,
-        variables: vec![variable(1, &[(1, 0)]), variable(2, &[(1, 0), (2, 0)])],
-        constraints: vec![table(1, 2, &[1]), table(1, 2, &[2])],
-    }
-    .encode()
+    apart(&[&[(1, 0)], &[(1, 0), (2, 0)]], &[table(1, 2, &[1]), table(1, 2, &[2])]).encode()
 }
 
 /// Three variables of two values, each two different: consistent, no solution.
 pub fn three_differ() -> Vec<u8> {
-    let values = [(7, 0), (8, NOT_RECORDED)];
-    Plan {
-        workers: 1,
-        variables: vec![variable(1, &values); 3],
-        constraints: vec![table(1, 2, &[2, 1]), table(1, 3, &[2, 1]), table(2, 3, &[2, 1])],
-    }
-    .encode()
+    let variables = vec![variable(1, &[(7, 0), (8, NOT_RECORDED)]); 3];
+    let differ = |first, second| table(first, second, &[2, 1]);
+    plan(1, variables, vec![differ(1, 2), differ(1, 3), differ(2, 3)]).encode()
 }
 
 /// One value against one, and so many times the same sodium rule.
 fn same_constraints(count: usize) -> Vec<u8> {
-    Plan {
-        workers: 1,
-        variables: vec![variable(1, &[(1, 1)]); 2],
-        constraints: vec![sodium(1, 2, 2); count],
-    }
-    .encode()
+    plan(1, vec![variable(1, &[(1, 1)]); 2], vec![sodium(1, 2, 2); count]).encode()
 }
 
 /// The worked plans, each with a turn list: the documents' and more of their
@@ -205,15 +193,10 @@ pub fn worked() -> Vec<(Vec<u8>, Vec<u8>)> {
     cases.push((half_supports(), vec![]));
     cases.push((three_differ(), vec![]));
     cases.extend(sweeps::swept().into_iter().map(|(plan, _)| (plan, vec![])));
-    cases.push((vec![], vec![]));
-    cases.push((vec![1], vec![]));
-    let mut second_version = p.clone();
-    second_version[0] = 2;
-    cases.push((second_version, t.clone()));
-    let seventeen: Vec<(u16, u16)> = (0..17).map(|code| (code, 0)).collect();
-    let too_many =
-        Plan { workers: 1, variables: vec![variable(1, &seventeen)], constraints: vec![] };
-    cases.push((too_many.encode(), vec![]));
+    for (plan, turns, _, _) in wide::runs() {
+        cases.push((plan, turns.unwrap_or_default()));
+    }
+    cases.extend(wide::checks().into_iter().map(|(plan, _)| (plan, t.clone())));
     for count in [128, 129] {
         cases.push((same_constraints(count), vec![]));
     }
@@ -252,11 +235,11 @@ mod tests {
     ) -> Result<(Report, Vec<u16>), Decline> {
         match result {
             Ok(run) => {
-                let n = run.plan.variables.len();
+                let written = run.plan.list_cells();
                 assert!(work[..WORK_CELLS].iter().all(|&cell| cell == 0));
                 assert_eq!(work[WORK_CELLS], 7);
-                assert!(lists[n..].iter().all(|&cell| cell == 9));
-                Ok((run.report(), lists[..n].to_vec()))
+                assert!(lists[written..].iter().all(|&cell| cell == 9));
+                Ok((run.report(), lists[..written].to_vec()))
             }
             Err(decline) => {
                 assert!(work.iter().all(|&cell| cell == 7));
@@ -272,7 +255,7 @@ mod tests {
     }
 
     fn largest_cells(plan: &Plan) -> Vec<u16> {
-        cells(&largest_lists(plan, &Network::new(plan)))
+        cells(plan.version, &largest_lists(plan, &Network::new(plan)))
     }
 
     fn declined(number: usize, place: usize) -> Decline {
@@ -297,6 +280,15 @@ mod tests {
         assert_eq!(early, report(Status::Open, [5, 0, 1, 0]));
         let (rounds, cells) = round(&p).unwrap();
         assert_eq!((rounds.status, cells), (Status::Closed, vec![1, 3, 1]));
+    }
+
+    #[test]
+    fn wide_runs() {
+        for (plan, turns, [status, numbers @ ..], cells) in wide::runs() {
+            let status = [Status::Open, Status::Closed, Status::Bare][status];
+            let found = turns.map_or_else(|| round(&plan), |turns| play(&plan, &turns));
+            assert_eq!(found, Ok((report(status, numbers), cells.to_vec())));
+        }
     }
 
     #[test]
@@ -353,9 +345,6 @@ mod tests {
     #[test]
     fn declines() {
         let p = plan_p();
-        assert_eq!(check_plan(&[]), Err(declined(1, 0)));
-        assert_eq!(check_plan(&[1]), Err(declined(1, 1)));
-        assert_eq!(check_plan(&[2]), Err(declined(2, 0)));
         for cut in 1..p.len() {
             assert_eq!(check_plan(&p[..cut]).unwrap_err().number, 1);
         }
@@ -390,14 +379,18 @@ mod tests {
         assert_eq!(play(&[], &[1]), Err(declined(11, 0)));
         assert_eq!(play(&p, &vec![0; 65_538]), Err(declined(11, 0)));
         assert_eq!(play(&p, &hex("000C").repeat(32_768)).unwrap().0.changed, 1);
+    }
+
+    #[test]
+    fn needs() {
         let mut work = vec![0; WORK_CELLS];
         let mut lists = vec![0; LIST_CELLS];
         let mut call = |w: usize, l: usize| {
             run_turns(&[], &[1], &mut work[..w], &mut lists[..l], &mut |_| {}).unwrap_err()
         };
-        assert_eq!(call(WORK_CELLS - 1, 0), declined(9, 0));
-        assert_eq!(call(WORK_CELLS, 31), declined(10, 0));
-        assert_eq!(call(WORK_CELLS, 32), declined(11, 0));
+        assert_eq!(call(30_719, 0), declined(9, 0));
+        assert_eq!(call(30_720, 63), declined(10, 0));
+        assert_eq!(call(30_720, 64), declined(11, 0));
     }
 
     #[test]

@@ -1,4 +1,5 @@
-/* How much stack each call takes on the largest plan. Prints a line for each, and fails where it is more than README.md says. */
+/* How much stack each call takes on the largest plan of either version. Prints a line for each, and fails where it is more than
+ * README.md says. */
 #include <stdio.h>
 #include <stdlib.h>
 #include <string.h>
@@ -6,7 +7,15 @@
 
 #include "tinshrew.h"
 
-enum { ROOM = 1 << 20, PAINT = 0xA5, KITCHENS = 8, SLOTS = 32, DISHES = 16, RULES = 128, TURN_BYTES = 65536 };
+enum { ROOM = 1 << 20, PAINT = 0xA5, KITCHENS = 8, RULES = 128, TURN_BYTES = 65536 };
+
+/* The slots of a plan and the dishes of each, 512 together: in version 1 as many slots as there may be, in version 2 as many
+ * dishes in a slot. */
+typedef struct {
+    unsigned version, slots, dishes;
+} Shape;
+
+static const Shape shapes[] = {{1, 32, 16}, {2, 16, 32}};
 
 static uint8_t plan[65536];
 static size_t plan_len;
@@ -25,31 +34,36 @@ static void put_wide(unsigned number) {
     put(number & 255);
 }
 
-/* As many kitchens, slots, dishes and rules as there may be. A table allows a dish only those after it, so that dishes are
- * struck one after the other until no list has one. */
-static void make_plan(void) {
-    put(1);
+/* As many kitchens, dishes and rules as there may be. A table allows a dish only those after it, so that dishes are struck
+ * one after the other until no list has one. */
+static void make_plan(Shape shape) {
+    plan_len = 0;
+    put(shape.version);
     put_wide(3);
     put(KITCHENS);
-    put(SLOTS);
+    put(shape.slots);
     put(RULES);
-    for (unsigned s = 0; s < SLOTS; s++) {
-        put_wide(2 + 4 * DISHES);
+    for (unsigned s = 0; s < shape.slots; s++) {
+        put_wide(2 + 4 * shape.dishes);
         put(1 + s % KITCHENS);
-        put(DISHES);
-        for (unsigned d = 0; d < DISHES; d++) {
+        put(shape.dishes);
+        for (unsigned d = 0; d < shape.dishes; d++) {
             put_wide(d);
             put_wide(0);
         }
     }
     for (unsigned r = 0; r < RULES; r++) {
-        unsigned first = 1 + r % (SLOTS - 1);
-        put_wide(3 + 2 * DISHES);
+        unsigned first = 1 + r % (shape.slots - 1);
+        put_wide(3 + 2 * shape.version * shape.dishes);
         put(first);
         put(first + 1);
         put(0);
-        for (unsigned d = 0; d < DISHES; d++) {
-            put_wide(0xFFFF & (0xFFFEu << d));
+        for (unsigned d = 0; d < shape.dishes; d++) {
+            uint32_t row = (uint32_t)0xFFFFFFFE << d;
+            if (shape.version == 2) {
+                put_wide(row >> 16);
+            }
+            put_wide(row & 0xFFFF);
         }
     }
 }
@@ -86,7 +100,7 @@ static void run_sweeps(void) {
 }
 
 static void last_sweep(void) {
-    tinshrew_last_sweep(lists, TINSHREW_LIST_CELLS, other_lists, TINSHREW_LIST_CELLS, 1, SLOTS, out);
+    tinshrew_last_sweep(lists, TINSHREW_LIST_CELLS, other_lists, TINSHREW_LIST_CELLS, 1, TINSHREW_LIST_CELLS, out);
 }
 
 /* Runs a call on a painted stack of its own and gives the bytes that were written over. The few that entering and leaving
@@ -128,12 +142,15 @@ static void show(const char *name, void (*call)(void), size_t most) {
 }
 
 int main(void) {
-    make_plan();
     make_turns();
-    show("tinshrew_check_plan", check_plan, 1024);
-    show("tinshrew_run_turns", run_turns, 1024);
-    show("tinshrew_run_round", run_round, 1024);
-    show("tinshrew_run_sweeps", run_sweeps, 50 * 1024);
-    show("tinshrew_last_sweep", last_sweep, 1024);
+    for (size_t i = 0; i < sizeof shapes / sizeof *shapes; i++) {
+        make_plan(shapes[i]);
+        printf("a plan of version %u\n", shapes[i].version);
+        show("tinshrew_check_plan", check_plan, 1536);
+        show("tinshrew_run_turns", run_turns, 1536);
+        show("tinshrew_run_round", run_round, 1536);
+        show("tinshrew_run_sweeps", run_sweeps, 62 * 1024);
+        show("tinshrew_last_sweep", last_sweep, 1536);
+    }
     return 0;
 }

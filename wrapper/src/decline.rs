@@ -36,14 +36,15 @@ pub enum Decline {
         /// Byte at which the section starts, or would; 0 for an empty plan.
         section_start: usize,
     },
-    /// 2: the version byte is not 1.
+    /// 2: the version byte is neither 1 nor 2.
     BadVersion,
     /// 3: a section's length is not the one that its content calls for.
     BadLength {
         /// Byte at which the section starts.
         section_start: usize,
     },
-    /// 4: the number of kitchens, of slots, of rules or of a slot's dishes is out of range.
+    /// 4: the number of kitchens, of slots, of rules or of a slot's dishes is out of range, or there are more than 512
+    /// dishes with this slot's.
     BadCount {
         /// Byte at which the section starts.
         section_start: usize,
@@ -175,7 +176,7 @@ impl fmt::Display for Decline {
             Decline::Truncated { section_start } => {
                 write!(f, "plan ends before the section at byte {section_start} is complete")
             }
-            Decline::BadVersion => write!(f, "version byte is not 1, at byte 0"),
+            Decline::BadVersion => write!(f, "version byte is neither 1 nor 2, at byte 0"),
             Decline::BadLength { section_start } => {
                 in_section(f, section_start, "length is not the one that the content calls for")
             }

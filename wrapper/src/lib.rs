@@ -5,7 +5,8 @@
 //! [`run_round`] plays rounds until it is closed. [`run_sweeps`] gives the lists of the closed plan by a slower method,
 //! which can be followed on paper, and [`last_sweep`] finds them in its buffers. `docs/FORMAT.md` has the bytes of a
 //! plan and of a turn list, what each turn does, the sweeps, and the declines with their order; `include/tinshrew.h` is
-//! the same interface for C.
+//! the same interface for C. A plan of version 1 has up to 16 dishes in a slot, one of version 2 up to 32; every call
+//! takes both.
 //!
 //! From the bytes of a plan to its lists:
 //!
@@ -27,8 +28,8 @@
 //! let report = run_round(&plan, &mut work, &mut lists)?;
 //! assert_eq!(report.status, Status::Closed);
 //!
-//! // A cell for each slot, lowest bit for its first dish. Slot 1 has lost its second, which is too salty for both of
-//! // slot 2.
+//! // In version 1 a cell for each slot, lowest bit for its first dish. Slot 1 has lost its second, which is too salty for
+//! // both of slot 2.
 //! assert_eq!(lists[..counts.slots], [0b01, 0b11]);
 //! # Ok::<(), tinshrew::Decline>(())
 //! ```
@@ -55,12 +56,12 @@ pub use decline::Decline;
 pub use place::{Section, Turn};
 pub use report::{Counts, Report, Status};
 
-/// The version of the interface that this package is written for.
-pub const VERSION: usize = 1;
-/// How many work cells a run needs.
-pub const WORK_CELLS: usize = 24_576;
-/// How many list cells a run needs, and each of the two buffers of the sweeps.
-pub const LIST_CELLS: usize = 32;
+/// The version of the interface that this package is written for; it is not the version of a plan.
+pub const VERSION: usize = 2;
+/// How many work cells a run needs, whatever the plan.
+pub const WORK_CELLS: usize = 30_720;
+/// How many list cells a run needs, and each of the two buffers of the sweeps, whatever the plan.
+pub const LIST_CELLS: usize = 64;
 /// How many bytes a turn list has at most.
 pub const TURN_BYTES: usize = 65_536;
 
@@ -104,9 +105,34 @@ pub fn check_plan(plan: &[u8]) -> Result<Counts, Decline> {
 
 /// Plays the turns of a list on a plan, two bytes each: the actor and the deed.
 ///
-/// On success `lists[s - 1]` holds the listed dishes of slot s: lowest bit for its first dish, 1 where it is still
-/// listed. The first [`WORK_CELLS`] work cells are 0. All later cells of both keep what they had. What `work` held
-/// before plays no part.
+/// On success `lists` holds the listed dishes of each slot, a bit for each: lowest bit of a cell for the first of its
+/// dishes, 1 where it is still listed. Of slot s, with n slots in the plan, that is
+///
+/// - `lists[s - 1]` for a plan of version 1, which has n such cells;
+/// - `lists[2 * s - 2]` for dishes 17 to 32 and `lists[2 * s - 1]` for dishes 1 to 16 for a plan of version 2, which has
+///   2n.
+///
+/// The first [`WORK_CELLS`] work cells are 0. All later cells of both keep what they had. What `work` held before plays
+/// no part.
+///
+/// ```
+/// use tinshrew::{check_plan, run_turns, LIST_CELLS, WORK_CELLS};
+///
+/// let mut plan = vec![
+///     2,             // version
+///     0, 3, 1, 1, 0, // head: 1 kitchen, 1 slot, no rule
+///     0, 74, 1, 18,  // slot 1, kitchen 1: 18 dishes
+/// ];
+/// for code in 1..=18 {
+///     plan.extend([0, code, 0, 0]);
+/// }
+/// let (mut work, mut lists) = (vec![0; WORK_CELLS], [0; LIST_CELLS]);
+/// run_turns(&plan, &[], &mut work, &mut lists)?;
+///
+/// // The higher half comes first: dishes 17 and 18, then dishes 1 to 16.
+/// assert_eq!(lists[..2 * check_plan(&plan)?.slots], [0b11, 0xFFFF]);
+/// # Ok::<(), tinshrew::Decline>(())
+/// ```
 pub fn run_turns(plan: &[u8], turns: &[u8], work: &mut [u16], lists: &mut [u16]) -> Result<Report, Decline> {
     same_version();
     let mut out = library::RunOut::default();
@@ -159,7 +185,7 @@ pub fn run_round(plan: &[u8], work: &mut [u16], lists: &mut [u16]) -> Result<Rep
 /// Since it strikes nothing, the other buffer holds them too. Later cells of both keep what they had, and what the
 /// others held before plays no part.
 ///
-/// It takes less than 50 KiB of stack.
+/// It takes less than 62 KiB of stack.
 ///
 /// ```
 /// use tinshrew::{check_plan, last_sweep, run_sweeps, LIST_CELLS};
@@ -200,6 +226,8 @@ pub fn run_sweeps(plan: &[u8], first: &mut [u16], second: &mut [u16]) -> Result<
 
 /// The part of two buffers that holds the last of so many sweeps: `count` cells from the start of the second buffer for
 /// an odd number, of the first for an even one, 0 too. It is empty where that buffer has fewer cells.
+///
+/// All lists are as many cells as the plan has slots, and twice as many for a plan of version 2.
 pub fn last_sweep<'a>(first: &'a [u16], second: &'a [u16], sweeps: usize, count: usize) -> &'a [u16] {
     same_version();
     let mut out = library::LastSweepOut::default();

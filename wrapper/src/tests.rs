@@ -6,6 +6,7 @@ mod declines;
 mod header;
 mod places;
 mod sweeps;
+mod version_2;
 
 /// The plan P of `docs/FORMAT.md`, which has what each part of it means.
 const P: &str = "01 0003020302 000A 0102 000B012C 000C0384 000A 0202 001501F4 00160320 \
@@ -43,12 +44,12 @@ impl Buffers {
         run_round(plan, &mut self.work, &mut self.lists)
     }
 
-    /// The cells of the slots, once all other cells are seen to be as a run leaves them.
-    fn cells(&self, slots: usize) -> &[u16] {
+    /// So many list cells, those of the slots, once all other cells are seen to be as a run leaves them.
+    fn cells(&self, count: usize) -> &[u16] {
         assert!(self.work[..WORK_CELLS].iter().all(|&c| c == 0));
         assert!(self.work[WORK_CELLS..].iter().all(|&c| c == HELD));
-        assert!(self.lists[slots..].iter().all(|&c| c == HELD));
-        &self.lists[..slots]
+        assert!(self.lists[count..].iter().all(|&c| c == HELD));
+        &self.lists[..count]
     }
 
     fn unchanged(&self) -> bool {
@@ -76,11 +77,11 @@ impl SweepBuffers {
         run_sweeps(plan, &mut self.first, &mut self.second)
     }
 
-    /// The cells of the slots in both, once all later cells are seen to be as they were.
-    fn cells(&self, slots: usize) -> [&[u16]; 2] {
+    /// So many cells of both, those of the slots, once all later cells are seen to be as they were.
+    fn cells(&self, count: usize) -> [&[u16]; 2] {
         [&self.first, &self.second].map(|buffer| {
-            assert!(buffer[slots..].iter().all(|&c| c == HELD));
-            &buffer[..slots]
+            assert!(buffer[count..].iter().all(|&c| c == HELD));
+            &buffer[..count]
         })
     }
 

@@ -6,14 +6,14 @@ use mathlib.Core.Logic.{_⊎_, ⊎-elim}
 use mathlib.Core.Option.{Option, none, some}
 use mathlib.Core.Path.{_≡_, refl, sym, _∙_, ap, ap₂, subst}
 use native.Mathlib.Decide.{ℕ-discrete}
-use native.Mathlib.Nat.{not-suc-le-zero, eq-or-lt-of-le, le-of-suc-le-suc, le-step, le-refl, suc-mul}
+use native.Mathlib.Nat.{not-suc-le-zero, eq-or-lt-of-le, le-of-suc-le-suc, le-step, le-refl, mul-zero, mul-suc, mul-le-mul-left}
 use native.Mathlib.Numerals.{add-one}
 use native.Mathlib.Omega.{arith}
 use lib.ListN.{length, getD, length-append, List·getD-append}
-use lib.Seq.{getD-at}
+use lib.Seq.{getD-at, getD-append-add}
 use Rattle.base.proofs.Bools.{clash, refuted, and-left, and-right, and-intro, and-false, or-cases, or-left, or-right, or-false}
 use Rattle.base.proofs.Choice.{none≢some}
-use Rattle.base.specs.Below.{anyBelow, allBelow, gatherBelow, listBelow, firstBelow}
+use Rattle.base.specs.Below.{sumBelow, anyBelow, allBelow, gatherBelow, listBelow, firstBelow}
 use Rattle.base.specs.Choice.{firstOf}
 
 -- below n + 1: below n, or n itself
@@ -97,17 +97,38 @@ module _ {ℓ} {A : Type ℓ} where
   gather-none zero f h = refl
   gather-none (suc n) f h = ap₂ _++_ (gather-none n f (λ i p. h i (le-step p))) (h n (le-refl (suc n)))
 
-  -- parts of at most `c` members each gather at most `n * c`
-  pub gather-length : (n c : ℕ) (f : ℕ → List A) → ((i : ℕ) → i < n → length (f i) ≤ c) → length (gatherBelow n f) ≤ n * c
+  -- parts of at most `c i` members each gather at most the sum of these
+  pub gather-length : (n : ℕ) (c : ℕ → ℕ) (f : ℕ → List A) → ((i : ℕ) → i < n → length (f i) ≤ c i)
+      → length (gatherBelow n f) ≤ sumBelow n c
   gather-length zero c f h = omega arith
   gather-length (suc n) c f h =
       omega (
         arith,
-        suc-mul n c,
         length-append (gatherBelow n f) (f n),
         gather-length n c f (λ i p. h i (le-step p)),
         h n (le-refl (suc n)),
       )
+
+  -- parts of `c` members each: so many together
+  pub gather-even : (n c : ℕ) (f : ℕ → List A) → ((i : ℕ) → length (f i) ≡ c) → length (gatherBelow n f) ≡ c * n
+  gather-even zero c f h = omega (arith, mul-zero c)
+  gather-even (suc n) c f h = omega (arith, mul-suc c n, length-append (gatherBelow n f) (f n), gather-even n c f h, h n)
+
+  -- and each part at its place
+  pub gather-at : (n c : ℕ) (f : ℕ → List A) → ((i : ℕ) → length (f i) ≡ c) → (d : A) (x j : ℕ) → x < n → j < c
+      → getD (gatherBelow n f) (c * x + j) d ≡ getD (f x) j d
+  gather-at zero c f h d x j p q = absurd (not-suc-le-zero p)
+  gather-at (suc n) c f h d x j p q =
+      ⊎-elim
+      (λ e.
+      let at-end : c * x + j ≡ length (gatherBelow n f) + j = omega (arith, gather-even n c f h, ap (λ (k : ℕ). c * k) e) in
+      ap (λ (k : ℕ). getD (gatherBelow n f ++ f n) k d) at-end
+      ∙ getD-append-add (gatherBelow n f) (f n) j d
+      ∙ ap (λ (k : ℕ). getD (f k) j d) (sym e))
+      (λ l.
+      let inside : c * x + j < length (gatherBelow n f) = omega (arith, gather-even n c f h, mul-suc c x, mul-le-mul-left c l) in
+      List·getD-append (gatherBelow n f) (f n) d (c * x + j) inside ∙ gather-at n c f h d x j l q)
+      (below-cases p)
 
   -- a function of every member of gathered parts
   pub map-gather : {B : Type ℓ} (h : A → B) (n : ℕ) (f : ℕ → List A) → gatherBelow n (λ i. map h (f i)) ≡ map h (gatherBelow n f)

@@ -2,6 +2,7 @@ pub mod Below
 pub mod Bools
 pub mod Bytes
 pub mod Choice
+pub mod Digits
 pub mod Each
 pub mod Loops
 pub mod Members

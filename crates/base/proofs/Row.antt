@@ -154,9 +154,9 @@ pub row-more : (n r p : ℕ) (t : ℕ → Bool) → r ≡ rowOf n t → p ≡ co
 unfolding rowOf
 row-more n r p t e q = sum-more r p n (λ w. cond (t w) (2 ^ w) 0) e q
 
--- a row of at most 16 values
-pub row-low : (n : ℕ) (t : ℕ → Bool) → n ≤ 16 → rowOf n t < 65536
-row-low n t h = omega (arith, row-small n t, pow-mono h)
+-- and below 2 to the power of any width that it fits
+pub row-low : (width n : ℕ) (t : ℕ → Bool) → n ≤ width → rowOf n t < 2 ^ width
+row-low width n t h = omega (arith, row-small n t, pow-mono h)
 
 module _ (n : ℕ) (t : ℕ → Bool) where
   -- an empty row is of no value

@@ -16,10 +16,10 @@ use Rattle.base.proofs.Below.{all-below, below-cases}
 use Rattle.base.proofs.Bools.{and-left, and-right, and-intro}
 use Rattle.base.proofs.Choice.{cond-true}
 use Rattle.base.specs.Below.{allBelow}
-use Rattle.cells.proofs.Halves.{part-same, part-other}
+use Rattle.cells.proofs.Halves.{share-same, share-other}
 use Rattle.cells.proofs.Stores.{store-is}
 use Rattle.cells.specs.Layout.{BEHIND, regions, region, ends, regionAt, cellRow, address, room, Fits}
-use Rattle.cells.specs.Memory.{partOf, withPart, memOf, store}
+use Rattle.cells.specs.Memory.{shareOf, withShare, memOf, store}
 use Rattle.cells.specs.declared.Region.{Region}
 
 -- each region ends before the next begins, computed over the table
@@ -95,7 +95,7 @@ same-cell r i j s k l low row col row′ col′ e =
 
 -- a read
 mem-get : (cells : List ℕ) (r i j : ℕ) → i < regionAt r .rows → j < regionAt r .cols
-    → memOf cells r i j ≡ partOf (regionAt r) i (getD cells (address (regionAt r) i j) 0)
+    → memOf cells r i j ≡ shareOf (regionAt r) i (getD cells (address (regionAt r) i j) 0)
 unfolding memOf
 mem-get cells r i j row col =
     cond-true _ 0 (and-intro (lt-ltb i (regionAt r .rows) row) (lt-ltb j (regionAt r .cols) col))
@@ -108,7 +108,7 @@ module _ (cells : List ℕ) (r i j v : ℕ) (low : r < BEHIND) (row : i < region
 
   -- what it then holds
   abbrev changed : ℕ
-  changed = withPart (regionAt r) i v (getD cells here 0)
+  changed = withShare (regionAt r) i v (getD cells here 0)
 
   -- the cells after the store
   abbrev new : List ℕ
@@ -120,8 +120,8 @@ module _ (cells : List ℕ) (r i j v : ℕ) (low : r < BEHIND) (row : i < region
   -- it puts its value
   put-here : memOf new r i j ≡ v
   put-here =
-      mem-get new r i j row col ∙ ap (partOf (regionAt r) i) changed-here
-      ∙ part-same (regionAt r) i v (getD cells here 0) small
+      mem-get new r i j row col ∙ ap (shareOf (regionAt r) i) changed-here
+      ∙ share-same (regionAt r) i v (getD cells here 0) small
 
   -- and leaves every other point alone
   put-apart : (s k l : ℕ) → (s ≡ r → k ≡ i → l ≡ j → ⊥) → memOf new s k l ≡ memOf cells s k l
@@ -133,14 +133,14 @@ module _ (cells : List ℕ) (r i j v : ℕ) (low : r < BEHIND) (row : i < region
 
       -- the other row of the cell
       shared : (s ≡ r) × (cellRow (regionAt r) k ≡ cellRow (regionAt r) i) × (l ≡ j) → there ≡ here
-          → partOf (regionAt s) k (getD new there 0) ≡ partOf (regionAt s) k (getD cells there 0)
+          → shareOf (regionAt s) k (getD new there 0) ≡ shareOf (regionAt s) k (getD cells there 0)
       shared p e =
           rw (e, p .0)
-          (ap (partOf (regionAt r) k) changed-here
-          ∙ part-other (regionAt r) i v (getD cells here 0) small k (p .1) (λ q. n (p .0) q (p .2)))
+          (ap (shareOf (regionAt r) k) changed-here
+          ∙ share-other (regionAt r) i v (getD cells here 0) small k (p .1) (λ q. n (p .0) q (p .2)))
 
       go : (b : Bool) → ltb k (regionAt s .rows) && ltb l (regionAt s .cols) ≡ b
-          → cond b (partOf (regionAt s) k (getD new there 0)) 0 ≡ cond b (partOf (regionAt s) k (getD cells there 0)) 0
+          → cond b (shareOf (regionAt s) k (getD new there 0)) 0 ≡ cond b (shareOf (regionAt s) k (getD cells there 0)) 0
       go true e =
           elim (ℕ-discrete there here) [
             | yes p ↦
@@ -149,7 +149,7 @@ module _ (cells : List ℕ) (r i j v : ℕ) (low : r < BEHIND) (row : i < region
                 (ltb-true k (regionAt s .rows) (and-left (ltb k (regionAt s .rows)) (ltb l (regionAt s .cols)) e))
                 (ltb-true l (regionAt s .cols) (and-right (ltb k (regionAt s .rows)) (ltb l (regionAt s .cols)) e)) p)
                 p
-            | no d ↦ ap (partOf (regionAt s) k) (getD-set-other cells here there changed 0 d)
+            | no d ↦ ap (shareOf (regionAt s) k) (getD-set-other cells here there changed 0 d)
           ]
       go false e = refl
 
@@ -175,15 +175,15 @@ module _ (cells : List ℕ) (g : Region) (i j : ℕ) (fits : Fits cells g i j) w
   place-needed =
       by-table (λ h. address h i j < workNeed) (place-low (g .id) i j (fits .writable) row-known col-known)
 
-  pub get-law : memOf cells (g .id) i j ≡ partOf g i (getD cells (address g i j) 0)
+  pub get-law : memOf cells (g .id) i j ≡ shareOf g i (getD cells (address g i j) 0)
   get-law =
-      by-table (λ h. memOf cells (g .id) i j ≡ partOf h i (getD cells (address h i j) 0))
+      by-table (λ h. memOf cells (g .id) i j ≡ shareOf h i (getD cells (address h i j) 0))
       (mem-get cells (g .id) i j row-known col-known)
 
   pub put-law : (v : ℕ) → v < room g
-      → memOf (set cells (address g i j) (withPart g i v (getD cells (address g i j) 0))) ≡ store (memOf cells) (g .id) i j v
+      → memOf (set cells (address g i j) (withShare g i v (getD cells (address g i j) 0))) ≡ store (memOf cells) (g .id) i j v
   put-law v small =
       by-table
-      (λ h. memOf (set cells (address h i j) (withPart h i v (getD cells (address h i j) 0))) ≡ store (memOf cells) (g .id) i j v)
+      (λ h. memOf (set cells (address h i j) (withShare h i v (getD cells (address h i j) 0))) ≡ store (memOf cells) (g .id) i j v)
       (mem-put cells (g .id) i j v (fits .writable) row-known col-known (fits .long)
       (subst (λ (h : Region). v < room h) (sym (fits .known)) small))

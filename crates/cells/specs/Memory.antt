@@ -14,18 +14,18 @@ Mem = ℕ → ℕ → ℕ → ℕ
 
 -- what cell `c` has for row `i` of a region: all of it, or if the region is halved, its high byte for an odd row and its low
 -- byte for an even one
-unfoldable pub partOf : Region → ℕ → ℕ → ℕ
-partOf g i c = cond (g .halved) (cond (isOdd i) (c / 256) (c % 256)) c
+unfoldable pub shareOf : Region → ℕ → ℕ → ℕ
+shareOf g i c = cond (g .halved) (cond (isOdd i) (c / 256) (c % 256)) c
 
 -- cell `c` with `v` for that row
-unfoldable pub withPart : Region → ℕ → ℕ → ℕ → ℕ
-withPart g i v c = cond (g .halved) (cond (isOdd i) (v * 256 + c % 256) (c / 256 * 256 + v)) v
+unfoldable pub withShare : Region → ℕ → ℕ → ℕ → ℕ
+withShare g i v c = cond (g .halved) (cond (isOdd i) (v * 256 + c % 256) (c / 256 * 256 + v)) v
 
 -- what the cells hold, and 0 outside of the regions
 unfoldable pub memOf : List ℕ → Mem
 memOf cells r i j =
     cond (ltb i (regionAt r .rows) && ltb j (regionAt r .cols))
-    (partOf (regionAt r) i (getD cells (address (regionAt r) i j) 0)) 0
+    (shareOf (regionAt r) i (getD cells (address (regionAt r) i j) 0)) 0
 
 -- `v` at row `i` and column `j` of region `r`, all else as before
 abbrev pub store : Mem → ℕ → ℕ → ℕ → ℕ → Mem

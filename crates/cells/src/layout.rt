@@ -14,7 +14,7 @@ ghost use lib.Dec.{eqb};
 ghost use Rattle.base.specs.Row.{rowOf};
 ghost use Rattle.disac4.specs.Need.{workNeed};
 ghost use Rattle.cells.specs.Layout.{VALUEROOM, cellRow, address, room, Fits};
-ghost use Rattle.cells.specs.Memory.{partOf, withPart, memOf, store};
+ghost use Rattle.cells.specs.Memory.{shareOf, withShare, memOf, store};
 
 // Columns of a worker's row, and of a sender's row of cursors.
 pub const WORKERCOLS: usize = 16;
@@ -213,7 +213,7 @@ fn cell_row(g: Region, i: usize) -> usize
     if g.halved { i / 2 } else { i }
 }
 
-// The cell at a row and column of a region.
+// Where the cell at a row and column of a region stands.
 fn place(g: Region, i: usize, j: usize) -> usize
     requires { ⌜ address g i j < workNeed ⌝ }
     ensures { λ r. ⌜ r ≡ address g i j ⌝ }
@@ -224,9 +224,9 @@ fn place(g: Region, i: usize, j: usize) -> usize
 }
 
 // What a cell has for row i of a region. How far it is shifted is the same along a row, so that a loop over columns has no test.
-fn part(g: Region, i: usize, c: usize) -> usize
+fn share(g: Region, i: usize, c: usize) -> usize
     requires { ⌜ c < 65536 ⌝ }
-    ensures { λ r. ⌜ (r ≡ partOf g i c) × (r < room g) ⌝ }
+    ensures { λ r. ⌜ (r ≡ shareOf g i c) × (r < room g) ⌝ }
 {
     if !g.halved {
         return c;
@@ -234,10 +234,10 @@ fn part(g: Region, i: usize, c: usize) -> usize
     (c >> (i % 2 * 8)) % 256
 }
 
-// A cell with v for row i of a region. 65,280 is a cell's high byte: shifted with v, it is always the other row's half.
-fn with_part(g: Region, i: usize, v: usize, c: usize) -> usize
+// A cell with v for row i of a region. 65,280 is a cell's high byte: it goes down as far as v goes up, to the other row's half.
+fn with_share(g: Region, i: usize, v: usize, c: usize) -> usize
     requires { ⌜ (v < room g) × (c < 65536) ⌝ }
-    ensures { λ r. ⌜ (r ≡ withPart g i v c) × (r < 65536) ⌝ }
+    ensures { λ r. ⌜ (r ≡ withShare g i v c) × (r < 65536) ⌝ }
 {
     if !g.halved {
         return v;
@@ -252,7 +252,7 @@ pub fn get(cells: &[u16], g: Region, i: usize, j: usize) -> usize
     ensures { λ r. ⌜ (r ≡ memOf (now (cells .entry)) (g .id) i j) × (r < room g) ⌝ }
 {
     let at = place(g, i, j);
-    part(g, i, cells[at] as usize)
+    share(g, i, cells[at] as usize)
 }
 
 // Puts a number at a row and column of a region.
@@ -261,7 +261,7 @@ pub fn put(cells: &mut [u16], g: Region, i: usize, j: usize, v: usize)
     ensures { λ r. ⌜ memOf (now (cells .exit)) ≡ store (memOf (now (cells .entry))) (g .id) i j v ⌝ }
 {
     let at = place(g, i, j);
-    cells[at] = with_part(g, i, v, cells[at] as usize) as u16;
+    cells[at] = with_share(g, i, v, cells[at] as usize) as u16;
 }
 
 // The row of the values below n whose cells in row i of a region hold c.

@@ -4,12 +4,14 @@ use mathlib.Core.Bool.{Bool, true, false, cond, _&&_}
 use mathlib.Core.List.{List}
 use mathlib.Core.Option.{none}
 use mathlib.Core.Path.{_≡_, sym, _∙_, ap, ap₂}
+use native.Mathlib.Decide.{decLt}
 use native.Mathlib.Omega.{arith}
 use lib.ListN.{getD, set, length-set}
+use lib.Pow.{pow-mono}
 use lib.Seq.{getD-set-same, getD-set-other}
 use Rattle.base.proofs.Below.{up-to}
 use Rattle.base.proofs.Choice.{cond-true, cond-false}
-use Rattle.base.proofs.Row.{row-bit, row-small, row-ext, row-more, row-low}
+use Rattle.base.proofs.Row.{row-bit, row-small, bit-past, row-ext, row-more}
 use Rattle.base.specs.Row.{bit, rowOf}
 use Rattle.disac4.specs.System.{System}
 use Rattle.network.specs.Network.{supports}
@@ -23,17 +25,19 @@ use Rattle.cells.specs.Memory.{Mem}
 use Rattle.cells.specs.Layout.{VALUEROOM}
 use Rattle.index.proofs.Linked.{linked-inside}
 use Rattle.index.proofs.Places.{few-values}
-use Rattle.counting.specs.Count.{FirstRows, supportRow, countPairM, countAgainstM, countBothM}
+use Rattle.counting.specs.Count.{FirstRows, Gathers, Gathered, supportRow, countPairM, countAgainstM, countBothM}
 
--- a variable has no more values than there is room for, so a row of them fits a cell
+-- a variable has no more values than there is room for, and so has a row of them
 module _ (b : List ℕ) (sound : planFault b ≡ none) (x y : ℕ) (e : shareConstraint (planOf b) x y ≡ true) where
   pub size-low : networkOf (planOf b) .size y ≤ VALUEROOM
   unfolding networkOf
   size-low = let h = linked-inside b sound x y e .1 in omega (arith, size-read b y h, few-values b sound y h)
 
-  pub supports-fit : (v row : ℕ) → row ≡ supportRow (networkOf (planOf b)) x y v → row < 65536
-  supports-fit v row r =
-      omega (arith, row-low (networkOf (planOf b) .size y) (supports (networkOf (planOf b)) x v y) size-low)
+  pub supports-held : (v row : ℕ) → row ≡ supportRow (networkOf (planOf b)) x y v → row < 2 ^ networkOf (planOf b) .size y
+  supports-held v row r = omega (arith, row-small (networkOf (planOf b) .size y) (supports (networkOf (planOf b)) x v y))
+
+  pub supports-fit : (v row : ℕ) → row ≡ supportRow (networkOf (planOf b)) x y v → row < 2 ^ VALUEROOM
+  supports-fit v row r = omega (arith, supports-held v row r, pow-mono size-low)
 
 -- ---- rows
 
@@ -44,6 +48,23 @@ rows-more f k rows row h r e = record {
   each =
       up-to (λ v. getD (set rows k row) v 0 ≡ f v) k (getD-set-same rows k row 0 (omega (arith, r .long)) ∙ e)
       (λ v l. getD-set-other rows k v row 0 (λ q. omega arith) ∙ r .each v l);
+}
+
+-- what holds of the values below `n` holds of those below a higher number
+pub gathers-more : {rows : List ℕ} {n row v : ℕ} (m : ℕ) → n ≤ m → m ≤ VALUEROOM → Gathers rows n row v → Gathers rows m row v
+gathers-more m h few g =
+    record { long = g .long; few = few; value = g .value; held = omega (arith, g .held, pow-mono h); lower = g .lower }
+
+-- where a value is put into the first `n` rows alone, it is put into all: its own row holds none from `n` on
+pub rows-past : (n row v : ℕ) (old rows : List ℕ) → row < 2 ^ n → FirstRows (λ w. getD old w 0 + cond (bit row w) (2 ^ v) 0) n rows
+    → ((w : ℕ) → n ≤ w → getD rows w 0 ≡ getD old w 0)
+    → Gathered row v old rows
+rows-past n row v old rows held first rest = record {
+  long = first .long;
+  each = λ w h. elim (decLt w n) [
+    | yes l ↦ first .each w l
+    | no l ↦ rest w (omega arith) ∙ omega (arith, cond-false (2 ^ v) 0 (bit-past n row w held (omega arith)))
+  ];
 }
 
 -- the rows of `y`, as they are gathered from those of `x`
@@ -62,7 +83,7 @@ module _ (plan : Plan) (x y : ℕ) where
 
   -- one value more
   pub gathered-more : (v : ℕ) (rows new : List ℕ) (row : ℕ) → FirstRows (gathered v) VALUEROOM rows → row ≡ supportRow (networkOf plan) x y v
-      → FirstRows (λ w. getD rows w 0 + cond (bit row w) (2 ^ v) 0) VALUEROOM new → FirstRows (gathered (v + 1)) VALUEROOM new
+      → Gathered row v rows new → FirstRows (gathered (v + 1)) VALUEROOM new
   gathered-more v rows new row g e a = record {
     long = a .long;
     each = λ w h.

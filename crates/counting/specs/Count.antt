@@ -1,11 +1,11 @@
 -- Counting the supports in memory, where the plan's index stands already: the counters of each two linked variables.
-use Prim.Native.Nat.{ℕ, _<_}
+use Prim.Native.Nat.{ℕ, _+_, _^_, _<_, _≤_}
 use mathlib.Core.Bool.{cond}
 use mathlib.Core.List.{List}
 use mathlib.Core.Path.{_≡_}
 use lib.ListN.{length, getD}
 use Rattle.base.specs.Below.{loop}
-use Rattle.base.specs.Row.{rowOf}
+use Rattle.base.specs.Row.{bit, rowOf}
 use Rattle.disac4.specs.System.{System}
 use Rattle.network.specs.Network.{Network, supports, supportCount}
 use Rattle.cells.specs.Layout.{COUNTERS, VALUEROOM}
@@ -20,6 +20,18 @@ supportRow net x y v = rowOf (net .size y) (supports net x v y)
 pub record FirstRows (f : ℕ → ℕ) (n : ℕ) (rows : List ℕ) : Type 0 where
   pub long : length rows ≡ VALUEROOM
   pub each : (v : ℕ) → v < n → getD rows v 0 ≡ f v
+
+-- value `v` can be put into the rows of the values that its own row holds: those are below `n`, and the rows have lower values only
+pub record Gathers (rows : List ℕ) (n row v : ℕ) : Type 0 where
+  pub long : length rows ≡ VALUEROOM
+  pub few : n ≤ VALUEROOM
+  pub value : v < VALUEROOM
+  pub held : row < 2 ^ n
+  pub lower : (w : ℕ) → w < VALUEROOM → getD rows w 0 < 2 ^ v
+
+-- value `v` was put into the row of each value that its own row holds
+abbrev pub Gathered : ℕ → ℕ → List ℕ → List ℕ → Type 0
+Gathered row v old new = FirstRows (λ w. getD old w 0 + cond (bit row w) (2 ^ v) 0) VALUEROOM new
 
 -- the counter of value `v` of `x` against `y`, in row `at`
 abbrev pub countValueM : System → ℕ → ℕ → ℕ → ℕ → Mem → Mem

@@ -7,11 +7,9 @@ use cells::layout;
 use cells::layout::VALUEROOM;
 use format::read;
 use index::parts;
-ghost use mathlib.Core.Bool.{true, cond};
+ghost use mathlib.Core.Bool.{true};
 ghost use mathlib.Core.Path.{_≡_};
-ghost use Prim.Native.Nat.{ℕ, _+_, _^_, _<_};
-ghost use lib.ListN.{length, getD};
-ghost use Rattle.base.specs.Row.{bit};
+ghost use Prim.Native.Nat.{_<_};
 ghost use Rattle.disac4.specs.System.{systemAt};
 ghost use Rattle.plan.specs.Decode.{planOf};
 ghost use Rattle.plan.specs.Network.{shareConstraint, networkOf};
@@ -20,10 +18,13 @@ ghost use Rattle.format.specs.Format.{variableCount};
 ghost use Rattle.index.specs.Index.{Ready};
 ghost use Rattle.cells.specs.Memory.{memOf};
 ghost use Rattle.cells.specs.Layout.{VALUEROOM};
-ghost use Rattle.counting.specs.Count.{FirstRows, supportRow, countPairM, countBothM, countVariableM, countSupportsM};
+ghost use Rattle.counting.specs.Count.{FirstRows, Gathers, Gathered, supportRow, countPairM, countBothM, countVariableM, countSupportsM};
 
 // A row for each value of a variable.
-type Rows = [u16; VALUEROOM];
+type Rows = [u32; VALUEROOM];
+
+// Half as many values as there is room for.
+const HALFROOM: usize = VALUEROOM / 2;
 
 // Rows without a value.
 fn no_rows() -> Rows
@@ -32,15 +33,28 @@ fn no_rows() -> Rows
     [0; VALUEROOM]
 }
 
-// Puts value v into the row of each value that the row of v holds. The rows have lower values only, so its bit is added.
-fn gather(rows: &mut Rows, row: usize, v: usize)
-    requires { ⌜ (length (now rows) ≡ VALUEROOM) × (v < VALUEROOM) × ((w : ℕ) → w < VALUEROOM → getD (now rows) w 0 < 2 ^ v) ⌝ }
-    ensures { λ _. ⌜ FirstRows (λ w. getD (now (rows .entry)) w 0 + cond (bit row w) (2 ^ v) 0) VALUEROOM (now (rows .exit)) ⌝ }
+// Puts value v into the row of each value that the row of v holds, which are below n. The rows have lower values only, so its bit
+// is added.
+fn gather_below(rows: &mut Rows, n: usize, row: usize, v: usize)
+    requires { ⌜ Gathers (now rows) n row v ⌝ }
+    ensures { λ _. ⌜ Gathered row v (now (rows .entry)) (now (rows .exit)) ⌝ }
 {
     let mut w = 0;
-    while w < VALUEROOM {
-        rows[w] += row_if(row_holds(row, w), v) as u16;
+    while w < n {
+        rows[w] += row_if(row_holds(row, w), v) as u32;
         w += 1;
+    }
+}
+
+// The same in one of two fixed numbers of steps: the compiler makes more of a loop whose length it knows.
+fn gather(rows: &mut Rows, n: usize, row: usize, v: usize)
+    requires { ⌜ Gathers (now rows) n row v ⌝ }
+    ensures { λ _. ⌜ Gathered row v (now (rows .entry)) (now (rows .exit)) ⌝ }
+{
+    if n <= HALFROOM {
+        gather_below(rows, HALFROOM, row, v);
+    } else {
+        gather_below(rows, VALUEROOM, row, v);
     }
 }
 
@@ -51,12 +65,13 @@ fn support_rows(plan: &[u8], cells: &[u16], x: usize, y: usize, others: &mut Row
     ensures { λ r. ⌜ FirstRows (supportRow (networkOf (planOf (now (plan .entry)))) x y) (sizeOf (planOf (now (plan .entry))) x) r × FirstRows (supportRow (networkOf (planOf (now (plan .entry)))) y x) (sizeOf (planOf (now (plan .entry))) y) (now (others .exit)) ⌝ }
 {
     let n = parts::size(plan, cells, x);
+    let m = parts::size(plan, cells, y);
     let mut rows = no_rows();
     let mut v = 0;
     while v < n {
         let row = supports::support_row(plan, cells, x, v, y);
-        rows[v] = row as u16;
-        gather(others, row, v);
+        rows[v] = row as u32;
+        gather(others, m, row, v);
         v += 1;
     }
     rows

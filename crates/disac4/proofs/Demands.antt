@@ -98,7 +98,7 @@ module _ (sys : System) (sound : Sound sys) where
 -- ---- accepted plans
 
 -- the system of an accepted plan is sound
-pub plan-sound : (plan : Plan) → WellFormed plan → Sound (systemOf plan)
+pub plan-sound : {most : ℕ} (plan : Plan) → WellFormed most plan → Sound (systemOf plan)
 unfolding systemOf networkOf
 plan-sound plan w = record {
   few = w .workers-high;

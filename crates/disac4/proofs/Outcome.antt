@@ -1,21 +1,27 @@
 -- What a run leaves in the lent buffers, and when it reports or declines.
-use Prim.Native.Nat.{ℕ, _≤_}
+use Prim.Native.Nat.{ℕ, _*_, _≤_}
 use mathlib.Core.List.{List}
 use mathlib.Core.Logic.{_⊎_, inl, inr}
 use mathlib.Core.Option.{none}
 use mathlib.Core.Path.{_≡_, refl, _∙_}
+use native.Mathlib.Nat.{mul-le-mul-right}
 use native.Mathlib.Omega.{arith}
 use lib.ListN.{length, replicate, length-replicate, getD-replicate}
-use Rattle.base.proofs.Below.{length-list-below}
+use Rattle.base.proofs.Below.{gather-even}
+use Rattle.base.proofs.Digits.{length-digits}
+use Rattle.format.proofs.Widths.{words-range}
+use Rattle.format.specs.Limits.{wordBits}
+use Rattle.format.specs.Lists.{rowCells}
+use Rattle.format.specs.Version.{rowWords}
 use Rattle.lending.proofs.Outcome.{Answers}
 use Rattle.lending.proofs.Overwritten.{overwrite-front, overwrite-back, overwrite-length, overwrite-starts}
 use Rattle.plan.proofs.WellFormed.{read-well-formed}
 use Rattle.plan.specs.Decode.{planFault}
 use Rattle.network.specs.Network.{Network, Domains}
 use Rattle.plan.specs.Network.{networkOf}
-use Rattle.disac4.specs.Outcome.{Lent, written, Run, played, callOf, Written}
+use Rattle.disac4.specs.Outcome.{Lent, finalCells, written, Run, played, callOf, Written}
 use Rattle.disac4.specs.Need.{workNeed, listNeed}
-use Rattle.disac4.specs.Report.{rowFrom, domainCells, listCells, final, reportOf}
+use Rattle.disac4.specs.Report.{rowFrom, domainCells, final, reportOf}
 use Rattle.disac4.specs.System.{systemOf, networkAt, systemAt}
 use Rattle.disac4.specs.Turn.{Turn}
 use Rattle.disac4.specs.declared.Answer.{Answer}
@@ -25,22 +31,30 @@ use Rattle.faults.specs.declared.Decline.{Decline}
 
 -- ---- the cells of a run
 
--- domains have a list cell for each variable
-pub lists-length : (net : Network) (d : Domains) → length (domainCells net d) ≡ net .variables
-unfolding domainCells
-lists-length net d = length-list-below (net .variables) (rowFrom net d)
+-- domains have as many list cells for each variable as a row has words
+pub lists-length : (words : ℕ) (net : Network) (d : Domains) → length (domainCells words net d) ≡ words * net .variables
+unfolding domainCells rowCells
+lists-length words net d =
+    gather-even (net .variables) words (λ x. rowCells words (rowFrom net d x)) (λ x. length-digits wordBits words (rowFrom net d x))
 
 -- so those of an accepted plan have room in the cells that are needed
-pub lists-fit : (b : List ℕ) → planFault b ≡ none → (d : Domains) → length (domainCells (networkAt b) d) ≤ listNeed
+pub lists-fit : (b : List ℕ) → planFault b ≡ none → (d : Domains) → length (domainCells (rowWords b) (networkAt b) d) ≤ listNeed
 unfolding networkOf listNeed
-lists-fit b sound d = omega (arith, lists-length (networkAt b) d, read-well-formed b sound .variables-high)
+lists-fit b sound d =
+    let n = networkAt b .variables in
+    omega (
+      arith,
+      lists-length (rowWords b) (networkAt b) d,
+      mul-le-mul-right n (words-range b .1),
+      read-well-formed b sound .variables-high,
+    )
 
 -- so buffers that are long enough have room for what is written
 pub cells-written : (b : List ℕ) (l : Lent) → planFault b ≡ none → workNeed ≤ length (l .work) → listNeed ≤ length (l .lists)
-    → (turns : List Turn) → Written l (systemAt b) turns (written (systemAt b) turns l)
+    → (turns : List Turn) → Written l b turns (written b turns l)
 unfolding written systemOf
 cells-written b l sound long-work long-lists turns =
-    let cells = listCells (systemAt b) (final (systemAt b) turns) in record {
+    let cells = finalCells b turns in record {
       work-length = overwrite-length (replicate workNeed 0) (l .work) (omega (arith, length-replicate {A = ℕ} workNeed 0));
       cleared = λ i h.
           overwrite-front (replicate workNeed 0) (l .work) i (omega (arith, length-replicate {A = ℕ} workNeed 0))

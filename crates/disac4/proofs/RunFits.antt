@@ -7,7 +7,7 @@ use native.Mathlib.Nat.{mul-le-mul}
 use native.Mathlib.Omega.{arith}
 use Rattle.format.specs.Limits.{maxWorkers, maxVariables, maxLabels}
 use Rattle.network.specs.Network.{labelCount}
-use Rattle.plan.proofs.WellFormed.{well-formed, few-labels}
+use Rattle.plan.proofs.WellFormed.{well-formed}
 use Rattle.plan.specs.Decode.{decode, accepted}
 use Rattle.plan.specs.Network.{networkOf}
 use Rattle.plan.specs.Plan.{Plan}
@@ -62,4 +62,4 @@ fits-of {sys} sound few-variables labels ts = record {
 pub run-fits : (b : List ℕ) (plan : Plan) → decode b ≡ accepted plan → (ts : List Turn) → RunFits (systemOf plan) ts
 unfolding systemOf networkOf
 run-fits b plan e ts =
-    let w = well-formed b plan e in fits-of (plan-sound plan w) (w .variables-high) (few-labels plan w) ts
+    let w = well-formed b plan e in fits-of (plan-sound plan w) (w .variables-high) (w .few-labels) ts

@@ -8,13 +8,14 @@ use Rattle.base.specs.Choice.{firstOf}
 use Rattle.faults.specs.CheckList.{_orElse_, firstFault, faultAt}
 use Rattle.plan.specs.Decode.{planFault}
 use Rattle.format.specs.Format.{workerCount}
+use Rattle.format.specs.Version.{rowWords}
 use Rattle.faults.specs.declared.Decline.{Decline}
 use Rattle.lending.specs.Call.{Outcome, outcome, overwrite, StartsWith, Buffer, Call, callFault, outcomeOf}
 use Rattle.faults.specs.declared.Fault.the-variants.{ShortWork, ShortLists, BadTurnList}
 use Rattle.disac4.specs.Report.{listCells, final, reportOf}
 use Rattle.disac4.specs.Need.{workNeed, listNeed}
 use Rattle.disac4.specs.Round.{roundRunTurns}
-use Rattle.disac4.specs.System.{System, systemAt}
+use Rattle.disac4.specs.System.{systemAt}
 use Rattle.disac4.specs.Turn.{Turn, turnsOf, turnListFits, turnFault}
 use Rattle.disac4.specs.declared.Answer.{Answer}
 use Rattle.disac4.specs.declared.Answer.the-variants.{Reported, Declined}
@@ -44,10 +45,13 @@ workBuffer = record { cells = λ l. l .work; need = workNeed; fault = ShortWork 
 abbrev pub listBuffer : Buffer Lent
 listBuffer = record { cells = λ l. l .lists; need = listNeed; fault = ShortLists }
 
+-- the list cells of a plan after these turns
+abbrev pub finalCells : List ℕ → List Turn → List ℕ
+finalCells bytes turns = listCells (rowWords bytes) (systemAt bytes) (final (systemAt bytes) turns)
+
 -- what a run that played these turns leaves in both
-unfoldable pub written : System → List Turn → Lent → Lent
-written sys turns l =
-    lent (overwrite (replicate workNeed 0) (l .work)) (overwrite (listCells sys (final sys turns)) (l .lists))
+unfoldable pub written : List ℕ → List Turn → Lent → Lent
+written bytes turns l = lent (overwrite (replicate workNeed 0) (l .work)) (overwrite (finalCells bytes turns) (l .lists))
 
 -- ---- the other inputs
 
@@ -95,7 +99,7 @@ turnRun bytes turnList = record {
   buffers = workBuffer ∷ listBuffer ∷ [];
   fault = inputFault bytes turnList;
   turns = turnsOf turnList;
-  leaves = written (systemAt bytes) (turnsOf turnList);
+  leaves = written bytes (turnsOf turnList);
 }
 
 -- the round run of a plan: never 11 or 12
@@ -105,14 +109,14 @@ roundRun bytes = record {
   buffers = workBuffer ∷ listBuffer ∷ [];
   fault = planFault bytes;
   turns = roundRunTurns (systemAt bytes);
-  leaves = written (systemAt bytes) (roundRunTurns (systemAt bytes));
+  leaves = written bytes (roundRunTurns (systemAt bytes));
 }
 
 -- ---- what is written, cell by cell
 
--- a run clears the first work cells, writes a cell for each variable, and keeps all later cells and both lengths
-pub record Written (before : Lent) (sys : System) (turns : List Turn) (after : Lent) : Type 0 where
+-- a run clears the first work cells, writes each variable's list cells, and keeps all later cells and both lengths
+pub record Written (before : Lent) (bytes : List ℕ) (turns : List Turn) (after : Lent) : Type 0 where
   pub work-length : length (after .work) ≡ length (before .work)
   pub cleared : (i : ℕ) → i < workNeed → getD (after .work) i 0 ≡ 0
   pub work-kept : (i : ℕ) → workNeed ≤ i → getD (after .work) i 0 ≡ getD (before .work) i 0
-  pub lists : StartsWith (listCells sys (final sys turns)) (before .lists) (after .lists)
+  pub lists : StartsWith (finalCells bytes turns) (before .lists) (after .lists)

@@ -4,8 +4,9 @@ use mathlib.Core.Bool.{Bool, true, cond, _&&_, not}
 use mathlib.Core.List.{List}
 use mathlib.Core.Option.{none, some, Option·getD}
 use lib.Dec.{eqb}
-use Rattle.base.specs.Below.{anyBelow, firstBelow, listBelow}
+use Rattle.base.specs.Below.{anyBelow, firstBelow, gatherBelow}
 use Rattle.base.specs.Row.{rowOf}
+use Rattle.format.specs.Lists.{rowCells}
 use Rattle.network.specs.Network.{Network, Domains}
 use Rattle.disac4.specs.Loading.{load}
 use Rattle.disac4.specs.State.{State}
@@ -30,13 +31,13 @@ statusOf sys st = cond (st .controller .closed) (cond (eqb (lowestEmpty sys st) 
 abbrev pub rowFrom : Network → Domains → ℕ → ℕ
 rowFrom net d x = rowOf (net .size x) (d x)
 
--- the list cells of domains, one for each variable (slot): the row of the values in its domain (listed dishes)
-unfoldable pub domainCells : Network → Domains → List ℕ
-domainCells net d = listBelow (net .variables) (rowFrom net d)
+-- the list cells of domains: for each variable (slot) the row of the values in its domain (listed dishes), of so many words
+unfoldable pub domainCells : ℕ → Network → Domains → List ℕ
+domainCells words net d = gatherBelow (net .variables) (λ x. rowCells words (rowFrom net d x))
 
 -- those of a state
-abbrev pub listCells : System → State → List ℕ
-listCells sys st = domainCells (sys .net) (st .domain)
+abbrev pub listCells : ℕ → System → State → List ℕ
+listCells words sys st = domainCells words (sys .net) (st .domain)
 
 -- a turn in which a worker sends
 abbrev pub isSend : Turn → Bool

@@ -15,8 +15,8 @@ use Rattle.faults.specs.Fault.{numberOf}
 use Rattle.faults.specs.declared.Decline.{Decline}
 use Rattle.disac4.specs.Event.{events, unsent, deleted}
 use Rattle.disac4.specs.Loading.{load}
-use Rattle.disac4.specs.Outcome.{inputFault}
-use Rattle.disac4.specs.Report.{reportOf, listCells, final}
+use Rattle.disac4.specs.Outcome.{inputFault, finalCells}
+use Rattle.disac4.specs.Report.{reportOf, final}
 use Rattle.disac4.specs.Round.{roundRunTurns}
 use Rattle.disac4.specs.System.{System, boundOf, systemAt}
 use Rattle.disac4.specs.Turn.{Turn, turn, allowed, turnAt, turnsOf}
@@ -60,8 +60,8 @@ unless none f = f
 unless (some d) f = decline (numberOf (d .fault)) (d .place)
 
 -- the report and list cells after these turns
-unfoldable pub ran : System → List Turn → Finding
-ran sys ts = report (reportOf sys ts) (listCells sys (final sys ts))
+unfoldable pub ran : List ℕ → List Turn → Finding
+ran b ts = report (reportOf (systemAt b) ts) (finalCells b ts)
 
 -- the deleted labels of worker `k` that are unsent after these turns
 unfoldable pub unsentLabels : System → List Turn → ℕ → List Label
@@ -71,8 +71,8 @@ unsentLabels sys ts k =
 
 -- what the definitions give
 unfoldable pub findingOf : Question → Finding
-findingOf (run b ts) = unless (inputFault b ts) (ran (systemAt b) (turnsOf ts))
-findingOf (rounds b) = unless (planFault b) (ran (systemAt b) (roundRunTurns (systemAt b)))
+findingOf (run b ts) = unless (inputFault b ts) (ran b (turnsOf ts))
+findingOf (rounds b) = unless (planFault b) (ran b (roundRunTurns (systemAt b)))
 findingOf (unsentOf b ts k) = unless (inputFault b ts) (labels (unsentLabels (systemAt b) (turnsOf ts) k))
 findingOf (allowedWith p) = turns (allowedTurns p)
 findingOf (bound b) = unless (planFault b) (number (boundOf (systemAt b)))
@@ -154,6 +154,6 @@ table =
     ∷ (rounds planRing gives reported Closed 4 0 1 0 (3 ∷ 3 ∷ 3 ∷ []))
     ∷ (solution planRing gives truth false)
     ∷ (run [] [] gives decline 1 0)
-    ∷ (run (hex 1 0x02 ++ drop 1 planP) [] gives decline 2 0)
+    ∷ (run (hex 1 0x03 ++ drop 1 planP) [] gives decline 2 0)
     ∷ (allowedWith 2 gives turns (map (λ (b : List ℕ). turnAt b 0) turnsOfTwo))
     ∷ map (λ t. run planP (turnsT ++ t) gives reported Closed 17 2 1 0 (1 ∷ 3 ∷ 1 ∷ [])) turnsOfTwo

@@ -34,9 +34,9 @@ pub const POLL_ACTION: usize = 12;
 pub const MAX_TURN_BYTES: usize = 65536;
 
 // As many cells as a run needs, of work and of lists.
-pub const WORK_NEED: usize = 24576;
+pub const WORK_NEED: usize = 30720;
 
-pub const LIST_NEED: usize = 32;
+pub const LIST_NEED: usize = 64;
 
 // A poll's number.
 pub struct Timestamp(pub u16);

@@ -6,7 +6,6 @@ use mathlib.Core.Path.{_≡_, ap}
 use native.Mathlib.Nat.{div-div-eq-div-mul, pow-suc}
 use native.Mathlib.Numerals.{add-one}
 use native.Mathlib.Omega.{arith}
-use lib.ListN.{getD}
 use Rattle.base.proofs.Below.{gather-ext}
 use Rattle.base.specs.Below.{gatherBelow}
 use Rattle.base.specs.Bytes.{wordAt}
@@ -14,6 +13,8 @@ use Rattle.base.specs.Row.{isOdd, bit}
 use Rattle.plan.proofs.Parts.{variables-read, variable-read, size-read, value-read}
 use Rattle.plan.specs.Decode.{variableAt, planOf}
 use Rattle.format.specs.Format.{sectionStart, variableCount, ownerAt, sizeAt, codeAt, numberedSize}
+use Rattle.format.specs.Lists.{rowIn}
+use Rattle.format.specs.Version.{rowWords}
 use Rattle.plan.specs.Plan.{Value, valueOf}
 use Rattle.buffer.proofs.Puts.{then-more}
 use Rattle.buffer.specs.Buffer.{Adds}
@@ -44,8 +45,8 @@ codes-ext n f g row e =
 
 -- the line of variable `x`, whose section starts at `at`
 pub line-read : (b lists : List ℕ) (x at number row : ℕ) → x < variableCount b → at ≡ sectionStart b (suc x) → number ≡ suc x
-    → row ≡ getD lists x 0
-    → domainLine number (ownerAt b at) (sizeAt b at) (codeAt b at) row ≡ variableLine (planOf b) lists x
+    → row ≡ rowIn (rowWords b) lists x
+    → domainLine number (ownerAt b at) (sizeAt b at) (codeAt b at) row ≡ variableLine (rowWords b) (planOf b) lists x
 unfolding variableLine domainLine variableAt
 line-read b lists x at number row h e p q =
     rw (
@@ -54,7 +55,7 @@ line-read b lists x at number row h e p q =
       q,
       variable-read b x h,
       size-read b x h,
-      codes-ext (numberedSize b (suc x)) (λ v. valueOf (planOf b) x v .code) (codeAt b (sectionStart b (suc x))) (getD lists x 0)
+      codes-ext (numberedSize b (suc x)) (λ v. valueOf (planOf b) x v .code) (codeAt b (sectionStart b (suc x))) (rowIn (rowWords b) lists x)
           (λ v k. ap (λ (a : Value). a .code) (value-read b x h v k)),
     )
 
@@ -73,6 +74,6 @@ start-more b at word x e p = rw (p, e, add-one)
 
 -- the lines of all variables
 pub lines-all : (b lists : List ℕ) (x : ℕ) → x ≡ variableCount b
-    → gatherBelow x (variableLine (planOf b) lists) ≡ variableLines (planOf b) lists
+    → gatherBelow x (variableLine (rowWords b) (planOf b) lists) ≡ variableLines (rowWords b) (planOf b) lists
 unfolding variableLines
 lines-all b lists x e = rw (e, variables-read b)

@@ -2,9 +2,10 @@
 use Prim.Native.Nat.{ℕ, suc}
 use mathlib.Core.Bool.{cond}
 use mathlib.Core.List.{List, [], _∷_, _++_}
-use lib.ListN.{length, getD}
+use lib.ListN.{length}
 use Rattle.base.specs.Below.{gatherBelow}
 use Rattle.base.specs.Row.{bit}
+use Rattle.format.specs.Lists.{rowIn}
 use Rattle.plan.specs.Plan.{Plan, variableOf, valueOf, sizeOf}
 use Rattle.buffer.specs.Decimal.{decimal, spaced}
 
@@ -24,11 +25,11 @@ listedCodes size code row = gatherBelow size (λ v. cond (bit row v) (spaced (co
 unfoldable pub domainLine : ℕ → ℕ → ℕ → (ℕ → ℕ) → ℕ → List ℕ
 domainLine number owner size code row = decimal number ++ spaced owner ++ colon ++ listedCodes size code row ++ newline
 
--- the line of variable `x`, whose domain is the row in cell `x`
-unfoldable pub variableLine : Plan → List ℕ → ℕ → List ℕ
-variableLine plan lists x =
-    domainLine (suc x) (variableOf plan x .owner) (sizeOf plan x) (λ v. valueOf plan x v .code) (getD lists x 0)
+-- the line of variable `x`, whose domain is its row, of so many words, in the list cells
+unfoldable pub variableLine : ℕ → Plan → List ℕ → ℕ → List ℕ
+variableLine words plan lists x =
+    domainLine (suc x) (variableOf plan x .owner) (sizeOf plan x) (λ v. valueOf plan x v .code) (rowIn words lists x)
 
 -- a line for each variable, ascending
-unfoldable pub variableLines : Plan → List ℕ → List ℕ
-variableLines plan lists = gatherBelow (length (plan .variables)) (variableLine plan lists)
+unfoldable pub variableLines : ℕ → Plan → List ℕ → List ℕ
+variableLines words plan lists = gatherBelow (length (plan .variables)) (variableLine words plan lists)

@@ -2,31 +2,21 @@
 use buffer::push;
 use buffer::push_number;
 use buffer::push_spaced;
+use format::lists::row_at;
 use format::read::variable_count;
+use format::version::row_words;
 use reader::byte_at;
 use reader::word_at;
 ghost use mathlib.Core.Bool.{cond};
 ghost use mathlib.Core.List.{[]};
-ghost use mathlib.Core.Path.{_≡_};
 ghost use Prim.Native.Nat.{_<_};
-ghost use lib.ListN.{getD};
 ghost use Rattle.base.specs.Row.{isOdd};
 ghost use Rattle.plan.specs.Decode.{planOf};
 ghost use Rattle.format.specs.Format.{ownerAt, sizeAt, codeAt};
+ghost use Rattle.format.specs.Version.{rowWords};
 ghost use Rattle.buffer.specs.Buffer.{Adds};
 ghost use Rattle.buffer.specs.Decimal.{spaced};
 ghost use Rattle.domains.specs.Lines.{listedCodes, domainLine, variableLines};
-
-// The cell at i, 0 past the end.
-fn cell_at(cells: &[u16], i: usize) -> usize
-    ensures { λ r. ⌜ r ≡ getD (now (cells .entry)) i 0 ⌝ }
-{
-    if i < cells.len() {
-        cells[i] as usize
-    } else {
-        0
-    }
-}
 
 // A code after a space, where the row's lowest bit is set.
 fn push_code(out: &mut [u8], at: usize, row: usize, code: usize) -> usize
@@ -77,14 +67,15 @@ fn push_domain(
 
 // The lines of all variables, in one pass over their sections.
 pub fn push_domains(out: &mut [u8], at: usize, plan: &[u8], lists: &[u16]) -> usize
-    ensures { λ r. ⌜ Adds (variableLines (planOf (now (plan .entry))) (now (lists .entry))) (now (out .entry)) at (now (out .exit)) r ⌝ }
+    ensures { λ r. ⌜ Adds (variableLines (rowWords (now (plan .entry))) (planOf (now (plan .entry))) (now (lists .entry))) (now (out .entry)) at (now (out .exit)) r ⌝ }
 {
+    let words = row_words(plan);
     let count = variable_count(plan);
     let mut place = at;
     let mut section = 3 + word_at(plan, 1);
     let mut x = 0;
     while x < count {
-        place = push_domain(out, place, plan, section, x + 1, cell_at(lists, x));
+        place = push_domain(out, place, plan, section, x + 1, row_at(lists, words, x));
         section = section + 2 + word_at(plan, section);
         x += 1;
     }

@@ -6,11 +6,11 @@ ghost use Rattle.faults.specs.Fault.{numberOf, decline};
 pub enum Fault {
     // 1: plan empty, or a section or its length is cut off.
     Truncated,
-    // 2: version byte is not 1.
+    // 2: version byte is neither 1 nor 2.
     BadVersion,
     // 3: a section's length is not the one its content calls for.
     BadLength,
-    // 4: p, n, number of rules or a dish count out of range.
+    // 4: p, n, number of rules or a dish count out of range, or more than 512 dishes with this slot's.
     BadCount,
     // 5: kitchen or slot number out of range, or first slot not below second.
     BadNumber,
@@ -20,9 +20,9 @@ pub enum Fault {
     BadConstraint,
     // 8: bytes after the last rule.
     TrailingBytes,
-    // 9: fewer than 24,576 work cells.
+    // 9: fewer than 30,720 work cells.
     ShortWork,
-    // 10: fewer than 32 list cells.
+    // 10: fewer than 64 list cells.
     ShortLists,
     // 11: turn list of odd length or over 65,536 bytes.
     BadTurnList,

@@ -1,8 +1,9 @@
 -- Where the parts of a plan's bytes stand: "The plan as bytes". Reads are total; the checks say which of them mean something.
 use Prim.Native.Nat.{ℕ, zero, suc, _+_, _*_}
 use mathlib.Core.List.{List}
-use Rattle.format.specs.Limits.{rowBytes}
 use Rattle.base.specs.Bytes.{byteAt, wordAt}
+use Rattle.base.specs.Digits.{numberAt}
+use Rattle.format.specs.Version.{rowBytes}
 
 -- a section is a 16-bit length and then that many bytes: the place behind the section at `at`
 abbrev pub behind : List ℕ → ℕ → ℕ
@@ -54,12 +55,17 @@ secondAt b at = byteAt b (at + 2 + 1)
 abbrev pub kindAt : List ℕ → ℕ → ℕ
 kindAt b at = byteAt b (at + 2 + 2)
 
-abbrev pub tableRowAt : List ℕ → ℕ → ℕ → ℕ
-tableRowAt b at v = wordAt b (at + 5 + rowBytes * v)
+-- where the row for dish `v` of the first slot starts
+abbrev pub tableRowStart : List ℕ → ℕ → ℕ → ℕ
+tableRowStart b at v = at + 5 + rowBytes b * v
 
--- a byte of such a row, the highest first
+-- that row
+abbrev pub tableRowAt : List ℕ → ℕ → ℕ → ℕ
+tableRowAt b at v = numberAt 8 b (tableRowStart b at v) (rowBytes b)
+
+-- a byte of it, the highest first
 abbrev pub tableByteAt : List ℕ → ℕ → ℕ → ℕ → ℕ
-tableByteAt b at v part = byteAt b (at + 5 + rowBytes * v + part)
+tableByteAt b at v part = byteAt b (tableRowStart b at v + part)
 
 abbrev pub limitAt : List ℕ → ℕ → ℕ
 limitAt b at = wordAt b (at + 5)

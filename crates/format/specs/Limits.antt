@@ -1,5 +1,9 @@
--- The limits of "What the words mean" and "The plan as bytes". The constants of `src/limits.rt` are the same numbers.
-use Prim.Native.Nat.{ℕ}
+-- The limits of "What the words mean" and "The plan as bytes", as job 4 has them. The constants of `src/limits.rt` are the same numbers.
+use Prim.Native.Nat.{ℕ, _*_}
+
+-- the highest version; the lowest is 1
+abbrev pub maxVersion : ℕ
+maxVersion = 2
 
 -- kitchens
 abbrev pub maxWorkers : ℕ
@@ -9,9 +13,20 @@ maxWorkers = 8
 abbrev pub maxVariables : ℕ
 maxVariables = 32
 
--- dishes of a slot
+-- bits of a word of a row, and the word's bytes
+abbrev pub wordBits : ℕ
+wordBits = 16
+
+abbrev pub wordBytes : ℕ
+wordBytes = 2
+
+-- words of a row, in any version
+abbrev pub maxWords : ℕ
+maxWords = 2
+
+-- dishes of a slot, in any version
 abbrev pub maxValues : ℕ
-maxValues = 16
+maxValues = wordBits * maxWords
 
 -- labels of a plan (L)
 abbrev pub maxLabels : ℕ
@@ -24,7 +39,3 @@ maxConstraints = 128
 -- two slots that share a rule: no more than there are rules
 abbrev pub maxPairs : ℕ
 maxPairs = maxConstraints
-
--- bytes of a table's row
-abbrev pub rowBytes : ℕ
-rowBytes = 2

@@ -1,12 +1,12 @@
 // The parts of a constraint (document 01: a rule), read by the place of its section.
-use crate::limits::ROW_BYTES;
+use crate::limits::WORD_BYTES;
 use reader::byte_at;
 use reader::word_at;
 ghost use mathlib.Core.Path.{_≡_};
-ghost use Prim.Native.Nat.{_<_, _≤_};
+ghost use Prim.Native.Nat.{_+_, _<_, _≤_};
 ghost use lib.ListN.{length};
-ghost use Rattle.format.specs.Format.{firstAt, secondAt, kindAt, tableRowAt, tableByteAt, limitAt};
-ghost use Rattle.format.specs.Limits.{rowBytes};
+ghost use Rattle.format.specs.Version.{rowWords};
+ghost use Rattle.format.specs.Format.{firstAt, secondAt, kindAt, tableRowStart, tableRowAt, tableByteAt, limitAt};
 
 // A rule's first slot.
 pub fn first(plan: &[u8], at: usize) -> usize
@@ -32,20 +32,35 @@ pub fn kind(plan: &[u8], at: usize) -> usize
     byte_at(plan, at + 2 + 2)
 }
 
-// A table's row for a dish of its first slot.
-pub fn table_row(plan: &[u8], at: usize, v: usize) -> usize
-    requires { ⌜ (at ≤ length (now plan)) × (v < 256) ⌝ }
-    ensures { λ r. ⌜ (r ≡ tableRowAt (now (plan .entry)) at v) × (r < 65536) ⌝ }
+// Where a table's row for a dish of its first slot starts. How many words a row has is told by whoever reads several rows.
+fn table_row_start(plan: &[u8], words: usize, at: usize, v: usize) -> usize
+    requires { ⌜ (words ≡ rowWords (now plan)) × (at ≤ length (now plan)) × (v < 256) ⌝ }
+    ensures { λ r. ⌜ (r ≡ tableRowStart (now (plan .entry)) at v) × (r ≤ length (now (plan .entry)) + 2048) ⌝ }
 {
-    word_at(plan, at + 5 + ROW_BYTES * v)
+    at + 5 + WORD_BYTES * words * v
+}
+
+// That row, word after word.
+pub fn table_row(plan: &[u8], words: usize, at: usize, v: usize) -> usize
+    requires { ⌜ (words ≡ rowWords (now plan)) × (at ≤ length (now plan)) × (v < 256) ⌝ }
+    ensures { λ r. ⌜ r ≡ tableRowAt (now (plan .entry)) at v ⌝ }
+{
+    let start = table_row_start(plan, words, at, v);
+    let mut row = 0;
+    let mut k = 0;
+    while k < words {
+        row = row * 65536 + word_at(plan, start + WORD_BYTES * k);
+        k += 1;
+    }
+    row
 }
 
 // One byte of such a row, the highest first.
-pub fn table_byte(plan: &[u8], at: usize, v: usize, part: usize) -> usize
-    requires { ⌜ (at ≤ length (now plan)) × (v < 256) × (part < rowBytes) ⌝ }
+pub fn table_byte(plan: &[u8], words: usize, at: usize, v: usize, part: usize) -> usize
+    requires { ⌜ (words ≡ rowWords (now plan)) × (at ≤ length (now plan)) × (v < 256) × (part < 256) ⌝ }
     ensures { λ r. ⌜ (r ≡ tableByteAt (now (plan .entry)) at v part) × (r < 256) ⌝ }
 {
-    byte_at(plan, at + 5 + ROW_BYTES * v + part)
+    byte_at(plan, table_row_start(plan, words, at, v) + part)
 }
 
 // A sodium rule's limit.

@@ -1,4 +1,7 @@
-// A plan's bytes: where its parts stand, how they are read, and how many there may be.
+// A plan's bytes: where its parts stand, how they are read, what its version fixes, and how many parts there may be; and how a list
+// is read from list cells.
 pub mod constraint;
 pub mod limits;
+pub mod lists;
 pub mod read;
+pub mod version;

@@ -1,4 +1,7 @@
-// The limits of document 01: the numbers of specs/Limits.antt.
+// The limits of documents 01 and 02: the numbers of specs/Limits.antt.
+
+// The highest version; the lowest is 1.
+pub const MAX_VERSION: usize = 2;
 
 // Kitchens.
 pub const MAX_WORKERS: usize = 8;
@@ -6,8 +9,16 @@ pub const MAX_WORKERS: usize = 8;
 // Slots.
 pub const MAX_VARIABLES: usize = 32;
 
-// Dishes of a slot.
-pub const MAX_VALUES: usize = 16;
+// Bits of a word of a row, and the word's bytes.
+pub const WORD_BITS: usize = 16;
+
+pub const WORD_BYTES: usize = 2;
+
+// Words of a row, in any version.
+pub const MAX_WORDS: usize = 2;
+
+// Dishes of a slot, in any version.
+pub const MAX_VALUES: usize = WORD_BITS * MAX_WORDS;
 
 // Labels of a plan.
 pub const MAX_LABELS: usize = 512;
@@ -17,6 +28,3 @@ pub const MAX_CONSTRAINTS: usize = 128;
 
 // Two slots that share a rule.
 pub const MAX_PAIRS: usize = MAX_CONSTRAINTS;
-
-// Bytes of a table's row.
-pub const ROW_BYTES: usize = 2;

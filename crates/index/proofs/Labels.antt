@@ -12,13 +12,14 @@ use Rattle.plan.proofs.Parts.{variables-read, variable-read, size-read}
 use Rattle.plan.specs.Decode.{planFault, planOf, variableAt}
 use Rattle.format.specs.Format.{sectionStart, variableCount, constraintCount, ownerAt}
 use Rattle.format.specs.Limits.{maxWorkers, maxVariables}
+use Rattle.format.specs.Version.{maxSize}
 use Rattle.plan.specs.Network.{shareConstraint, networkOf}
 use Rattle.plan.specs.Plan.{Variable, sizeOf}
 use Rattle.index.proofs.Nearest.{last-any}
 use Rattle.index.proofs.Owners.{owner-range}
 use Rattle.index.proofs.Pairing.{paired}
 use Rattle.index.proofs.Linked.{linked-chain, linked-inside}
-use Rattle.index.proofs.Places.{few-sections, few-values}
+use Rattle.index.proofs.Places.{few-sections, row-values, few-values}
 use Rattle.rows.specs.Permits.{Loaded, over}
 use Rattle.index.specs.Index.{owns, ownLinked, Indexed, Located, Ready}
 use Rattle.cells.specs.Memory.{Mem, memOf}
@@ -49,6 +50,10 @@ module _ (b : List ℕ) (sound : planFault b ≡ none) where
   pub label-small : (x v : ℕ) → Loaded b x v → (x < maxVariables) × (v < VALUEROOM)
   label-small x v l =
       omega (arith, few-sections b sound, few-values b sound x (l .variable), size-read b x (l .variable))
+
+  -- its value has a bit in a row
+  pub label-in-row : (x v : ℕ) → Loaded b x v → v < maxSize b
+  label-in-row x v l = omega (arith, l .value, row-values b sound x (l .variable), size-read b x (l .variable))
 
   -- what is read at a variable's place
   pub owner-there : (x at r : ℕ) → x < variableCount b → at ≡ sectionStart b (suc x) → r ≡ ownerAt b at

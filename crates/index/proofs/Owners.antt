@@ -11,8 +11,7 @@ use Rattle.format.specs.Format.{variableCount}
 use Rattle.format.specs.Limits.{maxWorkers}
 use Rattle.plan.proofs.Parts.{variables-read}
 use Rattle.plan.proofs.WellFormed.{read-well-formed}
-use Rattle.plan.specs.Decode.{planFault, planOf}
-use Rattle.plan.specs.WellFormed.{WellFormed}
+use Rattle.plan.specs.Decode.{planFault}
 use Rattle.index.specs.Index.{owns}
 
 -- an owner is one of at most eight workers
@@ -20,7 +19,7 @@ pub owner-range : (b : List ℕ) → planFault b ≡ none → (x : ℕ) → x < 
     → (0 < systemAt b .owner x) × (systemAt b .owner x ≤ maxWorkers)
 unfolding systemOf
 owner-range b sound x h =
-    let fits : WellFormed (planOf b) = read-well-formed b sound in
+    let fits = read-well-formed b sound in
     let fit = fits .each-variable x (omega (arith, variables-read b)) in
     omega (arith, fits .workers-high)
 

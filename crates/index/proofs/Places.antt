@@ -5,6 +5,7 @@ use mathlib.Core.Logic.{⊎-elim}
 use mathlib.Core.Option.{none}
 use mathlib.Core.Path.{_≡_, _∙_, ap}
 use borrow.Author.Tests.{leb-true, eqb-true}
+use native.Mathlib.Nat.{mul-le-mul-right}
 use native.Mathlib.Omega.{arith}
 use lib.Dec.{eqb}
 use lib.ListN.{length}
@@ -23,7 +24,9 @@ use Rattle.faults.specs.CheckList.{firstFault}
 use Rattle.plan.specs.Check.{constraintLength}
 use Rattle.plan.specs.Decode.{planFault, planOf}
 use Rattle.format.specs.Format.{sectionStart, variableCount, constraintCount, sectionCount, sizeAt, firstAt, kindAt, numberedSize}
-use Rattle.format.specs.Limits.{maxVariables, maxValues, maxConstraints, rowBytes}
+use Rattle.format.specs.Limits.{wordBytes, maxWords, maxVariables, maxValues, maxConstraints}
+use Rattle.format.specs.Version.{maxSize, rowBytes}
+use Rattle.format.proofs.Widths.{words-range, size-range}
 use Rattle.plan.specs.WellFormed.{WellFormed, VariableFits}
 use Rattle.cells.proofs.Done.{Done}
 use Rattle.cells.proofs.Stores.{store-same, store-other, store-apart}
@@ -31,21 +34,25 @@ use Rattle.index.specs.Index.{Located, placeM, placesM}
 use Rattle.cells.specs.Layout.{PLACES}
 use Rattle.cells.specs.Memory.{Mem, memOf}
 
--- the length of the longest section: a variable with as many values as it may have
+-- no section is longer: neither a variable's nor a table's with as many values as there may be
 abbrev maxSection : ℕ
-maxSection = 2 + 4 * maxValues
+maxSection = 3 + 4 * maxValues
 
 module _ (b : List ℕ) (none-found : planFault b ≡ none) where
-  fits : WellFormed (planOf b)
+  fits : WellFormed (maxSize b) (planOf b)
   fits = read-well-formed b none-found
 
   pub few-sections : (variableCount b ≤ maxVariables) × (constraintCount b ≤ maxConstraints)
   few-sections = omega (arith, fits .variables-high, fits .constraints-high, variables-read b, constraints-read b)
 
-  pub few-values : (x : ℕ) → x < variableCount b → numberedSize b (suc x) ≤ maxValues
-  few-values x h =
-      let fit : VariableFits (planOf b) x = fits .each-variable x (omega (arith, variables-read b)) in
+  -- a variable has no more values than its plan's version gives a row bits
+  pub row-values : (x : ℕ) → x < variableCount b → numberedSize b (suc x) ≤ maxSize b
+  row-values x h =
+      let fit : VariableFits (maxSize b) (planOf b) x = fits .each-variable x (omega (arith, variables-read b)) in
       omega (arith, fit .few-values, size-read b x h)
+
+  pub few-values : (x : ℕ) → x < variableCount b → numberedSize b (suc x) ≤ maxValues
+  few-values x h = omega (arith, row-values x h, size-range b)
 
   -- each section starts within the plan, and the last one ends there
   pub start-inside : (k : ℕ) → k ≤ sectionCount b → sectionStart b k ≤ length b
@@ -60,8 +67,9 @@ module _ (b : List ℕ) (none-found : planFault b ≡ none) where
       let size = numberedSize b (firstAt b at) in
       let e : suc (firstAt b at - 1) ≡ firstAt b at = omega arith in
       let small : numberedSize b (suc (firstAt b at - 1)) ≤ maxValues = few-values (firstAt b at - 1) (omega arith) in
-      ⊎-elim (λ p. omega (arith, cond-true (3 + rowBytes * size) 5 p, ap (numberedSize b) e))
-      (λ p. omega (arith, cond-false (3 + rowBytes * size) 5 p))
+      let short : rowBytes b * size ≤ wordBytes * maxWords * size = mul-le-mul-right size (omega (arith, words-range b)) in
+      ⊎-elim (λ p. omega (arith, cond-true (3 + rowBytes b * size) 5 p, ap (numberedSize b) e))
+      (λ p. omega (arith, cond-false (3 + rowBytes b * size) 5 p))
       (decided (eqb (kindAt b at) 0))
 
   section-short : (k : ℕ) → k < sectionCount b → wordAt b (sectionStart b k) ≤ maxSection
@@ -72,8 +80,9 @@ module _ (b : List ℕ) (none-found : planFault b ≡ none) where
       (λ e.
       omega (
         arith,
-        leb-true (sizeAt b at) maxValues (variable-says b at e .few-values),
-        eqb-true (wordAt b at) (2 + 4 * sizeAt b at) (variable-says b at e .exact),
+        size-range b,
+        leb-true (sizeAt b at) (maxSize b) (variable-says b k at e .few-values),
+        eqb-true (wordAt b at) (2 + 4 * sizeAt b at) (variable-says b k at e .exact),
       ))
       (λ e.
       omega (

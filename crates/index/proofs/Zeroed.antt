@@ -8,9 +8,9 @@ use native.Mathlib.Omega.{arith}
 use lib.Dec.{ltb}
 use lib.ListN.{length, getD, replicate, length-replicate}
 use Rattle.base.proofs.Choice.{cond-same}
-use Rattle.cells.proofs.Halves.{part-none}
+use Rattle.cells.proofs.Halves.{share-none}
 use Rattle.cells.specs.Layout.{regionAt, address}
-use Rattle.cells.specs.Memory.{partOf, memOf}
+use Rattle.cells.specs.Memory.{shareOf, memOf}
 use Rattle.disac4.specs.Need.{workNeed}
 use Rattle.index.proofs.Chains.{indexed}
 use Rattle.index.specs.Index.{Ready, Indexed, indexM}
@@ -35,7 +35,7 @@ zero-memory : (n r i j : ℕ) → memOf (zeros n) r i j ≡ 0
 unfolding memOf
 zero-memory n r i j =
     cond-same (ltb i (regionAt r .rows) && ltb j (regionAt r .cols)) _ 0 0
-    (ap (partOf (regionAt r) i) (zero-at n (address (regionAt r) i j)) ∙ part-none (regionAt r) i) refl
+    (ap (shareOf (regionAt r) i) (zero-at n (address (regionAt r) i j)) ∙ share-none (regionAt r) i) refl
 
 -- and indexing leaves the plan's index in it
 pub zeroed-ready : (b cells : List ℕ) (n : ℕ) → planFault b ≡ none → memOf cells ≡ indexM b (memOf (zeros n))

@@ -1,27 +1,37 @@
 -- What the scan knows behind the sections that passed, and how one section more changes it.
-use Prim.Native.Nat.{ℕ, _+_, _<_, _≤_}
+use Prim.Native.Nat.{ℕ, suc, _+_, _-_, _<_, _≤_, min}
+use mathlib.Core.Bool.{true, false}
 use mathlib.Core.Logic.{⊎-elim}
 use mathlib.Core.List.{List}
 use mathlib.Core.Option.{none, some}
 use mathlib.Core.Path.{_≡_, sym, _∙_, ap}
 use borrow.Author.Tests.{leb-true, le-leb, ne-eqb}
+use native.Mathlib.Decide.{ℕ-discrete, decLt}
 use native.Mathlib.Numerals.{add-one}
 use native.Mathlib.Omega.{arith}
 use lib.ListN.{length, set, getD}
 use lib.Seq.{getD-set-same, getD-set-other}
 use Rattle.base.proofs.Below.{below-cases, first-at, first-more}
+use Rattle.base.proofs.Bools.{clash}
+use Rattle.base.proofs.Choice.{between-intro, between-low, between-high}
 use Rattle.base.specs.Below.{firstBelow}
-use Rattle.format.specs.Format.{behind, sectionStart, variableCount, sectionCount, numberedSize}
-use Rattle.format.specs.Limits.{maxVariables, maxValues}
-use Rattle.plan.proofs.SectionSays.{variable-says}
+use Rattle.base.specs.Choice.{between}
+use Rattle.format.specs.Format.{behind, sectionStart, variableCount, sectionCount, sizeAt, numberedSize}
+use Rattle.format.specs.Limits.{maxVariables, maxValues, maxLabels}
+use Rattle.format.specs.Version.{maxSize}
+use Rattle.format.proofs.Widths.{size-range}
+use Rattle.plan.proofs.SectionSays.{VariableSays, variable-says}
 use Rattle.plan.proofs.Head.{head-fits}
 use Rattle.plan.proofs.Sections.{passed-before, start-within}
 use Rattle.faults.specs.CheckList.{firstFault, faultAt}
-use Rattle.plan.specs.Check.{sectionChecks, sectionFault}
-use Rattle.plan.specs.Decode.{trailingFault, sectionsFault}
+use Rattle.plan.specs.Check.{labelsTo, sectionChecks, sectionFault}
+use Rattle.network.specs.Network.{labelCount}
+use Rattle.plan.proofs.PlanCounts.{labels-read}
+use Rattle.plan.specs.Decode.{trailingFault, sectionsFault, planOf}
+use Rattle.plan.specs.Network.{networkOf}
 use Rattle.faults.specs.Fault.{decline}
 use Rattle.sections.specs.Known.{VariablesKnown, startCount}
-use Rattle.parser.specs.Known.{PassedBefore}
+use Rattle.parser.specs.Known.{PassedBefore, labelsBefore}
 use Rattle.plan.specs.Answer.{checkOf}
 use Rattle.plan.specs.declared.Checked.the-variants.{Declined}
 use Rattle.faults.specs.declared.Fault.{Fault}
@@ -31,6 +41,56 @@ pub next-start : (b : List ℕ) (k at next : ℕ) → at ≡ sectionStart b k �
 unfolding sectionStart
 next-start b k at next e p = rw add-one (p ∙ ap (behind b) e)
 
+-- before the first section there are no labels
+pub labels-none : (b : List ℕ) → 0 ≡ labelsBefore b 0
+labels-none b = ap (labelsTo b) none-yet
+  where
+    none-yet : 0 ≡ min (0 - 1) (variableCount b)
+    none-yet = omega arith
+
+-- a variable's values join the labels
+pub labels-more : (b : List ℕ) (k at labels size : ℕ) {n : ℕ} → variableCount b ≡ n → between 1 n k ≡ true → at ≡ sectionStart b k
+    → labels ≡ labelsBefore b k → size ≡ sizeAt b at → labels + size ≡ labelsBefore b (k + 1)
+labels-more b k at labels size {n} r h e p q =
+    let low : 1 ≤ k = between-low 1 n k h in
+    let high : k ≤ n = between-high 1 n k h in
+    let before : min (k - 1) (variableCount b) ≡ k - 1 = omega arith in
+    let with-it : min (k + 1 - 1) (variableCount b) ≡ suc (k - 1) = omega arith in
+    let its : suc (k - 1) ≡ k = omega arith in
+    omega (
+      arith,
+      ap (labelsTo b) before,
+      ap (labelsTo b) with-it,
+      ap (numberedSize b) its,
+      ap (sizeAt b) e,
+    )
+
+-- other sections have none
+pub labels-same : (b : List ℕ) (k : ℕ) {n : ℕ} → variableCount b ≡ n → between 1 n k ≡ false → labelsBefore b k ≡ labelsBefore b (k + 1)
+labels-same b k {n} r h = ap (labelsTo b) same
+  where
+    same : min (k - 1) (variableCount b) ≡ min (k + 1 - 1) (variableCount b)
+    same = elim (decLt k 1) [
+      | yes p ↦ omega arith
+      | no p ↦ elim (decLt n k) [
+        | yes q ↦ omega arith
+        | no q ↦ absurd (clash (between-intro 1 n k (omega arith) (omega arith)) h)
+      ]
+    ]
+
+-- up to a variable's section they are those of the variables up to it
+pub labels-to : (b : List ℕ) (k : ℕ) {n : ℕ} → n ≡ variableCount b → k ≤ n → labelsBefore b (k + 1) ≡ labelsTo b k
+labels-to b k r h = ap (labelsTo b) same
+  where
+    same : min (k + 1 - 1) (variableCount b) ≡ k
+    same = omega arith
+
+-- behind the last section all labels are counted
+pub labels-all : (b : List ℕ) (k labels : ℕ) → labels ≡ labelsBefore b k → k ≡ sectionCount b → labels ≡ labelCount (networkOf (planOf b))
+labels-all b k labels e p =
+    let all : min (k - 1) (variableCount b) ≡ variableCount b = omega arith in
+    e ∙ ap (labelsTo b) all ∙ sym (labels-read b)
+
 module _ (b starts : List ℕ) (k : ℕ) (known : PassedBefore b starts k) where
   passes : (i : ℕ) → i < k → firstFault (sectionChecks b i) ≡ none
   passes = passed-before b k (known .passed)
@@ -39,11 +99,21 @@ module _ (b starts : List ℕ) (k : ℕ) (known : PassedBefore b starts k) where
   unfolding sectionChecks
   few-variables h = head-fits b (sectionStart b 0) (passes 0 h) .variables-high
 
-  few-values : (s : ℕ) → 1 ≤ s → s ≤ variableCount b → s < k → numberedSize b s ≤ maxValues
+  says : (s : ℕ) → 1 ≤ s → s ≤ variableCount b → s < k → VariableSays b s (sectionStart b s)
   unfolding sectionChecks
-  few-values s l h p =
-      leb-true (numberedSize b s) maxValues
-      (variable-says b (sectionStart b s) (rw (ne-eqb s 0 (omega arith), le-leb s (variableCount b) h) at (passes s p)) .few-values)
+  says s l h p = variable-says b s (sectionStart b s) (rw (ne-eqb s 0 (omega arith), le-leb s (variableCount b) h) at (passes s p))
+
+  few-values : (s : ℕ) → 1 ≤ s → s ≤ variableCount b → s < k → numberedSize b s ≤ maxValues
+  few-values s l h p = omega (arith, size-range b, leb-true (numberedSize b s) (maxSize b) (says s l h p .few-values))
+
+  -- the last variable's check counts the labels of all before it
+  pub few-labels : labelsBefore b k ≤ maxLabels
+  few-labels =
+      let last : ℕ = min (k - 1) (variableCount b) in
+      elim (ℕ-discrete last 0) [
+        | yes e ↦ omega (arith, ap (labelsTo b) e)
+        | no d ↦ leb-true (labelsTo b last) maxLabels (says last (omega arith) (omega arith) (omega arith) .few-labels)
+      ]
 
   -- behind the variables' sections, the variables are known
   pub variables-known : 0 < length b → variableCount b < k → VariablesKnown b starts

@@ -1,8 +1,10 @@
 // The plan check: from a plan's bytes to its counts, or to its first fault and the fault's place.
+use base::between;
 use faults::Fault;
+use format::limits::MAX_VERSION;
+use format::version;
 use plan::Checked;
 use plan::declined;
-use reader::byte_at;
 ghost use mathlib.Core.Path.{_≡_};
 ghost use Rattle.plan.specs.Answer.{planCheck};
 
@@ -15,7 +17,7 @@ pub fn check_plan(plan: &[u8]) -> Checked
     if plan.len() == 0 {
         return declined(Fault::Truncated, 0);
     }
-    if byte_at(plan, 0) != 1 {
+    if !between(1, MAX_VERSION, version::number(plan)) {
         return declined(Fault::BadVersion, 0);
     }
     scan::check_sections(plan)

@@ -1,4 +1,5 @@
 // The sections of a plan in turn.
+use base::between;
 use faults::Fault;
 use faults::Verdict;
 use format::read;
@@ -11,15 +12,16 @@ use sections::section::STARTS;
 use sections::section::Starts;
 use sections::variable;
 ghost use mathlib.Core.Path.{_≡_};
-ghost use Prim.Native.Nat.{_≤_};
+ghost use Prim.Native.Nat.{_+_, _≤_};
 ghost use lib.ListN.{length, set};
 ghost use Rattle.format.specs.Format.{sectionStart};
 ghost use Rattle.network.specs.Network.{labelCount};
 ghost use Rattle.plan.specs.Check.{sectionChecks};
 ghost use Rattle.faults.specs.CheckList.{firstFault, verdictOf};
 ghost use Rattle.plan.specs.Decode.{planOf, planEnd, trailingFault, sectionsFault};
-ghost use Rattle.sections.specs.Known.{VariablesKnown, startCount};
-ghost use Rattle.parser.specs.Known.{PassedBefore};
+ghost use Rattle.sections.specs.Known.{startCount};
+ghost use Rattle.parser.specs.Known.{PassedBefore, labelsBefore};
+ghost use Rattle.format.specs.Limits.{maxLabels};
 ghost use Rattle.plan.specs.Network.{networkOf};
 ghost use Rattle.plan.specs.Answer.{checkOf};
 
@@ -40,38 +42,35 @@ fn keep_start(starts: &mut Starts, k: usize, at: usize)
     }
 }
 
-// The checks of section k: of the head, a variable or a constraint.
-fn check_section(plan: &[u8], k: usize, at: usize, starts: &Starts) -> Verdict
-    requires { ⌜ PassedBefore (now plan) (now starts) k × (at ≡ sectionStart (now plan) k) × (at ≤ length (now plan)) × (1 ≤ length (now plan)) ⌝ }
+// The labels up to section k, from those before it.
+fn labels_with(plan: &[u8], k: usize, at: usize, labels: usize) -> usize
+    requires { ⌜ (at ≡ sectionStart (now plan) k) × (at ≤ length (now plan)) × (labels ≡ labelsBefore (now plan) k) × (labels ≤ maxLabels) ⌝ }
+    ensures { λ r. ⌜ r ≡ labelsBefore (now (plan .entry)) (k + 1) ⌝ }
+{
+    if between(1, read::variable_count(plan), k) {
+        labels + read::size(plan, at)
+    } else {
+        labels
+    }
+}
+
+// The checks of section k: of the head, a variable or a constraint. `labels` are those up to it.
+fn check_section(plan: &[u8], k: usize, at: usize, labels: usize, starts: &Starts) -> Verdict
+    requires { ⌜ PassedBefore (now plan) (now starts) k × (at ≡ sectionStart (now plan) k) × (at ≤ length (now plan)) × (1 ≤ length (now plan)) × (labels ≡ labelsBefore (now plan) (k + 1)) ⌝ }
     ensures { λ r. ⌜ r ≡ verdictOf (firstFault (sectionChecks (now (plan .entry)) k)) ⌝ }
 {
     if k == 0 {
         return section::check_head(plan, at);
     }
     if k <= read::variable_count(plan) {
-        return variable::check_variable(plan, at);
+        return variable::check_variable(plan, at, labels);
     }
     constraint::check_constraint(plan, at, starts)
 }
 
-// L: how many values the variables have together.
-fn count_labels(plan: &[u8], starts: &Starts) -> usize
-    requires { ⌜ VariablesKnown (now plan) (now starts) ⌝ }
-    ensures { λ r. ⌜ r ≡ labelCount (networkOf (planOf (now (plan .entry)))) ⌝ }
-{
-    let count = read::variable_count(plan);
-    let mut labels = 0;
-    let mut x = 0;
-    while x < count {
-        labels += variable::numbered_size(plan, starts, x + 1);
-        x += 1;
-    }
-    labels
-}
-
 // What is left to check behind the last section, which ends at `at`.
-fn check_end(plan: &[u8], at: usize, starts: &Starts) -> Checked
-    requires { ⌜ VariablesKnown (now plan) (now starts) × (at ≡ planEnd (now plan)) ⌝ }
+fn check_end(plan: &[u8], at: usize, labels: usize) -> Checked
+    requires { ⌜ (at ≡ planEnd (now plan)) × (labels ≡ labelCount (networkOf (planOf (now plan)))) ⌝ }
     ensures { λ r. ⌜ r ≡ checkOf (now (plan .entry)) (trailingFault (now (plan .entry))) ⌝ }
 {
     if at < plan.len() {
@@ -81,7 +80,7 @@ fn check_end(plan: &[u8], at: usize, starts: &Starts) -> Checked
         workers: read::worker_count(plan),
         variables: read::variable_count(plan),
         constraints: read::constraint_count(plan),
-        labels: count_labels(plan, starts),
+        labels,
     })
 }
 
@@ -92,10 +91,12 @@ pub fn check_sections(plan: &[u8]) -> Checked
 {
     let count = read::section_count(plan);
     let mut starts = no_starts();
+    let mut labels = 0;
     let mut at = 1;
     let mut k = 0;
     while k < count {
-        let verdict = check_section(plan, k, at, &starts);
+        labels = labels_with(plan, k, at, labels);
+        let verdict = check_section(plan, k, at, labels, &starts);
         if let Verdict::Fails(fault) = verdict {
             return declined(fault, at);
         }
@@ -103,5 +104,5 @@ pub fn check_sections(plan: &[u8]) -> Checked
         at = read::behind(plan, at);
         k += 1;
     }
-    check_end(plan, at, &starts)
+    check_end(plan, at, labels)
 }

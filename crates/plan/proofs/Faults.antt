@@ -11,9 +11,10 @@ use lib.ListN.{length}
 use Rattle.base.proofs.Below.{first-below}
 use Rattle.base.proofs.Choice.{none≢some, some-same, between-low, between-high}
 use Rattle.base.specs.Below.{firstBelow}
-use Rattle.base.specs.Bytes.{byteAt}
 use Rattle.base.specs.Choice.{between, firstOf}
 use Rattle.format.specs.Format.{sectionStart, variableCount, constraintCount, sectionCount}
+use Rattle.format.specs.Limits.{maxVersion}
+use Rattle.format.specs.Version.{version as versionOf}
 use Rattle.plan.proofs.Answer.{plan-check, no-fault, its-fault}
 use Rattle.plan.proofs.Sections.{section-complete, section-number, section-declines, passed-before, start-within}
 use Rattle.plan.specs.Answer.{countsOf, checkedAs, planCheck}
@@ -28,20 +29,20 @@ use Rattle.faults.specs.declared.Fault.the-variants.{Truncated, BadVersion, Tra
 -- the five ways in which the check of a plan ends
 pub data Ending (b : List ℕ) (o : Option Decline) : Type 0 where
   empty : length b ≡ 0 → o ≡ some (decline Truncated 0) → Ending b o
-  version : 0 < length b → (byteAt b 0 ≡ 1 → ⊥) → o ≡ some (decline BadVersion 0) → Ending b o
+  version : 0 < length b → between 1 maxVersion (versionOf b) ≡ false → o ≡ some (decline BadVersion 0) → Ending b o
   section : 0 < length b → (k : ℕ) → k < sectionCount b → firstBelow k (sectionFault b) ≡ none → (d : Decline)
       → sectionFault b k ≡ some d → o ≡ some d → Ending b o
   trailing : planEnd b < length b → o ≡ some (decline TrailingBytes (planEnd b)) → Ending b o
-  sound : byteAt b 0 ≡ 1 → firstBelow (sectionCount b) (sectionFault b) ≡ none → length b ≤ planEnd b → o ≡ none → Ending b o
+  sound : between 1 maxVersion (versionOf b) ≡ true → firstBelow (sectionCount b) (sectionFault b) ≡ none → length b ≤ planEnd b → o ≡ none → Ending b o
 
 -- every check of a plan ends in one of them
 pub ending : (b : List ℕ) → Ending b (planFault b)
 unfolding planFault sectionsFault trailingFault
 ending b =
-    go (eqb (length b) 0) refl (eqb (byteAt b 0) 1) refl (firstBelow (sectionCount b) (sectionFault b)) refl
+    go (eqb (length b) 0) refl (between 1 maxVersion (versionOf b)) refl (firstBelow (sectionCount b) (sectionFault b)) refl
     (ltb (planEnd b) (length b)) refl
   where
-    go : (s : Bool) → eqb (length b) 0 ≡ s → (t : Bool) → eqb (byteAt b 0) 1 ≡ t → (o : Option Decline)
+    go : (s : Bool) → eqb (length b) 0 ≡ s → (t : Bool) → between 1 maxVersion (versionOf b) ≡ t → (o : Option Decline)
         → firstBelow (sectionCount b) (sectionFault b) ≡ o → (u : Bool) → ltb (planEnd b) (length b) ≡ u
         → Ending b
         (cond s (some (decline Truncated 0))
@@ -49,7 +50,7 @@ ending b =
     go true p t q o r u w = empty (eqb-true (length b) 0 p) refl
     go false p false q o r u w =
         let h : length b ≡ 0 → ⊥ = eqb-false (length b) 0 p in
-        version (omega arith) (eqb-false (byteAt b 0) 1 q) refl
+        version (omega arith) q refl
     go false p true q (some d) r u w =
         let h : length b ≡ 0 → ⊥ = eqb-false (length b) 0 p in
         let f : (k : ℕ) × (k < sectionCount b) × (sectionFault b k ≡ some d) × (firstBelow k (sectionFault b) ≡ none) =
@@ -57,16 +58,20 @@ ending b =
         section (omega arith) (f .0) (f .1) (f .3) d (f .2) refl
     go false p true q none r true w = trailing (ltb-true (planEnd b) (length b) w) refl
     go false p true q none r false w =
-        sound (eqb-true (byteAt b 0) 1 q) r (ltb-false (planEnd b) (length b) w) refl
+        sound q r (ltb-false (planEnd b) (length b) w) refl
 
--- a plan without fault has version 1, no section with a fault, and nothing behind the last one
+-- a plan without fault has a version that there is, no section with a fault, and nothing behind the last one
 sound-plan : (b : List ℕ) {o : Option Decline} → Ending b o → o ≡ none
-    → (byteAt b 0 ≡ 1) × (firstBelow (sectionCount b) (sectionFault b) ≡ none) × (length b ≤ planEnd b)
+    → (between 1 maxVersion (versionOf b) ≡ true) × (firstBelow (sectionCount b) (sectionFault b) ≡ none) × (length b ≤ planEnd b)
 sound-plan b (empty p q) e = none≢some (sym e ∙ q)
 sound-plan b (version p q r) e = none≢some (sym e ∙ r)
 sound-plan b (section p j q r d s t) e = none≢some (sym e ∙ t)
 sound-plan b (trailing p q) e = none≢some (sym e ∙ q)
-sound-plan b (sound p q r s) e = (p, q, r)
+sound-plan b (sound v q r s) e = (v, q, r)
+
+-- a plan without fault is of a version that there is
+pub sound-version : (b : List ℕ) → planFault b ≡ none → between 1 maxVersion (versionOf b) ≡ true
+sound-version b e = sound-plan b (ending b) e .0
 
 -- a plan without fault has passed the checks of each of its sections
 pub sound-section : (b : List ℕ) → planFault b ≡ none → (k : ℕ) → k < sectionCount b → firstFault (sectionChecks b k) ≡ none
@@ -112,7 +117,7 @@ module _ (P : Decline → Type 0) (b : List ℕ) (at-none : P (decline Truncated
   each-fault (version p q r) d e = some-same P (sym r ∙ e) at-version
   each-fault (section p k q r c s t) d e = some-same P (sym t ∙ e) (at-section p k r c s)
   each-fault (trailing p q) d e = some-same P (sym q ∙ e) (at-end p)
-  each-fault (sound p q r s) d e = none≢some (sym s ∙ e)
+  each-fault (sound v q r s) d e = none≢some (sym s ∙ e)
 
 -- a decline's place is in the plan or at its end: a section starts there only where those before it are complete
 pub place-within : (b : List ℕ) (d : Decline) → decode b ≡ declined d → d .place ≤ length b

@@ -63,13 +63,13 @@ linked-by plan x y e =
     )
 
 -- a constraint's variables are two of a well-formed plan's, the first before the second
-over-in-range : (plan : Plan) → WellFormed plan → (c x y : ℕ) → Over plan c x y → (x < y) × (y < length (plan .variables))
+over-in-range : {most : ℕ} (plan : Plan) → WellFormed most plan → (c x y : ℕ) → Over plan c x y → (x < y) × (y < length (plan .variables))
 over-in-range plan fits c x y o =
     let fit : ConstraintFits plan (constraintOf plan c) = fits .each-constraint c (o .listed) in
     omega arith
 
 -- linked variables are two of a well-formed plan's
-pub linked-in-range : (plan : Plan) → WellFormed plan → (x y : ℕ) → shareConstraint plan x y ≡ true
+pub linked-in-range : {most : ℕ} (plan : Plan) → WellFormed most plan → (x y : ℕ) → shareConstraint plan x y ≡ true
     → (x < length (plan .variables)) × (y < length (plan .variables)) × (x ≡ y → ⊥)
 linked-in-range plan fits x y e =
     let r : (c : ℕ) × (Over plan c x y ⊎ Over plan c y x) = linked-by plan x y e in

@@ -18,7 +18,7 @@ module _ (b : List ℕ) (none-found : planFault b ≡ none) where
   head-passed = sound-section b none-found 0 (omega arith)
 
   -- each variable's section has passed its checks
-  pub variable-passed : (x : ℕ) → x < variableCount b → firstFault (variableChecks b (sectionStart b (suc x))) ≡ none
+  pub variable-passed : (x : ℕ) → x < variableCount b → firstFault (variableChecks b (suc x) (sectionStart b (suc x))) ≡ none
   unfolding sectionChecks
   variable-passed x h =
       rw (ne-eqb (suc x) 0 (omega arith), le-leb (suc x) (variableCount b) h) at

@@ -8,12 +8,13 @@ use Rattle.format.specs.Format.{workerCount, variableCount, constraintCount, nu
 use Rattle.network.specs.Network.{labelCount}
 use Rattle.plan.proofs.Parts.{variables-read, constraints-read, size-read}
 use Rattle.plan.specs.Answer.{countsOf}
+use Rattle.plan.specs.Check.{labelsTo}
 use Rattle.plan.specs.Decode.{planOf}
 use Rattle.plan.specs.Network.{networkOf}
 use Rattle.plan.specs.declared.Counts.{Counts}
 
 -- L of the decoded plan is the sum of the counts that its sections give
-pub labels-read : (b : List ℕ) → labelCount (networkOf (planOf b)) ≡ sumBelow (variableCount b) (λ x. numberedSize b (suc x))
+pub labels-read : (b : List ℕ) → labelCount (networkOf (planOf b)) ≡ labelsTo b (variableCount b)
 unfolding labelCount networkOf
 labels-read b =
     ap (λ (n : ℕ). sumBelow n (networkOf (planOf b) .size)) (variables-read b)

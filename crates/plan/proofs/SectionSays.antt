@@ -11,8 +11,9 @@ use Rattle.base.specs.Choice.{between}
 use Rattle.faults.proofs.Checks.{each-holds}
 use Rattle.faults.specs.CheckList.{firstFault}
 use Rattle.format.specs.Format.{workerCount, ownerAt, sizeAt, kindAt}
-use Rattle.format.specs.Limits.{maxValues}
-use Rattle.plan.specs.Check.{complete, headInRange, headChecks, repeatsCode, variableChecks, variablesInOrder, constraintLength, tableFits, constraintChecks}
+use Rattle.format.specs.Limits.{maxLabels}
+use Rattle.format.specs.Version.{maxSize}
+use Rattle.plan.specs.Check.{complete, headInRange, headChecks, repeatsCode, labelsTo, variableChecks, variablesInOrder, constraintLength, tableFits, constraintChecks}
 
 -- the head
 pub record HeadSays (b : List ℕ) (at : ℕ) : Type 0 where
@@ -26,20 +27,21 @@ head-says b at e =
     let h = each-holds (headChecks b at) e in
     record { whole = h 0; exact = h 1; in-range = h 2 }
 
--- a variable
-pub record VariableSays (b : List ℕ) (at : ℕ) : Type 0 where
+-- variable `s`
+pub record VariableSays (b : List ℕ) (s at : ℕ) : Type 0 where
   pub whole : complete b at ≡ true
   pub has-count : leb 2 (wordAt b at) ≡ true
-  pub few-values : leb (sizeAt b at) maxValues ≡ true
+  pub few-values : leb (sizeAt b at) (maxSize b) ≡ true
+  pub few-labels : leb (labelsTo b s) maxLabels ≡ true
   pub exact : eqb (wordAt b at) (2 + 4 * sizeAt b at) ≡ true
   pub owned : between 1 (workerCount b) (ownerAt b at) ≡ true
   pub codes-differ : not (repeatsCode b at) ≡ true
 
-pub variable-says : (b : List ℕ) (at : ℕ) → firstFault (variableChecks b at) ≡ none → VariableSays b at
+pub variable-says : (b : List ℕ) (s at : ℕ) → firstFault (variableChecks b s at) ≡ none → VariableSays b s at
 unfolding variableChecks
-variable-says b at e =
-    let h = each-holds (variableChecks b at) e in
-    record { whole = h 0; has-count = h 1; few-values = h 2; exact = h 3; owned = h 4; codes-differ = h 5 }
+variable-says b s at e =
+    let h = each-holds (variableChecks b s at) e in
+    record { whole = h 0; has-count = h 1; few-values = h 2; few-labels = h 3; exact = h 4; owned = h 5; codes-differ = h 6 }
 
 -- a constraint
 pub record ConstraintSays (b : List ℕ) (at : ℕ) : Type 0 where

@@ -23,13 +23,13 @@ use Rattle.faults.specs.declared.Fault.{Fault}
 
 -- what holds of the checks of each kind of section holds of every section's
 pub each-section : (P : List Check → Type 0) (b : List ℕ) (k : ℕ) → P (headChecks b (sectionStart b k))
-    → P (variableChecks b (sectionStart b k)) → P (constraintChecks b (sectionStart b k)) → P (sectionChecks b k)
+    → P (variableChecks b k (sectionStart b k)) → P (constraintChecks b (sectionStart b k)) → P (sectionChecks b k)
 unfolding sectionChecks
 each-section P b k head variable constraint = go (eqb k 0) (leb k (variableCount b))
   where
     go : (s t : Bool)
         → P (cond s (headChecks b (sectionStart b k))
-        (cond t (variableChecks b (sectionStart b k)) (constraintChecks b (sectionStart b k))))
+        (cond t (variableChecks b k (sectionStart b k)) (constraintChecks b (sectionStart b k))))
     go true t = head
     go false true = variable
     go false false = constraint
@@ -40,7 +40,7 @@ unfolding complete sectionStart
 section-complete b k =
     each-section (λ cs. firstFault cs ≡ none → sectionStart b (suc k) ≤ length b) b k
     (λ e. leb-true (sectionStart b (suc k)) (length b) (head-says b (sectionStart b k) e .whole))
-    (λ e. leb-true (sectionStart b (suc k)) (length b) (variable-says b (sectionStart b k) e .whole))
+    (λ e. leb-true (sectionStart b (suc k)) (length b) (variable-says b k (sectionStart b k) e .whole))
     (λ e. leb-true (sectionStart b (suc k)) (length b) (constraint-says b (sectionStart b k) e .whole))
 
 -- a section's checks give the numbers 1 to 7 alone

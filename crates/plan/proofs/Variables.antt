@@ -12,7 +12,7 @@ use Rattle.base.proofs.Choice.{between-low, between-high}
 use Rattle.base.specs.Below.{anyBelow}
 use Rattle.base.specs.Choice.{between}
 use Rattle.format.specs.Format.{sectionStart, workerCount, variableCount, sizeAt, codeAt, numberedSize}
-use Rattle.format.specs.Limits.{maxValues}
+use Rattle.format.specs.Version.{maxSize}
 use Rattle.plan.proofs.Parts.{variable-read, size-read, value-read}
 use Rattle.plan.proofs.Passed.{variable-passed}
 use Rattle.plan.proofs.SectionSays.{VariableSays, variable-says}
@@ -26,15 +26,15 @@ module _ (b : List ℕ) (none-found : planFault b ≡ none) (x : ℕ) (h : x < v
   abbrev variable-start : ℕ
   variable-start = sectionStart b (suc x)
 
-  says : VariableSays b variable-start
-  says = variable-says b variable-start (variable-passed b none-found x h)
+  says : VariableSays b (suc x) variable-start
+  says = variable-says b (suc x) variable-start (variable-passed b none-found x h)
 
   owner-range : between 1 (workerCount b) (variableOf (planOf b) x .owner) ≡ true
   unfolding variableAt
   owner-range = rw (variable-read b x h) (says .owned)
 
-  size-range : sizeOf (planOf b) x ≤ maxValues
-  size-range = rw (size-read b x h) (leb-true (sizeAt b variable-start) maxValues (says .few-values))
+  size-range : sizeOf (planOf b) x ≤ maxSize b
+  size-range = rw (size-read b x h) (leb-true (sizeAt b variable-start) (maxSize b) (says .few-values))
 
   code-read : (v : ℕ) → v < numberedSize b (suc x) → valueOf (planOf b) x v .code ≡ codeAt b variable-start v
   code-read v k = ap (λ (a : Value). a .code) (value-read b x h v k)
@@ -50,7 +50,7 @@ module _ (b : List ℕ) (none-found : planFault b ≡ none) (x : ℕ) (h : x < v
       (sym (code-read u (omega arith)) ∙ e ∙ code-read v k)
 
   -- its owner, its values and their codes are as the plan asks
-  pub variable-fits : VariableFits (planOf b) x
+  pub variable-fits : VariableFits (maxSize b) (planOf b) x
   unfolding planOf
   variable-fits = record {
     owner-low = between-low 1 (workerCount b) (variableOf (planOf b) x .owner) owner-range;

@@ -1,6 +1,6 @@
 -- Named on an `unfolding` line, this opens what the crate and those below it compute with, for facts that hold by computing.
 use Rattle.base.specs.Computes.{base-computes}
-use Rattle.format.specs.Format.{sectionStart}
+use Rattle.format.specs.Computes.{format-computes}
 use Rattle.network.specs.Computes.{network-computes}
 use Rattle.plan.specs.Check.{complete, headInRange, headChecks, repeatsCode, variableChecks, variablesInOrder, constraintLength, tableFits, constraintChecks, sectionChecks, sectionFault}
 use Rattle.plan.specs.Decode.{planEnd, trailingFault, sectionsFault, planFault, variableAt, relationAt, constraintAt, planOf, decode}
@@ -8,5 +8,5 @@ use Rattle.plan.specs.Network.{unrecorded, withinLimit, permits, joins, 
 use Rattle.plan.specs.Plan.{variableOf, valueOf, sizeOf}
 
 unfoldable pub plan-computes : Unit {0}
-unfolding complete headInRange headChecks repeatsCode variableChecks variablesInOrder constraintLength tableFits constraintChecks sectionChecks sectionFault planEnd trailingFault sectionsFault planFault variableAt relationAt constraintAt planOf decode sectionStart unrecorded withinLimit permits joins ties spares accepts pairAllowed shareConstraint networkOf sizeOf variableOf valueOf base-computes network-computes
+unfolding complete headInRange headChecks repeatsCode variableChecks variablesInOrder constraintLength tableFits constraintChecks sectionChecks sectionFault planEnd trailingFault sectionsFault planFault variableAt relationAt constraintAt planOf decode unrecorded withinLimit permits joins ties spares accepts pairAllowed shareConstraint networkOf sizeOf variableOf valueOf base-computes format-computes network-computes
 plan-computes = tt

@@ -6,9 +6,10 @@ use mathlib.Core.Option.{Option, none, some}
 use lib.Dec.{ltb, eqb}
 use lib.ListN.{length}
 use Rattle.base.specs.Below.{firstBelow, listBelow}
-use Rattle.base.specs.Bytes.{byteAt}
-use Rattle.base.specs.Choice.{firstOf}
+use Rattle.base.specs.Choice.{between, firstOf}
 use Rattle.format.specs.Format.{sectionStart, constraintStart, workerCount, variableCount, constraintCount, sectionCount, ownerAt, sizeAt, codeAt, figureAt, firstAt, secondAt, kindAt, tableRowAt, limitAt, numberedSize}
+use Rattle.format.specs.Limits.{maxVersion}
+use Rattle.format.specs.Version.{version}
 use Rattle.plan.specs.Check.{sectionFault}
 use Rattle.faults.specs.Fault.{decline}
 use Rattle.plan.specs.Plan.{Value, Variable, Relation, table, sumLimit, Constraint, Plan}
@@ -31,7 +32,7 @@ sectionsFault b = firstOf (firstBelow (sectionCount b) (sectionFault b)) (traili
 unfoldable pub planFault : List ℕ → Option Decline
 planFault b =
     cond (eqb (length b) 0) (some (decline Truncated 0))
-    (cond (eqb (byteAt b 0) 1) (sectionsFault b) (some (decline BadVersion 0)))
+    (cond (between 1 maxVersion (version b)) (sectionsFault b) (some (decline BadVersion 0)))
 
 -- dish `v` of the slot whose section starts at `at`
 abbrev pub valueAt : List ℕ → ℕ → ℕ → Value

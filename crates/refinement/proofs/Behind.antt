@@ -13,14 +13,14 @@ use Rattle.base.proofs.Choice.{cond-true}
 use Rattle.lending.proofs.Overwritten.{overwrite-front, overwrite-back}
 use Rattle.disac4.specs.Need.{workNeed}
 use Rattle.lending.specs.Call.{overwrite}
-use Rattle.cells.proofs.Halves.{part-none}
+use Rattle.cells.proofs.Halves.{share-none}
 use Rattle.cells.proofs.Regions.{past-table, place-low}
 use Rattle.cells.specs.Layout.{BEHIND, regionAt, address}
-use Rattle.cells.specs.Memory.{clearedM, partOf, memOf}
+use Rattle.cells.specs.Memory.{clearedM, shareOf, memOf}
 
 -- a cell behind the needed ones
 mem-behind : (c : List ℕ) (j : ℕ) → j < 2 ^ 64 → memOf c BEHIND 0 j ≡ getD c (workNeed + j) 0
-unfolding memOf partOf workNeed
+unfolding memOf shareOf workNeed
 mem-behind c j h = cond-true (getD c (workNeed + j) 0) 0 (lt-ltb j (2 ^ 64) h)
 
 -- two buffers of one length that agree behind the needed cells are equal once the needed cells are cleared
@@ -70,9 +70,9 @@ cleared-memory c = fun-ext λ r. fun-ext λ i. fun-ext λ j. at-place r i j
     at-place r i j = go (ltb r BEHIND) refl (inside r i j) refl
       where
         go : (a : Bool) → ltb r BEHIND ≡ a → (b : Bool) → inside r i j ≡ b
-            → cond b (partOf (regionAt r) i (getD new (address (regionAt r) i j) 0)) 0
-            ≡ cond a 0 (cond b (partOf (regionAt r) i (getD c (address (regionAt r) i j) 0)) 0)
-        go true p true q = ap (partOf (regionAt r) i) (low r i j (ltb-true r BEHIND p) q) ∙ part-none (regionAt r) i
+            → cond b (shareOf (regionAt r) i (getD new (address (regionAt r) i j) 0)) 0
+            ≡ cond a 0 (cond b (shareOf (regionAt r) i (getD c (address (regionAt r) i j) 0)) 0)
+        go true p true q = ap (shareOf (regionAt r) i) (low r i j (ltb-true r BEHIND p) q) ∙ share-none (regionAt r) i
         go true p false q = refl
-        go false p true q = ap (partOf (regionAt r) i) (high r i j (ltb-false r BEHIND p))
+        go false p true q = ap (shareOf (regionAt r) i) (high r i j (ltb-false r BEHIND p))
         go false p false q = refl

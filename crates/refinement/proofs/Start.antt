@@ -10,6 +10,7 @@ use Rattle.base.proofs.Choice.{cond-true}
 use Rattle.disac4.proofs.Demands.{plan-sound}
 use Rattle.disac4.specs.Loading.{load}
 use Rattle.disac4.specs.System.{systemOf, systemAt}
+use Rattle.format.proofs.Widths.{size-range}
 use Rattle.index.proofs.Chains.{indexed, index-keeps}
 use Rattle.index.proofs.Kept.{indexed-kept}
 use Rattle.refinement.proofs.LoadKeeps.{load-starts}
@@ -24,21 +25,20 @@ use Rattle.loading.specs.Load.{loadM}
 use Rattle.refinement.specs.Run.{viewOf, startM}
 use Rattle.plan.proofs.Faults.{decoded}
 use Rattle.plan.proofs.Links.{linked-in-range}
-use Rattle.plan.proofs.WellFormed.{well-formed, few-labels}
+use Rattle.plan.proofs.WellFormed.{well-formed}
 use Rattle.plan.specs.Decode.{planFault, planOf}
 use Rattle.plan.specs.Network.{networkOf}
-use Rattle.plan.specs.WellFormed.{WellFormed}
 
 module _ (b : List ℕ) (sound : planFault b ≡ none) where
   -- its system fits the regions
   pub fits-regions : Small (systemAt b)
   unfolding systemOf networkOf
   fits-regions =
-      let fits : WellFormed (planOf b) = well-formed b (planOf b) (decoded b sound) in
+      let fits = well-formed b (planOf b) (decoded b sound) in
       record {
         sound = plan-sound (planOf b) fits;
-        few-values = λ x h. fits .each-variable x h .few-values;
-        few-labels = few-labels (planOf b) fits;
+        few-values = λ x h. omega (arith, fits .each-variable x h .few-values, size-range b);
+        few-labels = fits .few-labels;
         links-inside = linked-in-range (planOf b) fits;
       }
 

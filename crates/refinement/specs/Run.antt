@@ -7,8 +7,9 @@ use mathlib.Core.Path.{_≡_}
 use lib.ListN.{length, replicate}
 use Rattle.disac4.specs.Fold.{playBy, countBy}
 use Rattle.disac4.specs.Need.{workNeed}
+use Rattle.disac4.specs.Outcome.{finalCells}
 use Rattle.lending.specs.Call.{overwrite}
-use Rattle.disac4.specs.Report.{final, isPoll, isSend, listCells, lowestEmpty, reportOf, statusOf}
+use Rattle.disac4.specs.Report.{isPoll, isSend, lowestEmpty, reportOf, statusOf}
 use Rattle.disac4.specs.State.{State}
 use Rattle.disac4.specs.System.{System, systemAt}
 use Rattle.disac4.specs.Turn.{Turn, turn}
@@ -106,4 +107,4 @@ pub record Finishes (b cells lists : List ℕ) (g : Progress) (cells′ lists′
   pub cleared : cells′ ≡ overwrite (replicate workNeed 0) cells
   pub reported : (m : Mem) (ts : List Turn) → At b m ts cells g → r ≡ reportOf (systemAt b) ts
   pub listed : (m : Mem) (ts : List Turn) → At b m ts cells g
-      → lists′ ≡ overwrite (listCells (systemAt b) (final (systemAt b) ts)) lists
+      → lists′ ≡ overwrite (finalCells b ts) lists

@@ -26,6 +26,7 @@ use Rattle.disac4.specs.declared.Progress.{Progress}
 use Rattle.plan.proofs.Parts.{variables-read}
 use Rattle.plan.specs.Decode.{planOf}
 use Rattle.format.specs.Format.{variableCount}
+use Rattle.format.specs.Version.{rowWords}
 use Rattle.plan.specs.Network.{networkOf}
 use Rattle.plan.specs.Plan.{sizeOf}
 
@@ -37,9 +38,9 @@ domainRow b m x = rowOf (sizeOf (planOf b) x) (inDomain m x)
 
 -- all rows are written
 pub rows-written : (b : List ℕ) (m : Mem) (k : ℕ) (lists : List ℕ) → k ≡ variableCount b → (t : Tally)
-    → rowsBefore (domainRow b m) k lists ≡ overwrite (listCells (systemAt b) (view (systemAt b) m t)) lists
+    → rowsBefore (rowWords b) (domainRow b m) k lists ≡ overwrite (listCells (rowWords b) (systemAt b) (view (systemAt b) m t)) lists
 unfolding systemOf networkOf view
-rows-written b m k lists e t = rows-all (networkAt b) (inDomain m) lists k (e ∙ sym (variables-read b))
+rows-written b m k lists e t = rows-all (rowWords b) (networkAt b) (inDomain m) lists k (e ∙ sym (variables-read b))
 
 -- ---- empty domains
 

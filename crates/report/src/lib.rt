@@ -4,6 +4,7 @@ use disac4::Progress;
 use disac4::Report;
 use disac4::Status;
 use format::read;
+use format::version::row_words;
 use index::parts;
 use listing::put_row;
 ghost use mathlib.Core.Bool.{cond};
@@ -24,26 +25,28 @@ ghost use Rattle.cells.specs.View.{inDomain, view};
 ghost use Rattle.plan.specs.Decode.{planOf};
 ghost use Rattle.format.specs.Format.{variableCount};
 ghost use Rattle.format.specs.Limits.{maxVariables};
+ghost use Rattle.format.specs.Version.{rowWords};
 ghost use Rattle.plan.specs.Plan.{sizeOf};
 
 // The row of the values in a variable's domain.
 fn domain_row(plan: &[u8], cells: &[u16], x: usize) -> usize
     requires { ⌜ Ready (now plan) (now cells) × (x < variableCount (now plan)) ⌝ }
-    ensures { λ r. ⌜ (r ≡ rowOf (sizeOf (planOf (now (plan .entry))) x) (inDomain (memOf (now (cells .entry))) x)) × (r < 65536) ⌝ }
+    ensures { λ r. ⌜ r ≡ rowOf (sizeOf (planOf (now (plan .entry))) x) (inDomain (memOf (now (cells .entry))) x) ⌝ }
 {
     let values = parts::size(plan, cells, x);
     layout::row_holding(cells, layout::DOMAIN, x, values, layout::LISTED)
 }
 
-// Puts each variable's row into its list cell; the cells behind keep what they had.
+// Puts each variable's row into its list cells; the cells behind keep what they had.
 pub fn write_lists(plan: &[u8], cells: &[u16], lists: &mut [u16])
     requires { ⌜ Ready (now plan) (now cells) × (listNeed ≤ length (now lists)) ⌝ }
-    ensures { λ _. ⌜ ((t : Tally) → now (lists .exit) ≡ overwrite (listCells (systemAt (now (plan .entry))) (view (systemAt (now (plan .entry))) (memOf (now (cells .entry))) t)) (now (lists .entry))) ⌝ }
+    ensures { λ _. ⌜ ((t : Tally) → now (lists .exit) ≡ overwrite (listCells (rowWords (now (plan .entry))) (systemAt (now (plan .entry))) (view (systemAt (now (plan .entry))) (memOf (now (cells .entry))) t)) (now (lists .entry))) ⌝ }
 {
+    let words = row_words(plan);
     let variables = read::variable_count(plan);
     let mut x = 0;
     while x < variables {
-        put_row(lists, x, domain_row(plan, cells, x));
+        put_row(lists, words, x, domain_row(plan, cells, x));
         x += 1;
     }
 }

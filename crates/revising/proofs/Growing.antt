@@ -33,6 +33,6 @@ module _ {D : Type 0} (test : D → ℕ → Bool) where
   pub growing-all : (n row : ℕ) → Growing test n row → (all : ℕ) → n ≡ all → (d : D) → row ≡ rowOf all (test d)
   growing-all n row g all e d = g .is-row d ∙ ap (λ (k : ℕ). rowOf k (test d)) e
 
-  -- it fits a cell
-  pub growing-low : (n row : ℕ) → Growing test n row → n ≤ maxValues → row < 65536
+  -- it has no more bits than a variable may have values
+  pub growing-low : (n row : ℕ) → Growing test n row → n ≤ maxValues → row < 2 ^ maxValues
   growing-low n row g h = omega (arith, g .small, pow-mono h)

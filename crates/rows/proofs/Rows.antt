@@ -1,21 +1,22 @@
 -- The row of values that a constraint permits, read from either of its variables.
 use Prim.Native.Nat.{ℕ, suc, _+_, _-_, _*_, _/_, _%_, _<_, _≤_}
-use mathlib.Core.Bool.{Bool, true, false, and-comm}
+use mathlib.Core.Bool.{Bool, true, false, cond, and-comm}
 use mathlib.Core.List.{List}
 use mathlib.Core.Logic.{⊎-elim}
 use mathlib.Core.Option.{none}
-use mathlib.Core.Path.{_≡_, refl, sym, _∙_, ap, ap₂}
+use mathlib.Core.Path.{_≡_, refl, sym, _∙_, ap}
 use native.Mathlib.Decide.{ℕ-discrete}
 use native.Mathlib.Omega.{arith}
 use borrow.Author.Tests.{ltb-true, ltb-false, lt-ltb, le-ltb, leb-true, le-leb}
 use lib.Dec.{leb, ltb, eqb}
 use Rattle.base.proofs.Bools.{decided, bool-ext}
 use Rattle.base.proofs.Choice.{cond-true, cond-false}
-use Rattle.base.proofs.Row.{bit-low, bit-high, row-bit}
-use Rattle.base.specs.Bytes.{byteAt, wordAt}
+use Rattle.base.proofs.Digits.{number-bit}
+use Rattle.base.proofs.Row.{row-bit}
+use Rattle.base.specs.Bytes.{byteAt}
 use Rattle.base.specs.Row.{bit, rowOf}
-use Rattle.format.specs.Format.{variableCount, constraintCount, kindAt, tableRowAt, tableByteAt, limitAt, figureAt}
-use Rattle.format.specs.Limits.{maxValues, rowBytes}
+use Rattle.format.specs.Format.{variableCount, constraintCount, kindAt, tableRowStart, tableRowAt, tableByteAt, limitAt, figureAt}
+use Rattle.format.specs.Version.{maxSize, rowBytes}
 use Rattle.rows.proofs.Accepted.{acceptsAt, permits-table, permits-limit, permitted}
 use Rattle.rows.proofs.Ends.{over-turned}
 use Rattle.rows.specs.Permits.{permitsAt, permitsFrom, limited, inColumn, Loaded, over, Placed}
@@ -62,42 +63,25 @@ module _ (b : List ℕ) (at here v there : ℕ) where
           (judged ∙ limit-turned limit f (figureAt b there w))
 
   module _ (p : eqb (kindAt b at) 0 ≡ true) where
-    -- a table's row, from its first variable
-    pub table-bits : (r : ℕ) → r ≡ tableRowAt b at v → (w : ℕ) → bit r w ≡ permitsFrom b at true here v there w
-    unfolding permitsFrom
-    table-bits r e w = permits-table b at here v there w (bit r w) p r e refl
-
-    -- a table's column, from its second
-    pub column-bits : (n r : ℕ) → r ≡ rowOf n (inColumn b at v) → (w : ℕ) → w < n
-        → bit r w ≡ permitsFrom b at false here v there w
+    -- a table's row from its first variable, and its column from its second
+    pub table-permits : (leads : Bool) (n r : ℕ) → ((w : ℕ) → w < n → bit r w ≡ cond leads (bit (tableRowAt b at v) w) (inColumn b at v w))
+        → (w : ℕ) → w < n → bit r w ≡ permitsFrom b at leads here v there w
     unfolding permitsFrom inColumn
-    column-bits n r e w h =
-        permits-table b at there w here v (bit r w) p (tableRowAt b at w) refl
-        (ap (λ (k : ℕ). bit k w) e ∙ row-bit n (inColumn b at v) w h)
+    table-permits true n r e w h = permits-table b at here v there w (bit r w) p (tableRowAt b at v) refl (e w h)
+    table-permits false n r e w h = permits-table b at there w here v (bit r w) p (tableRowAt b at w) refl (e w h)
 
 -- ---- a table's column, by one byte of each row
 
--- values below 8 stand in the low byte, the others in the high one
-pub column-byte : (b : List ℕ) → ((i : ℕ) → byteAt b i < 256) → (at v : ℕ) → v < maxValues → (w : ℕ)
-    → bit (tableByteAt b at w (rowBytes - 1 - v / 8)) (v % 8) ≡ inColumn b at v w
-unfolding inColumn wordAt
+-- eight values stand in each, from the low byte on
+pub column-byte : (b : List ℕ) → ((i : ℕ) → byteAt b i < 256) → (at v : ℕ) → v < maxSize b → (w : ℕ)
+    → bit (tableByteAt b at w (rowBytes b - 1 - v / 8)) (v % 8) ≡ inColumn b at v w
+unfolding inColumn byteAt
 column-byte b bytes at v h w =
-    ⊎-elim
-    (λ l.
-    let below : v < 8 = ltb-true v 8 l in
-    let e : rowBytes - 1 - v / 8 ≡ 1 = omega arith in
-    let f : v % 8 ≡ v = omega arith in
-    ap₂ (λ (half k : ℕ). bit (tableByteAt b at w half) k) e f
-    ∙ sym (bit-low 8 (byteAt b (at + 5 + rowBytes * w)) (byteAt b (at + 5 + rowBytes * w + 1)) v below))
-    (λ l.
-    let past : 8 ≤ v = ltb-false v 8 l in
-    let e : at + 5 + rowBytes * w + (rowBytes - 1 - v / 8) ≡ at + 5 + rowBytes * w = omega arith in
-    let f : v ≡ 8 + v % 8 = omega arith in
-    ap (λ (i : ℕ). bit (byteAt b i) (v % 8)) e
-    ∙ sym
-    (ap (bit (tableRowAt b at w)) f
-    ∙ bit-high 8 (byteAt b (at + 5 + rowBytes * w)) (byteAt b (at + 5 + rowBytes * w + 1)) (v % 8) (bytes (at + 5 + rowBytes * w + 1))))
-    (decided (ltb v 8))
+    let start = tableRowStart b at w in
+    let e : v ≡ 8 * (v / 8) + v % 8 = omega arith in
+    sym
+    (ap (bit (tableRowAt b at w)) e
+    ∙ number-bit 8 b start (rowBytes b) (λ d p. bytes (start + d)) (v / 8) (v % 8) (omega arith) (omega arith))
 
 -- ---- a constraint of the chain, from either of its variables
 

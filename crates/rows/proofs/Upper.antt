@@ -28,8 +28,8 @@ module _ (t : ℕ → Bool) (values : ℕ) where
   pub upper-more : (row n : ℕ) → (n ≡ 0 → ⊥) → Upper t values row n → (p : ℕ) → p ≡ one (t (n - 1)) → Upper t values (2 * row + p) (n - 1)
   upper-more row n some u = upper-next row (n - 1) (at-suc (Upper t values row) n some u)
 
-  pub upper-small : (row n : ℕ) → values ≤ maxValues → Upper t values row n → row < 65536
-  upper-small row n h u = omega (arith, u .whole, row-low values t h, mul-le-mul-right row (pow-pos n))
+  pub upper-small : (row n : ℕ) → values ≤ maxValues → Upper t values row n → row < 2 ^ maxValues
+  upper-small row n h u = omega (arith, u .whole, row-low maxValues values t h, mul-le-mul-right row (pow-pos n))
 
   pub upper-all : (row n : ℕ) → n ≡ 0 → Upper t values row n → row ≡ rowOf values t
   unfolding rowOf

@@ -2,13 +2,18 @@
 use base::row_holds;
 use base::row_if;
 use format::constraint;
-use format::limits::ROW_BYTES;
+use format::limits::MAX_WORDS;
+use format::limits::WORD_BYTES;
 use format::read;
+use format::version::row_words;
+ghost use mathlib.Core.Bool.{cond};
 ghost use mathlib.Core.Path.{_≡_};
 ghost use Prim.Native.Nat.{ℕ, _<_, _≤_};
 ghost use lib.Dec.{ltb};
 ghost use lib.ListN.{length};
+ghost use Rattle.format.specs.Format.{tableRowAt};
 ghost use Rattle.format.specs.Limits.{maxValues};
+ghost use Rattle.format.specs.Version.{rowWords, maxSize};
 ghost use Rattle.base.specs.Row.{bit, rowOf};
 ghost use Rattle.plan.specs.Network.{withinLimit};
 ghost use Rattle.rows.specs.Permits.{permitsFrom, limited, inColumn};
@@ -52,24 +57,42 @@ fn limit_row(plan: &[u8], limit: usize, f: usize, place: usize, values: usize) -
 }
 
 // The row of the values of a table's first variable whose rows hold value v of the second; it has `values` of them.
-// It is doubled in the same way. Value v stands in one byte of each row, so the other is not read.
-fn table_column(plan: &[u8], at: usize, v: usize, values: usize) -> usize
-    requires { ⌜ (at ≤ length (now plan)) × (v < maxValues) × (values ≤ maxValues) ⌝ }
+// It is doubled in the same way. Value v stands in one byte of each row, so no other is read.
+fn table_column(plan: &[u8], words: usize, at: usize, v: usize, values: usize) -> usize
+    requires { ⌜ (words ≡ rowWords (now plan)) × (at ≤ length (now plan)) × (v < maxSize (now plan)) × (values ≤ maxValues) ⌝ }
     ensures { λ r. ⌜ r ≡ rowOf values (inColumn (now (plan .entry)) at v) ⌝ }
 {
-    let part = ROW_BYTES - 1 - v / 8;
+    let part = WORD_BYTES * words - 1 - v / 8;
     let k = v % 8;
     let mut row = 0;
     let mut w = values;
     while w != 0 {
         w -= 1;
-        row = 2 * row + row_if(row_holds(constraint::table_byte(plan, at, w, part), k), 0);
+        row = 2 * row
+            + row_if(
+                row_holds(constraint::table_byte(plan, words, at, w, part), k),
+                0,
+            );
     }
     row
 }
 
+// The row of the values that the table at `at` permits with value v of its first variable where `leads`, else of its second; the
+// other variable has `values` of them. A row for v is read at once.
+fn table_values(plan: &[u8], words: usize, at: usize, leads: bool, v: usize, values: usize) -> usize
+    requires { ⌜ (words ≡ rowWords (now plan)) × (at ≤ length (now plan)) × (v < maxSize (now plan)) × (values ≤ maxValues) ⌝ }
+    ensures { λ r. ⌜ ((w : ℕ) → w < values → bit r w ≡ cond leads (bit (tableRowAt (now (plan .entry)) at v) w) (inColumn (now (plan .entry)) at v w)) ⌝ }
+{
+    if leads {
+        constraint::table_row(plan, words, at, v)
+    } else {
+        table_column(plan, words, at, v, values)
+    }
+}
+
 // The row of the values that the constraint at `at` permits with value v of the variable at `here`, which is its
-// first where `leads`; the other variable, at `there`, has `values` of them. A table's row for v is read at once.
+// first where `leads`; the other variable, at `there`, has `values` of them. The compiler makes more of a table's rows where it
+// knows how many words they have, so it is told.
 pub fn constraint_row(
     plan: &[u8],
     at: usize,
@@ -79,7 +102,7 @@ pub fn constraint_row(
     there: usize,
     values: usize,
 ) -> usize
-    requires { ⌜ (at ≤ length (now plan)) × (here ≤ length (now plan)) × (there ≤ length (now plan)) × (v < maxValues) × (values ≤ maxValues) ⌝ }
+    requires { ⌜ (at ≤ length (now plan)) × (here ≤ length (now plan)) × (there ≤ length (now plan)) × (v < maxSize (now plan)) × (values ≤ maxValues) ⌝ }
     ensures { λ r. ⌜ ((w : ℕ) → w < values → bit r w ≡ permitsFrom (now (plan .entry)) at leads here v there w) ⌝ }
 {
     if constraint::kind(plan, at) != 0 {
@@ -91,8 +114,8 @@ pub fn constraint_row(
             values,
         );
     }
-    if leads {
-        return constraint::table_row(plan, at, v);
+    if row_words(plan) == 1 {
+        return table_values(plan, 1, at, leads, v, values);
     }
-    table_column(plan, at, v, values)
+    table_values(plan, MAX_WORDS, at, leads, v, values)
 }

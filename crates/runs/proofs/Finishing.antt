@@ -6,8 +6,10 @@ use mathlib.Core.Path.{_≡_, _∙_, ap}
 use lib.ListN.{length, replicate}
 use Rattle.lending.specs.Call.{overwrite}
 use Rattle.disac4.specs.Need.{workNeed}
-use Rattle.disac4.specs.Report.{lowestEmpty, statusOf, listCells, final, reportOf}
+use Rattle.disac4.specs.Outcome.{finalCells}
+use Rattle.disac4.specs.Report.{lowestEmpty, statusOf, listCells, reportOf}
 use Rattle.disac4.specs.State.{State}
+use Rattle.format.specs.Version.{rowWords}
 use Rattle.disac4.specs.System.{systemAt}
 use Rattle.disac4.specs.Turn.{Turn}
 use Rattle.disac4.specs.declared.Report.{Report}
@@ -34,9 +36,9 @@ module _ (b : List ℕ) (sound : planFault b ≡ none) (m : Mem) (ts : List Turn
 
   -- so are the list cells
   lists-of-turns : (lists : List ℕ)
-      → overwrite (listCells (systemAt b) (view (systemAt b) (memOf cells) (g .tally))) lists
-      ≡ overwrite (listCells (systemAt b) (final (systemAt b) ts)) lists
-  lists-of-turns lists = ap (λ (st : State). overwrite (listCells (systemAt b) st) lists) (under-view b sound m ts cells g at)
+      → overwrite (listCells (rowWords b) (systemAt b) (view (systemAt b) (memOf cells) (g .tally))) lists
+      ≡ overwrite (finalCells b ts) lists
+  lists-of-turns lists = ap (λ (st : State). overwrite (listCells (rowWords b) (systemAt b) st) lists) (under-view b sound m ts cells g at)
 
 -- once the needed cells are 0, the work buffer is as document 01 says of the one that was lent
 pub work-of-turns : (b : List ℕ) → planFault b ≡ none → (work : List ℕ) (ts : List Turn) (cells : List ℕ) (g : Progress)
@@ -49,7 +51,7 @@ work-of-turns b sound work ts cells g at same few =
 
 pub finishes : (b cells lists : List ℕ) (g : Progress) (cells′ lists′ : List ℕ) (r : Report) → planFault b ≡ none
     → cells′ ≡ overwrite (replicate workNeed 0) cells → r ≡ reportM (systemAt b) (memOf cells) g
-    → lists′ ≡ overwrite (listCells (systemAt b) (view (systemAt b) (memOf cells) (g .tally))) lists
+    → lists′ ≡ overwrite (listCells (rowWords b) (systemAt b) (view (systemAt b) (memOf cells) (g .tally))) lists
     → Finishes b cells lists g cells′ lists′ r
 finishes b cells lists g cells′ lists′ r sound cleared report listed = record {
   cleared = cleared;

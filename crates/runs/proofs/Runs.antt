@@ -31,7 +31,7 @@ begun b m cells g sound long at = record {
 pub ends : (b : List ℕ) → planFault b ≡ none → (work cells cells′ lists work′ lists′ : List ℕ) (us : List Turn) (g g′ : Progress) (r : Report)
     → At b (memOf work) [] cells g → Plays b us cells g cells′ g′ → length cells′ ≡ length work → length cells′ < 2 ^ 64
     → Finishes b cells′ lists g′ work′ lists′ r
-    → Gives (outcome (Reported (reportOf (systemAt b) us)) (written (systemAt b) us (lent work lists))) (Reported r) (lent work′ lists′)
+    → Gives (outcome (Reported (reportOf (systemAt b) us)) (written b us (lent work lists))) (Reported r) (lent work′ lists′)
 unfolding written Plays
 ends b sound work cells cells′ lists work′ lists′ us g g′ r at plays same few f =
     let now = plays (memOf work) [] at in

@@ -6,8 +6,9 @@ use base::power;
 use faults::Fault;
 use faults::Verdict;
 use format::constraint;
-use format::limits::ROW_BYTES;
+use format::limits::MAX_WORDS;
 use format::read;
+use format::version;
 use reader::word_at;
 ghost use mathlib.Core.Path.{_≡_};
 ghost use mathlib.Core.Bool.{true};
@@ -17,6 +18,7 @@ ghost use lib.ListN.{length};
 ghost use Rattle.base.specs.Below.{allBelow};
 ghost use Rattle.format.specs.Format.{tableRowAt};
 ghost use Rattle.format.specs.Limits.{maxValues};
+ghost use Rattle.format.specs.Version.{rowWords};
 ghost use Rattle.plan.specs.Check.{variablesInOrder, constraintLength, tableFits, constraintChecks};
 ghost use Rattle.faults.specs.CheckList.{firstFault, verdictOf};
 ghost use Rattle.sections.specs.Known.{VariablesKnown};
@@ -43,21 +45,21 @@ fn constraint_length(plan: &[u8], at: usize, starts: &Starts) -> usize
     ensures { λ r. ⌜ r ≡ constraintLength (now (plan .entry)) at ⌝ }
 {
     if constraint::kind(plan, at) == 0 {
-        3 + ROW_BYTES * numbered_size(plan, starts, constraint::first(plan, at))
+        3 + version::row_bytes(plan) * numbered_size(plan, starts, constraint::first(plan, at))
     } else {
         5
     }
 }
 
 // No row of a table holds a value from `width` on.
-fn rows_fit(plan: &[u8], at: usize, rows: usize, width: usize) -> bool
-    requires { ⌜ (at ≤ length (now plan)) × (rows ≤ maxValues) × (width ≤ maxValues) ⌝ }
+fn rows_fit(plan: &[u8], words: usize, at: usize, rows: usize, width: usize) -> bool
+    requires { ⌜ (words ≡ rowWords (now plan)) × (at ≤ length (now plan)) × (rows ≤ maxValues) × (width ≤ maxValues) ⌝ }
     ensures { λ r. ⌜ r ≡ allBelow rows (λ v. ltb (tableRowAt (now (plan .entry)) at v) (2 ^ width)) ⌝ }
 {
     let limit = power(width);
     let mut v = 0;
     while v < rows {
-        if limit <= constraint::table_row(plan, at, v) {
+        if limit <= constraint::table_row(plan, words, at, v) {
             return false;
         }
         v += 1;
@@ -65,7 +67,8 @@ fn rows_fit(plan: &[u8], at: usize, rows: usize, width: usize) -> bool
     true
 }
 
-// No bit of a table stands at or past the second variable's count.
+// No bit of a table stands at or past the second variable's count. The compiler makes more of the rows where it knows how many
+// words they have, so it is told.
 fn table_fits(plan: &[u8], at: usize, starts: &Starts) -> bool
     requires { ⌜ VariablesKnown (now plan) (now starts) × (at ≤ length (now plan)) × (variablesInOrder (now plan) at ≡ true) ⌝ }
     ensures { λ r. ⌜ r ≡ tableFits (now (plan .entry)) at ⌝ }
@@ -75,7 +78,10 @@ fn table_fits(plan: &[u8], at: usize, starts: &Starts) -> bool
     }
     let rows = numbered_size(plan, starts, constraint::first(plan, at));
     let width = numbered_size(plan, starts, constraint::second(plan, at));
-    rows_fit(plan, at, rows, width)
+    if version::row_words(plan) == 1 {
+        return rows_fit(plan, 1, at, rows, width);
+    }
+    rows_fit(plan, MAX_WORDS, at, rows, width)
 }
 
 // A constraint's section: 1, 3 (length under 3), 7 (kind), 5, 3, 7 (bits).

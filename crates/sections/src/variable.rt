@@ -4,13 +4,14 @@ use crate::section::Starts;
 use base::between;
 use faults::Fault;
 use faults::Verdict;
-use format::limits::MAX_VALUES;
+use format::limits::MAX_LABELS;
 use format::read;
+use format::version;
 use reader::word_at;
 ghost use mathlib.Core.Path.{_≡_};
-ghost use Prim.Native.Nat.{_≤_};
+ghost use Prim.Native.Nat.{ℕ, _≤_};
 ghost use lib.ListN.{length};
-ghost use Rattle.plan.specs.Check.{repeatsCode, variableChecks};
+ghost use Rattle.plan.specs.Check.{repeatsCode, labelsTo, variableChecks};
 ghost use Rattle.faults.specs.CheckList.{firstFault, verdictOf};
 ghost use Rattle.format.specs.Format.{variableCount, numberedSize};
 ghost use Rattle.format.specs.Limits.{maxValues};
@@ -39,24 +40,29 @@ fn repeats_code(plan: &[u8], at: usize) -> bool
     found
 }
 
-// A variable's section: 1, 3 (length under 2), 4, 3, 5, 6.
-pub fn check_variable(plan: &[u8], at: usize) -> Verdict
+// The section of a variable, with which there are so many labels: 1, 3 (length under 2), 4 (its own count), 4 (the labels), 3, 5, 6.
+pub fn check_variable(plan: &[u8], at: usize, labels: usize) -> Verdict
     requires { ⌜ at ≤ length (now plan) ⌝ }
-    ensures { λ r. ⌜ r ≡ verdictOf (firstFault (variableChecks (now (plan .entry)) at)) ⌝ }
+    ensures { λ r. ⌜ ((s : ℕ) → labels ≡ labelsTo (now (plan .entry)) s → r ≡ verdictOf (firstFault (variableChecks (now (plan .entry)) s at))) ⌝ }
 {
     let length = word_at(plan, at);
     let size = read::size(plan, at);
+    let most = version::max_size(plan);
+    let called_for = 2 + 4 * size;
     if !section::complete(plan, at) {
         return Verdict::Fails(Fault::Truncated);
     }
     if length < 2 {
         return Verdict::Fails(Fault::BadLength); // no room for the count
     }
-    if MAX_VALUES < size {
-        return Verdict::Fails(Fault::BadCount);
+    if most < size {
+        return Verdict::Fails(Fault::BadCount); // too many for the version
     }
-    if length != 2 + 4 * size {
-        return Verdict::Fails(Fault::BadLength);
+    if MAX_LABELS < labels {
+        return Verdict::Fails(Fault::BadCount); // too many with it
+    }
+    if length != called_for {
+        return Verdict::Fails(Fault::BadLength); // not as the count calls for
     }
     if !between(1, read::worker_count(plan), read::owner(plan, at)) {
         return Verdict::Fails(Fault::BadNumber);

@@ -7,34 +7,35 @@ use Rattle.base.proofs.Row.{odd-next}
 use Rattle.base.specs.Row.{isOdd}
 use Rattle.disac4.specs.Report.{domainCells}
 use Rattle.listing.proofs.ListCells.{shows-written}
-use Rattle.listing.specs.ListCells.{Shows}
+use Rattle.listing.specs.ListCells.{WideEnough, Shows}
 use Rattle.network.specs.Network.{Network, Domains, loaded}
 use Rattle.network.specs.Sweep.{swept}
 use Rattle.sweeping.specs.Outcome.{TwoLists, twoLists, oneOf, writeBeside, holding, writeOther, afterSweeps}
 use Rattle.sweeping.specs.Sweeping.{SweepsTo, SweepsAt}
 
 -- what a sweep has written holds its lists
-written-shows : (net : Network) (d : Domains) (k : ℕ) (l : TwoLists)
-    → Shows net d (holding (suc k) (writeOther k (domainCells net d) l))
+written-shows : (words : ℕ) (net : Network) → WideEnough words net → (d : Domains) (k : ℕ) (l : TwoLists)
+    → Shows words net d (holding (suc k) (writeOther k (domainCells words net d) l))
 unfolding holding writeOther
-written-shows net d k l = rw (odd-next k) (go (isOdd k))
+written-shows words net wide d k l = rw (odd-next k) (go (isOdd k))
   where
-    go : (b : Bool) → Shows net d (oneOf (not b) (writeBeside b (domainCells net d) l))
-    go true = shows-written net d (l .first)
-    go false = shows-written net d (l .second)
+    go : (b : Bool) → Shows words net d (oneOf (not b) (writeBeside b (domainCells words net d) l))
+    go true = shows-written words net wide d (l .first)
+    go false = shows-written words net wide d (l .second)
 
 -- so after `k` sweeps the lists stand where the next one reads
-pub holding-shows : (net : Network) (k : ℕ) (l : TwoLists) → Shows net (swept net k) (holding k (afterSweeps net k l))
+pub holding-shows : (words : ℕ) (net : Network) → WideEnough words net → (k : ℕ) (l : TwoLists)
+    → Shows words net (swept net k) (holding k (afterSweeps words net k l))
 unfolding holding afterSweeps swept
-holding-shows net zero l = shows-written net (loaded net) (l .first)
-holding-shows net (suc k) l = written-shows net (swept net (suc k)) k (afterSweeps net k l)
+holding-shows words net wide zero l = shows-written words net wide (loaded net) (l .first)
+holding-shows words net wide (suc k) l = written-shows words net wide (swept net (suc k)) k (afterSweeps words net k l)
 
 -- a sweep from the one buffer to the other is sweep `k`; which is which, `k` decides
-pub sweeps-turn : (net : Network) (k : ℕ) (l : TwoLists) (to : List ℕ) (shorter : ℕ) (b : Bool) → isOdd k ≡ b
-    → SweepsTo net (oneOf b l) (oneOf (not b) l) to shorter
-    → SweepsAt net k l (cond b (twoLists to (l .second)) (twoLists (l .first) to)) shorter
+pub sweeps-turn : (words : ℕ) (net : Network) (k : ℕ) (l : TwoLists) (to : List ℕ) (shorter : ℕ) (b : Bool) → isOdd k ≡ b
+    → SweepsTo words net (oneOf b l) (oneOf (not b) l) to shorter
+    → SweepsAt words net k l (cond b (twoLists to (l .second)) (twoLists (l .first) to)) shorter
 unfolding SweepsAt SweepsTo holding writeOther swept
-sweeps-turn net k l to shorter true e h =
+sweeps-turn words net k l to shorter true e h =
     rw e (λ shows. let g = h (swept net k) shows in (ap (λ (a : List ℕ). twoLists a (l .second)) (g .0), g .1))
-sweeps-turn net k l to shorter false e h =
+sweeps-turn words net k l to shorter false e h =
     rw e (λ shows. let g = h (swept net k) shows in (ap (λ (a : List ℕ). twoLists (l .first) a) (g .0), g .1))

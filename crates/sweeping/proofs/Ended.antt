@@ -18,10 +18,10 @@ use Rattle.network.specs.Network.{Network}
 use Rattle.network.specs.Sweep.{swept, sweepCount}
 use Rattle.sweeping.specs.Outcome.{TwoLists, twoLists, oneOf, writeBeside, holding, writeOther, sweptCells, afterSweeps, partOf, lastSweep}
 
-module _ (net : Network) where
+module _ (words : ℕ) (net : Network) where
   -- the lists after any number of sweeps
   abbrev after : ℕ → List ℕ
-  after = sweptCells net
+  after = sweptCells words net
 
   module _ (l : TwoLists) where
     -- after one sweep or more, one buffer starts with the lists of the last sweep and the other with those before it
@@ -30,7 +30,7 @@ module _ (net : Network) where
         cond b (twoLists (overwrite (after (suc k)) (l .first)) (overwrite (after k) (l .second)))
         (twoLists (overwrite (after k) (l .first)) (overwrite (after (suc k)) (l .second)))
 
-    alternate : (k : ℕ) → afterSweeps net (suc k) l ≡ alternating k (isOdd k)
+    alternate : (k : ℕ) → afterSweeps words net (suc k) l ≡ alternating k (isOdd k)
     unfolding afterSweeps writeOther swept
     alternate zero = refl
     alternate (suc k) = ap (writeOther (suc k) (after (suc (suc k)))) (alternate k) ∙ rw (odd-next k) (go (isOdd k))
@@ -38,7 +38,7 @@ module _ (net : Network) where
         again : (cells : List ℕ) → overwrite (after (suc (suc k))) (overwrite (after k) cells) ≡ overwrite (after (suc (suc k))) cells
         again cells =
             overwrite-again _ _ cells
-            (lists-length net (swept net (suc (suc k))) ∙ sym (lists-length net (swept net k)))
+            (lists-length words net (swept net (suc (suc k))) ∙ sym (lists-length words net (swept net k)))
 
         go : (b : Bool) → writeBeside (not b) (after (suc (suc k))) (alternating k b) ≡ alternating (suc k) (not b)
         go true = ap (λ (c : List ℕ). twoLists (overwrite (after (suc k)) (l .first)) c) (again (l .second))
@@ -46,11 +46,11 @@ module _ (net : Network) where
 
     -- the last sweep deletes nothing, so when they have ended the two start alike
     pub ended : let last = after (sweepCount net) in
-        afterSweeps net (sweepCount net) l ≡ twoLists (overwrite last (l .first)) (overwrite last (l .second))
+        afterSweeps words net (sweepCount net) l ≡ twoLists (overwrite last (l .first)) (overwrite last (l .second))
     ended =
         let last = comes-to-rest net in
         let k = last .0 in
-        let same : after (suc k) ≡ after k = ap (domainCells net) (last-same net k (last .1)) in
+        let same : after (suc k) ≡ after k = ap (domainCells words net) (last-same net k (last .1)) in
         rw (last .1 .count) (alternate k ∙ alike k (isOdd k) (sym same))
       where
         alike : (k : ℕ) (b : Bool) → after k ≡ after (suc k)

@@ -1,5 +1,5 @@
 -- The row of a variable on its way through a sweep, revised against one variable after the other.
-use Prim.Native.Nat.{ℕ, _+_, _<_}
+use Prim.Native.Nat.{ℕ, _+_}
 use mathlib.Core.Bool.{Bool, true, false, _&&_, _||_, not, and-assoc}
 use mathlib.Core.List.{List}
 use mathlib.Core.Path.{_≡_, refl, sym, _∙_, ap}
@@ -56,6 +56,5 @@ module _ (net : Network) (d : Domains) (x : ℕ) where
   left-all k e = ap rowLeft e
 
 -- the row, revised against the first `k` variables, whichever domains the lists show
-pub record Revised (net : Network) (lists : List ℕ) (x row k : ℕ) : Type 0 where
-  pub low : row < 65536
-  pub is-left : (d : Domains) → Shows net d lists → row ≡ rowLeft net d x k
+abbrev pub Revised : ℕ → Network → List ℕ → ℕ → ℕ → ℕ → Type 0
+Revised words net lists x row k = (d : Domains) → Shows words net d lists → row ≡ rowLeft net d x k

@@ -12,7 +12,7 @@ use Rattle.base.proofs.Row.{row-bit, row-ext}
 use Rattle.base.specs.Row.{bit}
 use Rattle.disac4.specs.Need.{listNeed}
 use Rattle.disac4.specs.Report.{domainCells, rowFrom}
-use Rattle.format.specs.Limits.{maxVariables}
+use Rattle.format.specs.Limits.{maxWords, maxVariables}
 use Rattle.lending.specs.Call.{overwrite}
 use Rattle.listing.proofs.ListCells.{rowsBefore, rows-none, rows-next, rows-all}
 use Rattle.listing.specs.ListCells.{putRow}
@@ -20,7 +20,7 @@ use Rattle.network.proofs.Sweeps.{rests-each}
 use Rattle.network.specs.Network.{Network, Domains}
 use Rattle.network.specs.Sweep.{sweep, rests}
 
-module _ (net : Network) (d : Domains) where
+module _ (words : ℕ) (net : Network) (d : Domains) where
   -- the sweep leaves the row of a variable as it is
   abbrev Stays : ℕ → Type 0
   Stays x = rowFrom net (sweep net d) x ≡ rowFrom net d x
@@ -40,22 +40,22 @@ module _ (net : Network) (d : Domains) where
   module _ (old : List ℕ) where
     -- the sweep has come to variable `x`
     pub record Writing (new : List ℕ) (shorter x : ℕ) : Type 0 where
-      pub written : new ≡ rowsBefore (rowFrom net (sweep net d)) x old
+      pub written : new ≡ rowsBefore words (rowFrom net (sweep net d)) x old
       pub counted : (shorter ≡ 0) ↔ ((z : ℕ) → z < x → Stays z)
 
     -- nothing is written yet
     pub writing-none : Writing old 0 0
     writing-none = record {
-      written = rows-none (rowFrom net (sweep net d)) old;
+      written = rows-none words (rowFrom net (sweep net d)) old;
       counted = (λ e z h. absurd (not-suc-le-zero h), λ h. refl);
     }
 
     -- one row more, which counts 1 where it differs from the row before the sweep
-    pub writing-next : (new new′ : List ℕ) (shorter x row before one : ℕ) → Writing new shorter x → listNeed ≤ length old
+    pub writing-next : (new new′ : List ℕ) (shorter x row before one : ℕ) → Writing new shorter x → words ≤ maxWords → listNeed ≤ length old
         → x < maxVariables → row ≡ rowFrom net (sweep net d) x → before ≡ rowFrom net d x → ((one ≡ 0) ↔ (row ≡ before))
-        → new′ ≡ putRow x row new → Writing new′ (shorter + one) (x + 1)
-    writing-next new new′ shorter x row before one w long low is-row is-before test put = record {
-      written = put ∙ ap₂ (putRow x) is-row (w .written) ∙ rows-next (rowFrom net (sweep net d)) x old long low;
+        → new′ ≡ putRow words x row new → Writing new′ (shorter + one) (x + 1)
+    writing-next new new′ shorter x row before one w few long low is-row is-before test put = record {
+      written = put ∙ ap₂ (putRow words x) is-row (w .written) ∙ rows-next words few (rowFrom net (sweep net d)) x old long low;
       counted = (
         λ e. up-to Stays x (sym is-row ∙ test .0 (omega arith) ∙ is-before) (w .counted .0 (omega arith)),
         λ stay.
@@ -67,9 +67,9 @@ module _ (net : Network) (d : Domains) where
 
     -- all of them
     pub writing-all : (new : List ℕ) (shorter x : ℕ) → Writing new shorter x → x ≡ net .variables
-        → (new ≡ overwrite (domainCells net (sweep net d)) old) × ((shorter ≡ 0) ↔ (rests net d ≡ true))
+        → (new ≡ overwrite (domainCells words net (sweep net d)) old) × ((shorter ≡ 0) ↔ (rests net d ≡ true))
     writing-all new shorter x w e = (
-      w .written ∙ rows-all net (sweep net d) old x e,
+      w .written ∙ rows-all words net (sweep net d) old x e,
       (
         λ p. stay-rests (λ z h. w .counted .0 p z (omega arith)),
         λ r. w .counted .1 (λ z h. rests-stay r z (omega arith)),

@@ -9,6 +9,7 @@ use Rattle.base.specs.Row.{isOdd}
 use Rattle.disac4.specs.Need.{listNeed}
 use Rattle.disac4.specs.Report.{domainCells}
 use Rattle.disac4.specs.System.{networkAt}
+use Rattle.format.specs.Version.{rowWords}
 use Rattle.faults.specs.declared.Fault.the-variants.{ShortLists}
 use Rattle.lending.specs.Call.{Outcome, outcome, overwrite, Buffer, Call}
 use Rattle.network.specs.Network.{Network, loaded}
@@ -43,16 +44,16 @@ holding k = oneOf (isOdd k)
 unfoldable pub writeOther : ℕ → List ℕ → TwoLists → TwoLists
 writeOther k = writeBeside (isOdd k)
 
--- the lists after `k` sweeps of the loaded ones, as cells
-abbrev pub sweptCells : Network → ℕ → List ℕ
-sweptCells net k = domainCells net (swept net k)
+-- the lists after `k` sweeps of the loaded ones, as cells; a row has so many words
+abbrev pub sweptCells : ℕ → Network → ℕ → List ℕ
+sweptCells words net k = domainCells words net (swept net k)
 
 -- the buffers after `k` sweeps: the first starts with the loaded lists, each sweep writes its lists, and later cells are kept
-unfoldable pub afterSweeps : Network → ℕ → TwoLists → TwoLists
-afterSweeps net zero l = twoLists (overwrite (domainCells net (loaded net)) (l .first)) (l .second)
-afterSweeps net (suc k) l = writeOther k (sweptCells net (suc k)) (afterSweeps net k l)
+unfoldable pub afterSweeps : ℕ → Network → ℕ → TwoLists → TwoLists
+afterSweeps words net zero l = twoLists (overwrite (domainCells words net (loaded net)) (l .first)) (l .second)
+afterSweeps words net (suc k) l = writeOther k (sweptCells words net (suc k)) (afterSweeps words net k l)
 
--- either buffer under 32 cells: 10
+-- either buffer under 64 cells: 10
 abbrev pub firstBuffer : Buffer TwoLists
 firstBuffer = record { cells = λ l. l .first; need = listNeed; fault = ShortLists }
 
@@ -60,15 +61,15 @@ abbrev pub secondBuffer : Buffer TwoLists
 secondBuffer = record { cells = λ l. l .second; need = listNeed; fault = ShortLists }
 
 -- sweeps until the first that deletes nothing: their number, and what they leave
-unfoldable pub sweepOutcome : Network → TwoLists → Outcome Swept TwoLists
-sweepOutcome net l = outcome (Sweeps (sweepCount net)) (afterSweeps net (sweepCount net) l)
+unfoldable pub sweepOutcome : ℕ → Network → TwoLists → Outcome Swept TwoLists
+sweepOutcome words net l = outcome (Sweeps (sweepCount net)) (afterSweeps words net (sweepCount net) l)
 
 -- the first call: the sweeps of a plan
 abbrev pub sweepCall : List ℕ → Call Swept TwoLists
 sweepCall bytes = record {
   buffers = firstBuffer ∷ secondBuffer ∷ [];
   fault = planFault bytes;
-  does = sweepOutcome (networkAt bytes);
+  does = sweepOutcome (rowWords bytes) (networkAt bytes);
   declines = Declined;
 }
 

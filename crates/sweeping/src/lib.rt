@@ -3,10 +3,11 @@
 use disac4::WORK_NEED;
 use faults::Decline;
 use format::limits::MAX_LABELS;
+use format::lists::row_at;
 use format::read;
+use format::version::row_words;
 use index::parts;
 use listing::put_row;
-use listing::row_at;
 use revising::revised_row;
 ghost use mathlib.Core.Logic.{_↔_};
 ghost use mathlib.Core.Option.{none};
@@ -17,6 +18,7 @@ ghost use Rattle.disac4.specs.Need.{listNeed};
 ghost use Rattle.disac4.specs.Report.{rowFrom, domainCells};
 ghost use Rattle.disac4.specs.System.{networkAt};
 ghost use Rattle.format.specs.Format.{variableCount};
+ghost use Rattle.format.specs.Version.{rowWords};
 ghost use Rattle.index.specs.Index.{Ready};
 ghost use Rattle.lending.specs.Call.{Gives, overwrite};
 ghost use Rattle.listing.specs.ListCells.{Shows};
@@ -34,11 +36,11 @@ pub enum Swept {
 
 // The row of the values of x that a sweep of the lists keeps.
 fn sweep_row(plan: &[u8], cells: &[u16], lists: &[u16], x: usize) -> usize
-    requires { ⌜ Ready (now plan) (now cells) × (x < variableCount (now plan)) × (listNeed ≤ length (now lists)) ⌝ }
-    ensures { λ r. ⌜ (r < 65536) × ((d : Domains) → Shows (networkAt (now (plan .entry))) d (now (lists .entry)) → r ≡ rowFrom (networkAt (now (plan .entry))) (sweepOf (networkAt (now (plan .entry))) d) x) ⌝ }
+    requires { ⌜ Ready (now plan) (now cells) × (x < variableCount (now plan)) ⌝ }
+    ensures { λ r. ⌜ ((d : Domains) → Shows (rowWords (now (plan .entry))) (networkAt (now (plan .entry))) d (now (lists .entry)) → r ≡ rowFrom (networkAt (now (plan .entry))) (sweepOf (networkAt (now (plan .entry))) d) x) ⌝ }
 {
     let variables = read::variable_count(plan);
-    let mut row = row_at(lists, x);
+    let mut row = row_at(lists, row_words(plan), x);
     let mut y = 0;
     while y < variables {
         if parts::linked(cells, x, y) {
@@ -60,15 +62,16 @@ fn rows_differ(a: usize, b: usize) -> usize
 // nothing.
 fn sweep(plan: &[u8], cells: &[u16], from: &[u16], to: &mut [u16]) -> usize
     requires { ⌜ Ready (now plan) (now cells) × (listNeed ≤ length (now from)) × (listNeed ≤ length (now to)) ⌝ }
-    ensures { λ r. ⌜ SweepsTo (networkAt (now (plan .entry))) (now (from .entry)) (now (to .entry)) (now (to .exit)) r ⌝ }
+    ensures { λ r. ⌜ SweepsTo (rowWords (now (plan .entry))) (networkAt (now (plan .entry))) (now (from .entry)) (now (to .entry)) (now (to .exit)) r ⌝ }
 {
+    let words = row_words(plan);
     let variables = read::variable_count(plan);
     let mut shorter = 0;
     let mut x = 0;
     while x < variables {
         let row = sweep_row(plan, cells, from, x);
-        shorter += rows_differ(row, row_at(from, x));
-        put_row(to, x, row);
+        shorter += rows_differ(row, row_at(from, words, x));
+        put_row(to, words, x, row);
         x += 1;
     }
     shorter
@@ -77,7 +80,7 @@ fn sweep(plan: &[u8], cells: &[u16], from: &[u16], to: &mut [u16]) -> usize
 // Sweep k, counted from 0: after an odd number of sweeps the second buffer is read, else the first.
 fn sweep_at(plan: &[u8], cells: &[u16], k: usize, first: &mut [u16], second: &mut [u16]) -> usize
     requires { ⌜ Ready (now plan) (now cells) × (listNeed ≤ length (now first)) × (listNeed ≤ length (now second)) ⌝ }
-    ensures { λ r. ⌜ SweepsAt (networkAt (now (plan .entry))) k (twoLists (now (first .entry)) (now (second .entry))) (twoLists (now (first .exit)) (now (second .exit))) r ⌝ }
+    ensures { λ r. ⌜ SweepsAt (rowWords (now (plan .entry))) (networkAt (now (plan .entry))) k (twoLists (now (first .entry)) (now (second .entry))) (twoLists (now (first .exit)) (now (second .exit))) r ⌝ }
 {
     if k % 2 == 1 {
         sweep(plan, cells, second, first)
@@ -89,12 +92,18 @@ fn sweep_at(plan: &[u8], cells: &[u16], k: usize, first: &mut [u16], second: &mu
 // Puts the loaded lists, all values of each variable, into the cells.
 fn put_loaded(plan: &[u8], cells: &[u16], lists: &mut [u16])
     requires { ⌜ Ready (now plan) (now cells) × (listNeed ≤ length (now lists)) ⌝ }
-    ensures { λ _. ⌜ now (lists .exit) ≡ overwrite (domainCells (networkAt (now (plan .entry))) (loaded (networkAt (now (plan .entry))))) (now (lists .entry)) ⌝ }
+    ensures { λ _. ⌜ now (lists .exit) ≡ overwrite (domainCells (rowWords (now (plan .entry))) (networkAt (now (plan .entry))) (loaded (networkAt (now (plan .entry))))) (now (lists .entry)) ⌝ }
 {
+    let words = row_words(plan);
     let variables = read::variable_count(plan);
     let mut x = 0;
     while x < variables {
-        put_row(lists, x, base::power(parts::size(plan, cells, x)) - 1);
+        put_row(
+            lists,
+            words,
+            x,
+            base::power(parts::size(plan, cells, x)) - 1,
+        );
         x += 1;
     }
 }
@@ -103,7 +112,7 @@ fn put_loaded(plan: &[u8], cells: &[u16], lists: &mut [u16])
 // as many of those as labels.
 fn sweep_all(plan: &[u8], cells: &[u16], first: &mut [u16], second: &mut [u16]) -> usize
     requires { ⌜ Ready (now plan) (now cells) × (listNeed ≤ length (now first)) × (listNeed ≤ length (now second)) ⌝ }
-    ensures { λ r. ⌜ ((l : TwoLists) → twoLists (now (first .entry)) (now (second .entry)) ≡ afterSweeps (networkAt (now (plan .entry))) 0 l → (r ≡ sweepCount (networkAt (now (plan .entry)))) × (twoLists (now (first .exit)) (now (second .exit)) ≡ afterSweeps (networkAt (now (plan .entry))) r l)) ⌝ }
+    ensures { λ r. ⌜ ((l : TwoLists) → twoLists (now (first .entry)) (now (second .entry)) ≡ afterSweeps (rowWords (now (plan .entry))) (networkAt (now (plan .entry))) 0 l → (r ≡ sweepCount (networkAt (now (plan .entry)))) × (twoLists (now (first .exit)) (now (second .exit)) ≡ afterSweeps (rowWords (now (plan .entry))) (networkAt (now (plan .entry))) r l)) ⌝ }
 {
     let mut k = 0;
     while k <= MAX_LABELS {
@@ -120,7 +129,7 @@ fn sweep_all(plan: &[u8], cells: &[u16], first: &mut [u16], second: &mut [u16]) 
 // cells as a run needs.
 pub fn sweep_plan(plan: &[u8], first: &mut [u16], second: &mut [u16]) -> usize
     requires { ⌜ (planFault (now plan) ≡ none) × (listNeed ≤ length (now first)) × (listNeed ≤ length (now second)) ⌝ }
-    ensures { λ r. ⌜ Gives (sweepOutcome (networkAt (now (plan .entry))) (twoLists (now (first .entry)) (now (second .entry)))) (Swept.Sweeps r) (twoLists (now (first .exit)) (now (second .exit))) ⌝ }
+    ensures { λ r. ⌜ Gives (sweepOutcome (rowWords (now (plan .entry))) (networkAt (now (plan .entry))) (twoLists (now (first .entry)) (now (second .entry)))) (Swept.Sweeps r) (twoLists (now (first .exit)) (now (second .exit))) ⌝ }
 {
     let mut cells = [0u16; WORK_NEED];
     indexing::index_plan(plan, &mut cells);

@@ -5,18 +5,22 @@ use mathlib.Core.List.{List, []}
 use mathlib.Core.Option.{none}
 use mathlib.Core.Path.{_≡_, ap}
 use native.Mathlib.Omega.{arith}
-use lib.ListN.{length, getD, length-append}
+use lib.ListN.{length, length-append}
 use Rattle.base.proofs.Below.{gather-length}
+use Rattle.base.proofs.Sums.{sum-add, sum-times, sum-const}
 use Rattle.base.specs.Bytes.{byteAt, wordAt}
 use Rattle.base.specs.Row.{bit}
 use Rattle.faults.proofs.FaultNumbers.{number-range}
+use Rattle.network.specs.Network.{labelCount}
 use Rattle.plan.proofs.Faults.{decode-plan}
 use Rattle.plan.proofs.Parts.{variables-read, size-read, value-read}
 use Rattle.plan.proofs.WellFormed.{read-well-formed}
 use Rattle.plan.specs.Decode.{planFault, planOf, accepted, decode}
 use Rattle.faults.specs.Fault.{numberOf}
 use Rattle.format.specs.Format.{sectionStart}
-use Rattle.format.specs.Limits.{maxWorkers, maxVariables, maxValues}
+use Rattle.format.specs.Limits.{maxWorkers, maxVariables, maxLabels}
+use Rattle.plan.specs.Network.{networkOf}
+use Rattle.format.specs.Version.{rowWords, maxSize}
 use Rattle.plan.specs.Plan.{Plan, Value, variableOf, valueOf, sizeOf}
 use Rattle.plan.specs.WellFormed.{WellFormed}
 use Rattle.faults.specs.declared.Decline.{Decline}
@@ -71,20 +75,25 @@ report-length r h =
 codes-length : (size : ℕ) (code : ℕ → ℕ) (row : ℕ) → ((v : ℕ) → v < size → code v < 65536)
     → length (listedCodes size code row) ≤ size * 6
 unfolding listedCodes
-codes-length size code row h = gather-length size 6 _ (λ v k. one (bit row v) (code v) (h v k))
+codes-length size code row h =
+    omega (
+      arith,
+      sum-const size 6,
+      gather-length size (λ v. 6) (λ v. cond (bit row v) (spaced (code v)) []) (λ v k. one (bit row v) (code v) (h v k)),
+    )
   where
     one : (b : Bool) (c : ℕ) → c < 65536 → length (cond b (spaced c) []) ≤ 6
     one true c k = spaced-length 4 c (omega arith)
     one false c k = omega arith
 
 -- the bytes of a variable's line: its number and its owner, and a code of five digits with a space for each value
-abbrev maxLine : ℕ
-maxLine = 6 + 6 * maxValues
+abbrev lineRoom : ℕ → ℕ
+lineRoom size = 6 + 6 * size
 
-domain-length : (number owner size row : ℕ) (code : ℕ → ℕ) → number ≤ maxVariables → owner ≤ maxWorkers → size ≤ maxValues → ((v : ℕ) → v < size → code v < 65536)
-    → length (domainLine number owner size code row) ≤ maxLine
+domain-length : (number owner size row : ℕ) (code : ℕ → ℕ) → number ≤ maxVariables → owner ≤ maxWorkers → ((v : ℕ) → v < size → code v < 65536)
+    → length (domainLine number owner size code row) ≤ lineRoom size
 unfolding domainLine
-domain-length number owner size row code a b d h =
+domain-length number owner size row code a b h =
     simp length-append
     (omega (
       arith,
@@ -105,7 +114,7 @@ module _ (b lists : List ℕ) where
       ))
 
   module _ (passed : planFault b ≡ none) (bytes : (i : ℕ) → byteAt b i < 256) where
-    fits : WellFormed (planOf b)
+    fits : WellFormed (maxSize b) (planOf b)
     fits = read-well-formed b passed
 
     code-small : (x : ℕ) → x < length (planOf b .variables) → (v : ℕ) → v < sizeOf (planOf b) x → valueOf (planOf b) x v .code < 65536
@@ -120,17 +129,22 @@ module _ (b lists : List ℕ) where
           bytes (at + 1),
         )
 
-    lines-length : length (variableLines (planOf b) lists) ≤ maxVariables * maxLine
-    unfolding variableLines variableLine
+    -- a plan has few labels together, so its lines are short together, however its labels stand in its variables
+    lines-length : length (variableLines (rowWords b) (planOf b) lists) ≤ 6 * maxVariables + 6 * maxLabels
+    unfolding variableLines variableLine labelCount networkOf
     lines-length =
+        let n = length (planOf b .variables) in
         omega (
           arith,
           fits .variables-high,
-          gather-length (length (planOf b .variables)) maxLine (variableLine (planOf b) lists)
-              (λ x h. domain-length (suc x) (variableOf (planOf b) x .owner) (sizeOf (planOf b) x) (getD lists x 0)
+          fits .few-labels,
+          sum-add n (λ x. 6) (λ x. 6 * sizeOf (planOf b) x),
+          sum-const n 6,
+          sum-times n 6 (sizeOf (planOf b)),
+          gather-length n (λ x. lineRoom (sizeOf (planOf b) x)) (variableLine (rowWords b) (planOf b) lists)
+              (λ x h. domain-length (suc x) (variableOf (planOf b) x .owner) (sizeOf (planOf b) x) _
               (λ v. valueOf (planOf b) x v .code) (omega (arith, fits .variables-high))
-              (omega (arith, fits .workers-high, fits .each-variable x h .owner-high))
-              (fits .each-variable x h .few-values) (code-small x h)),
+              (omega (arith, fits .workers-high, fits .each-variable x h .owner-high)) (code-small x h)),
         )
 
     report-short : (r : Report) → Report64 r → length (printed (Reported r) b lists) ≤ textRoom

@@ -2,6 +2,7 @@
 use Prim.Native.Nat.{ℕ}
 use mathlib.Core.List.{List, [], _∷_, _++_}
 use Rattle.plan.specs.Decode.{planOf}
+use Rattle.format.specs.Version.{rowWords}
 use Rattle.faults.specs.Fault.{numberOf}
 use Rattle.faults.specs.declared.Decline.{Decline}
 use Rattle.disac4.specs.declared.Answer.{Answer}
@@ -33,7 +34,7 @@ declineLine d = declinedWord ++ spaced (numberOf (d .fault)) ++ spaced (d .place
 
 -- an answer with the plan's bytes and the list cells: the report and a line for each variable, or the line of a decline
 unfoldable pub printed : Answer → List ℕ → List ℕ → List ℕ
-printed (Reported r) b lists = reportLine r ++ variableLines (planOf b) lists
+printed (Reported r) b lists = reportLine r ++ variableLines (rowWords b) (planOf b) lists
 printed (Declined d) b lists = declineLine d
 
 -- the bytes that every text of a run fits

@@ -13,15 +13,16 @@ use Rattle.base.proofs.Choice.{between-intro}
 use Rattle.base.specs.Choice.{between, allOf}
 use Rattle.disac4.proofs.Demands.{demand2, demand3, round-closes-plan}
 use Rattle.disac4.proofs.Order.{no-turn-list}
-use Rattle.disac4.proofs.Outcome.{cells-written, run-answers}
+use Rattle.disac4.proofs.Outcome.{lists-length, cells-written, run-answers}
 use Rattle.disac4.specs.Demands.{closedAfter, RoundCloses}
 use Rattle.lending.specs.Call.{outcome, Gives, LongEnough}
-use Rattle.disac4.specs.Outcome.{Lent, workBuffer, listBuffer, written, Run, played, callOf, runOf, turnRun, roundRun, Written}
-use Rattle.listing.proofs.ListCells.{shows-cells, shown-listed}
+use Rattle.disac4.specs.Outcome.{Lent, workBuffer, listBuffer, written, Run, played, callOf, runOf, turnRun, roundRun, finalCells, Written}
+use Rattle.format.specs.Version.{rowWords}
+use Rattle.listing.proofs.ListCells.{shows-cells, shown-listed, plan-wide}
 use Rattle.listing.specs.ListCells.{listedIn}
 use Rattle.disac4.specs.Report.{final, lowestEmpty, statusOf, reportOf}
 use Rattle.disac4.specs.Round.{roundRunTurns}
-use Rattle.disac4.specs.System.{System, systemAt}
+use Rattle.disac4.specs.System.{System, systemOf, systemAt}
 use Rattle.disac4.specs.Turn.{Turn, allowed, turnsOf}
 use Rattle.disac4.specs.declared.Answer.{Answer}
 use Rattle.disac4.specs.declared.Answer.the-variants.{Reported, Declined}
@@ -32,17 +33,18 @@ use Rattle.network.proofs.Largest.{largest-consistent}
 use Rattle.network.specs.Consistency.{Within, Largest}
 use Rattle.network.specs.Network.{Domains, loaded}
 use Rattle.plan.proofs.Answer.{plan-check, no-fault, its-fault}
-use Rattle.plan.proofs.Faults.{decoded, not-decoded, decode-plan}
-use Rattle.plan.proofs.WellFormed.{read-well-formed, few-labels}
+use Rattle.plan.proofs.Faults.{sound-version, decoded, not-decoded, decode-plan}
+use Rattle.plan.proofs.WellFormed.{read-well-formed}
 use Rattle.plan.specs.Answer.{planCheck, checkedAs, countsOf}
 use Rattle.plan.specs.Decode.{planOf, decode, accepted, declined}
+use Rattle.plan.specs.Network.{networkOf}
 use Rattle.plan.specs.declared.Checked as checked
 use Rattle.plan.specs.declared.Checked.{Checked}
 use Rattle.faults.specs.declared.Decline.{Decline}
 use Rattle.plan.specs.declared.Counts.{Counts}
 use Rattle.tinshrew.proofs.Calls.{call-tells}
 use Rattle.tinshrew.proofs.Faults.{declined-plan, in-table, no-turns-fit, in-short-table}
-use Rattle.tinshrew.specs.Conclusions.{AcceptedPlan, DeclinedPlan, turnGiven, roundGiven, PlanAndBuffersFit, TurnsFit, ReportedRun, RunTells}
+use Rattle.tinshrew.specs.Conclusions.{AcceptedPlan, DeclinedPlan, turnGiven, roundGiven, PlanAndBuffersFit, TurnsFit, listLength, ReportedRun, RunTells}
 
 -- ---- the plan check
 
@@ -64,11 +66,12 @@ check-accepted b f g =
     rw (sound .1)
     (record {
       accepts = decoded b (sound .0);
+      known = sound-version b (sound .0);
       counts = refl;
       workers = (fits .workers-low, fits .workers-high);
       variables = (fits .variables-low, fits .variables-high);
       constraints = fits .constraints-high;
-      labels = few-labels (planOf b) fits;
+      labels = fits .few-labels;
     })
 
 -- it declines a plan exactly for its first fault
@@ -98,12 +101,15 @@ never-open false full e h = let z : _≡_ {A = ℕ} 0 1 = cc in omega arith
 
 -- what it leaves in the buffers is what is written, cell by cell
 abbrev Writes : Run → Lent → Type 0
-Writes run l = Written l (systemAt (run .plan)) (run .turns) (run .leaves l)
+Writes run l = Written l (run .plan) (run .turns) (run .leaves l)
 
 module _ (run : Run) (l after : Lent) (r : Report) (accepts : decode (run .plan) ≡ accepted (planOf (run .plan)))
     (writes : Writes run l) (g : Gives (played run l) (Reported r) after) where
   abbrev sys : System
   sys = systemAt (run .plan)
+
+  abbrev words : ℕ
+  words = rowWords (run .plan)
 
   -- the report is that of the turns
   told : r ≡ reportOf sys (run .turns)
@@ -111,17 +117,25 @@ module _ (run : Run) (l after : Lent) (r : Report) (accepts : decode (run .plan)
   told = let e = g .answer in cc
 
   -- and so is every cell
-  wrote : Written l sys (run .turns) after
+  wrote : Written l (run .plan) (run .turns) after
   unfolding played
   wrote = rw (g .cells) writes
 
+  -- the lists take so many cells
+  lists-take : length (finalCells (run .plan) (run .turns)) ≡ listLength (run .plan)
+  unfolding countsOf systemOf networkOf
+  lists-take = lists-length words (sys .net) (final sys (run .turns) .domain)
+
   -- list cells as the turns leave them hold a label exactly if it is still in its domain
   holds : (x v : ℕ) → loaded (sys .net) x v ≡ true
-      → listedIn (sys .net) (after .lists) x v ≡ final sys (run .turns) .domain x v
-  holds = shown-listed (sys .net) (final sys (run .turns) .domain) (after .lists) (shows-cells (sys .net) _ (after .lists) (wrote .lists .start))
+      → listedIn words (sys .net) (after .lists) x v ≡ final sys (run .turns) .domain x v
+  unfolding systemOf
+  holds =
+      shown-listed words (sys .net) (final sys (run .turns) .domain) (after .lists)
+      (shows-cells words (sys .net) _ (after .lists) (plan-wide (run .plan) (decode-plan (run .plan) _ accepts .0)) (wrote .lists .start))
 
   -- so they hold every label of the largest domains
-  keeps : (d : Domains) → Largest (sys .net) d → Within d (listedIn (sys .net) (after .lists))
+  keeps : (d : Domains) → Largest (sys .net) d → Within d (listedIn words (sys .net) (after .lists))
   unfolding Within
   keeps d most x v p =
       holds x v (largest-consistent (sys .net) d most .within x v p)
@@ -138,6 +152,7 @@ module _ (run : Run) (l after : Lent) (r : Report) (accepts : decode (run .plan)
         all-allowed = fine;
         report = told;
         cells = wrote;
+        lists-length = lists-take;
         demand2 = second;
         demand3 = third;
         listed = holds;
@@ -157,7 +172,7 @@ reported-closed run l after r ran h =
 
 -- both buffers of an accepted plan's run, where they are long enough
 both-written : (b : List ℕ) (l : Lent) → LongEnough (workBuffer ∷ listBuffer ∷ []) l
-    → decode b ≡ accepted (planOf b) → (turns : List Turn) → Written l (systemAt b) turns (written (systemAt b) turns l)
+    → decode b ≡ accepted (planOf b) → (turns : List Turn) → Written l b turns (written b turns l)
 both-written b l long accepts turns =
     cells-written b l (decode-plan b (planOf b) accepts .0) (long .0) (long .1 .0) turns
 

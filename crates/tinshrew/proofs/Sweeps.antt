@@ -18,8 +18,8 @@ use Rattle.disac4.proofs.Order.{no-turn-list}
 use Rattle.disac4.proofs.Outcome.{lists-length, lists-fit}
 use Rattle.disac4.specs.Demands.{closedAfter}
 use Rattle.disac4.specs.Need.{listNeed}
-use Rattle.disac4.specs.Outcome.{Lent, Run}
-use Rattle.disac4.specs.Report.{domainCells, final}
+use Rattle.disac4.specs.Outcome.{Lent, Run, finalCells}
+use Rattle.disac4.specs.Report.{domainCells}
 use Rattle.disac4.specs.Round.{roundRunTurns}
 use Rattle.disac4.specs.System.{systemOf, networkAt, systemAt}
 use Rattle.disac4.specs.Turn.{Turn}
@@ -29,7 +29,8 @@ use Rattle.faults.specs.declared.Decline.{Decline}
 use Rattle.lending.proofs.Outcome.{Answers}
 use Rattle.lending.proofs.Overwritten.{overwrite-starts}
 use Rattle.lending.specs.Call.{outcome, Gives, outcomeOf}
-use Rattle.listing.proofs.ListCells.{shows-cells, shown-domains}
+use Rattle.format.specs.Version.{rowWords}
+use Rattle.listing.proofs.ListCells.{shows-cells, shown-domains, plan-wide}
 use Rattle.listing.specs.ListCells.{listedIn}
 use Rattle.network.proofs.Largest.{largest-unique, largest-consistent, sweeps-largest}
 use Rattle.network.proofs.Sweeps.{swept-exactly, comes-to-rest, last-same, last-first, sweeps-bounded}
@@ -48,13 +49,16 @@ use Rattle.tinshrew.proofs.Calls.{call-tells}
 use Rattle.tinshrew.proofs.Conclusions.{reported-closed}
 use Rattle.tinshrew.proofs.Faults.{no-turns-fit, in-short-table}
 use Rattle.tinshrew.proofs.Numbers.{with-answer, call-numbers}
-use Rattle.tinshrew.specs.Conclusions.{PlanAndBuffersFit, ReportedRun}
+use Rattle.tinshrew.specs.Conclusions.{PlanAndBuffersFit, ReportedRun, listLength}
 use Rattle.tinshrew.specs.Numbers.{GivesNumbers}
-use Rattle.tinshrew.specs.Sweeps.{sweepsGiven, listLength, SameLists, SweptPlan, SweepsTell, SweepNumbers, bufferNumbered, PartTold, LargestPart}
+use Rattle.tinshrew.specs.Sweeps.{sweepsGiven, SameLists, SweptPlan, SweepsTell, SweepNumbers, bufferNumbered, PartTold, LargestPart}
 
 -- ---- the sweeps of an accepted plan
 
 module _ (b : List ℕ) (l : TwoLists) (fits : PlanAndBuffersFit (sweepsGiven b l)) where
+  abbrev words : ℕ
+  words = rowWords b
+
   abbrev net : Network
   net = networkAt b
 
@@ -63,15 +67,15 @@ module _ (b : List ℕ) (l : TwoLists) (fits : PlanAndBuffersFit (sweepsGiven b 
   last = swept net (sweepCount net)
 
   abbrev lastCells : List ℕ
-  lastCells = sweptCells net (sweepCount net)
+  lastCells = sweptCells words net (sweepCount net)
 
   abbrev after : TwoLists
-  after = afterSweeps net (sweepCount net) l
+  after = afterSweeps words net (sweepCount net) l
 
-  -- they take n cells
+  -- they take so many cells
   n-cells : length lastCells ≡ listLength b
   unfolding countsOf networkOf
-  n-cells = lists-length net last
+  n-cells = lists-length words net last
 
   -- for which either buffer has room
   room : (cells : List ℕ) → listNeed ≤ length cells → length lastCells ≤ length cells
@@ -80,14 +84,15 @@ module _ (b : List ℕ) (l : TwoLists) (fits : PlanAndBuffersFit (sweepsGiven b 
   -- they are the part that is returned
   part-cells : lastSweep (sweepCount net) (listLength b) after ≡ lastCells
   part-cells =
-      rw (← n-cells, ended net l)
+      rw (← n-cells, ended words net l)
       (alike-part (sweepCount net) lastCells (l .first) (l .second) (room (l .first) (fits .buffers .0))
       (room (l .second) (fits .buffers .1 .0)))
 
   -- in which the domains are listed
-  part-listed : listedIn net lastCells ≡ last
+  part-listed : listedIn words net lastCells ≡ last
   part-listed =
-      shown-domains net last lastCells (shows-cells net last lastCells (λ i h. refl))
+      shown-domains words net last lastCells
+      (shows-cells words net last lastCells (plan-wide b (decode-plan b (planOf b) (fits .accepts) .0)) (λ i h. refl))
       (largest-consistent net last (sweeps-largest net) .within)
 
   -- they are those of every list of turns that closes the plan
@@ -95,7 +100,7 @@ module _ (b : List ℕ) (l : TwoLists) (fits : PlanAndBuffersFit (sweepsGiven b 
   unfolding systemOf
   same-closed turns closed =
       let alike = largest-unique net _ _ (sweeps-largest net) (demand2 b (planOf b) (fits .accepts) turns .largest closed) in
-      record { domains = alike; cells = part-cells ∙ ap (domainCells net) alike }
+      record { domains = alike; cells = part-cells ∙ ap (domainCells words net) alike }
 
   -- so those that a closed run has left
   same-run : (run : Run) (before left : Lent) (r : Report) → run .plan ≡ b → ReportedRun run before left r → (r .status ≡ Open → ⊥)
@@ -106,7 +111,7 @@ module _ (b : List ℕ) (l : TwoLists) (fits : PlanAndBuffersFit (sweepsGiven b 
       let at-plan : closedAfter (systemAt b) turns ≡ true =
       subst (λ (p : List ℕ). closedAfter (systemAt p) turns ≡ true) e (reported-closed run before left r ran closed) in
       let same = same-closed turns at-plan .cells in
-      let cells-of : List ℕ → List ℕ = λ p. domainCells (networkAt p) (final (systemAt p) turns .domain) in
+      let cells-of : List ℕ → List ℕ = λ p. finalCells p turns in
       let low : i < length (cells-of (run .plan)) = omega (arith, h, n-cells, ap length (sym part-cells ∙ same ∙ ap cells-of (sym e))) in
       ran .cells .lists .start i low ∙ ap (λ (c : List ℕ). getD c i 0) (ap cells-of e ∙ sym same)
 
@@ -121,8 +126,8 @@ module _ (b : List ℕ) (l : TwoLists) (fits : PlanAndBuffersFit (sweepsGiven b 
         bounded = (omega (arith, k .1 .count), sweeps-bounded net);
         largest = sweeps-largest net;
         lists-length = n-cells;
-        first-cells = rw (ended net l) (overwrite-starts lastCells (l .first) (room (l .first) (fits .buffers .0)));
-        second-cells = rw (ended net l) (overwrite-starts lastCells (l .second) (room (l .second) (fits .buffers .1 .0)));
+        first-cells = rw (ended words net l) (overwrite-starts lastCells (l .first) (room (l .first) (fits .buffers .0)));
+        second-cells = rw (ended words net l) (overwrite-starts lastCells (l .second) (room (l .second) (fits .buffers .1 .0)));
         part-cells = part-cells;
         part-largest = rw (part-cells, part-listed) (sweeps-largest net);
         as-closed = same-closed;
@@ -203,7 +208,7 @@ last-sweep-told sweeps count l out e =
 
 -- ---- both together
 
--- the part for the number of sweeps that the first call gave, and n
+-- the part for the number of sweeps that the first call gave, and the number of cells that the lists take
 largest-part : (b : List ℕ) (l after : TwoLists) (k : ℕ) (part : List ℕ) → SweptPlan b l after k → part ≡ lastSweep k (listLength b) after
     → LargestPart b part
 largest-part b l after k part told e =

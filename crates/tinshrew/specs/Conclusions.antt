@@ -1,17 +1,18 @@
 -- What a caller may conclude from what a call gives, as claims. `proofs/Conclusions.antt` proves them from the calls' contracts. What
 -- C's numbers tell is in `Numbers.antt`, and all of the slow engine's in `Sweeps.antt`.
-use Prim.Native.Nat.{ℕ, _/_, _<_, _≤_}
+use Prim.Native.Nat.{ℕ, _*_, _/_, _<_, _≤_}
 use mathlib.Core.Bool.{Bool, true, false}
 use mathlib.Core.List.{List, []}
 use mathlib.Core.Logic.{_↔_}
 use mathlib.Core.Path.{_≡_}
 use lib.ListN.{length}
-use Rattle.format.specs.Limits.{maxWorkers, maxVariables, maxLabels, maxConstraints}
+use Rattle.format.specs.Limits.{maxVersion, maxWorkers, maxVariables, maxLabels, maxConstraints}
+use Rattle.format.specs.Version.{version, rowWords}
 use Rattle.base.specs.Choice.{between, allOf}
 use Rattle.disac4.specs.Demands.{Demand2, Demand3}
 use Rattle.lending.specs.Call.{Outcome, Buffer, LongEnough, TooShort, Call}
 use Rattle.listing.specs.ListCells.{listedIn}
-use Rattle.disac4.specs.Outcome.{Lent, RunOutcome, Run, callOf, turnRun, roundRun, Written}
+use Rattle.disac4.specs.Outcome.{Lent, RunOutcome, Run, callOf, turnRun, roundRun, finalCells, Written}
 use Rattle.disac4.specs.Report.{final, reportOf}
 use Rattle.disac4.specs.System.{System, boundOf, systemAt}
 use Rattle.disac4.specs.Turn.{allowed, turnAt, turnListFits}
@@ -34,6 +35,8 @@ use Rattle.plan.specs.declared.Counts.{Counts}
 pub record AcceptedPlan (b : List ℕ) (f : Counts) : Type 0 where
   -- the plan has none of the faults 1 to 8
   pub accepts : decode b ≡ accepted (planOf b)
+  -- its version is 1 or 2
+  pub known : between 1 maxVersion (version b) ≡ true
   -- p, n, the number of rules and L are the plan's
   pub counts : f ≡ countsOf (planOf b)
   -- p is from 1 to 8
@@ -149,10 +152,18 @@ module _ {L : Type 0} (g : Given L) where
 
 -- ---- what a report says
 
+-- how many cells a plan's lists take: n, as the plan check gives it, in version 1, and 2n in version 2
+abbrev pub listLength : List ℕ → ℕ
+listLength b = rowWords b * countsOf (planOf b) .variables
+
 -- a run that reported, with the buffers before it and after it
 module _ (run : Run) (before after : Lent) where
   abbrev sys : System
   sys = systemAt (run .plan)
+
+  -- the domains that the list cells hold
+  abbrev listed-after : Domains
+  listed-after = listedIn (rowWords (run .plan)) (sys .net) (after .lists)
 
   pub record ReportedRun (r : Report) : Type 0 where
     -- the plan is accepted
@@ -162,16 +173,18 @@ module _ (run : Run) (before after : Lent) where
     -- the report is that of these turns
     pub report : r ≡ reportOf sys (run .turns)
     -- every cell of the buffers: cleared, written or kept
-    pub cells : Written before sys (run .turns) after
+    pub cells : Written before (run .plan) (run .turns) after
+    -- so many of the list cells are written
+    pub lists-length : length (finalCells (run .plan) (run .turns)) ≡ listLength (run .plan)
     pub demand2 : Demand2 sys (run .turns)
     pub demand3 : Demand3 sys (run .turns)
     -- the list cells hold a label exactly if it is still in its domain
     pub listed : (x v : ℕ) → loaded (sys .net) x v ≡ true
-        → listedIn (sys .net) (after .lists) x v ≡ final sys (run .turns) .domain x v
+        → listed-after x v ≡ final sys (run .turns) .domain x v
     -- they hold every label of the largest arc-consistent domains
-    pub keeps-largest : (d : Domains) → Largest (sys .net) d → Within d (listedIn (sys .net) (after .lists))
+    pub keeps-largest : (d : Domains) → Largest (sys .net) d → Within d listed-after
     -- unless the status is open, they are the largest arc-consistent domains
-    pub largest : (r .status ≡ Open → ⊥) → Largest (sys .net) (listedIn (sys .net) (after .lists))
+    pub largest : (r .status ≡ Open → ⊥) → Largest (sys .net) listed-after
     -- the reported number of changing turns is at most 5pL + 2L + 3p + 1
     pub bounded : r .changes ≤ boundOf sys
 

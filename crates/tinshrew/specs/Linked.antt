@@ -6,7 +6,7 @@ use Rattle.disac4.specs.Need.{workNeed, listNeed}
 
 -- the version of the interface: one more with each change of a signature, of a number or of what a call needs
 abbrev pub interfaceVersion : ℕ
-interfaceVersion = 1
+interfaceVersion = 2
 
 -- the cells that a lent buffer needs: 1 asks for the work cells, 2 for the list cells. No buffer has another number
 unfoldable pub cellsNeeded : ℕ → ℕ

@@ -8,48 +8,47 @@ use lib.Dec.{eqb}
 use lib.ListN.{length, getD, take}
 use Rattle.base.specs.Choice.{between}
 use Rattle.disac4.specs.Demands.{closedAfter}
-use Rattle.disac4.specs.Outcome.{Lent, Run}
-use Rattle.disac4.specs.Report.{listCells, final}
+use Rattle.disac4.specs.Outcome.{Lent, Run, finalCells}
+use Rattle.disac4.specs.Report.{final}
 use Rattle.disac4.specs.Round.{roundRunTurns}
 use Rattle.disac4.specs.System.{networkAt, systemAt}
 use Rattle.disac4.specs.Turn.{Turn}
 use Rattle.disac4.specs.declared.Report.{Report}
 use Rattle.disac4.specs.declared.Status.the-variants.{Open}
+use Rattle.format.specs.Version.{rowWords}
 use Rattle.lending.specs.Call.{Outcome, StartsWith}
 use Rattle.listing.specs.ListCells.{listedIn}
 use Rattle.network.specs.Consistency.{Supported, Largest}
 use Rattle.network.specs.Network.{Network, labelCount}
 use Rattle.network.specs.Sweep.{swept, sweepCount}
 use Rattle.numbers.specs.Numbers.{sweptNumbers}
-use Rattle.plan.specs.Answer.{countsOf}
 use Rattle.plan.specs.Decode.{decode, accepted, planOf}
 use Rattle.sweeping.specs.Outcome.{TwoLists, oneOf, holding, sweptCells, sweepCall, lastSweep}
 use Rattle.sweeping.specs.declared.Swept.{Swept}
 use Rattle.sweeping.specs.declared.Swept.the-variants.{Sweeps, Declined}
-use Rattle.tinshrew.specs.Conclusions.{Given, given, PlanAndBuffersFit, DeclinedCall, CallTells, ReportedRun}
+use Rattle.tinshrew.specs.Conclusions.{Given, given, PlanAndBuffersFit, DeclinedCall, CallTells, listLength, ReportedRun}
 use Rattle.tinshrew.specs.Numbers.{NumbersTell}
 
 -- what the sweeps are given. They decline with the plan's own numbers, 1 to 8, and with 10
 abbrev pub sweepsGiven : List ℕ → TwoLists → Given TwoLists
 sweepsGiven b = given (sweepCall b) b [] (λ k. between 1 8 k || eqb k 10)
 
--- how many cells a plan's lists take: n, as the plan check gives it
-abbrev pub listLength : List ℕ → ℕ
-listLength b = countsOf (planOf b) .variables
-
 -- the sweeps of a plan, with the buffers before them and after them
 module _ (b : List ℕ) (before after : TwoLists) where
   abbrev net : Network
   net = networkAt b
 
-  -- the part that `last_sweep` returns for `k` sweeps and n cells
+  abbrev words : ℕ
+  words = rowWords b
+
+  -- the part that `last_sweep` returns for `k` sweeps and that many cells
   abbrev part : ℕ → List ℕ
   part k = lastSweep k (listLength b) after
 
   -- the lists of the last of `k` sweeps are those after these turns: as domains, and as list cells
   pub record SameLists (k : ℕ) (turns : List Turn) : Type 0 where
     pub domains : swept net k ≡ final (systemAt b) turns .domain
-    pub cells : part k ≡ listCells (systemAt b) (final (systemAt b) turns)
+    pub cells : part k ≡ finalCells b turns
 
   -- there were `k` sweeps
   pub record SweptPlan (k : ℕ) : Type 0 where
@@ -67,13 +66,13 @@ module _ (b : List ℕ) (before after : TwoLists) where
     pub bounded : (1 ≤ k) × (k ≤ suc (labelCount net))
     -- the lists of the last sweep are the largest arc-consistent domains
     pub largest : Largest net (swept net k)
-    -- every cell: both buffers end with them, in the first n cells, and keep their later cells
-    pub lists-length : length (sweptCells net k) ≡ listLength b
-    pub first-cells : StartsWith (sweptCells net k) (before .first) (after .first)
-    pub second-cells : StartsWith (sweptCells net k) (before .second) (after .second)
+    -- every cell: both buffers start with them, and keep their later cells
+    pub lists-length : length (sweptCells words net k) ≡ listLength b
+    pub first-cells : StartsWith (sweptCells words net k) (before .first) (after .first)
+    pub second-cells : StartsWith (sweptCells words net k) (before .second) (after .second)
     -- the part that is returned has them, and so lists the largest domains
-    pub part-cells : part k ≡ sweptCells net k
-    pub part-largest : Largest net (listedIn net (part k))
+    pub part-cells : part k ≡ sweptCells words net k
+    pub part-largest : Largest net (listedIn words net (part k))
     -- every list of turns that closes the plan ends with the same lists
     pub as-closed : (turns : List Turn) → closedAfter (systemAt b) turns ≡ true → SameLists k turns
     -- so does the round run
@@ -110,8 +109,8 @@ pub record PartTold (sweeps count : ℕ) (l : TwoLists) (out : List ℕ) : Type 
   -- and so many cells from its start are the part
   pub part : lastSweep sweeps count l ≡ take (getD out 2 0) (bufferNumbered (getD out 1 0) l)
 
--- what the two calls together tell, the second asked with the number of sweeps that the first gave, and n: the part has the lists of
--- the closed plan, which are the largest
+-- what the two calls together tell, the second asked with the number of sweeps that the first gave and the number of cells that the
+-- lists take: the part has the lists of the closed plan, which are the largest
 pub record LargestPart (b part : List ℕ) : Type 0 where
   pub whole : length part ≡ listLength b
-  pub largest : Largest (networkAt b) (listedIn (networkAt b) part)
+  pub largest : Largest (networkAt b) (listedIn (rowWords b) (networkAt b) part)

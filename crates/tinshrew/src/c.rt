@@ -17,7 +17,7 @@ ghost use Rattle.sweeping.specs.Outcome.{twoLists, sweepCall};
 ghost use Rattle.tinshrew.specs.Linked.{interfaceVersion, cellsNeeded};
 ghost use Rattle.tinshrew.specs.Numbers.{GivesNumbers};
 
-const VERSION: usize = 1;
+const VERSION: usize = 2;
 
 // The lent buffers, as tinshrew_cells is asked for them.
 const WORK: usize = 1;

@@ -1,6 +1,6 @@
 // Answers the plans of standard input, one to a line in hexadecimal, with spaces between bytes where they help. An empty
 // line is the empty plan, and a line that starts with '#' says why the answer below is right. The answers that the
-// program has to give were worked out by hand from document 01.
+// program has to give were worked out by hand from documents 01 and 02.
 use plan::Checked;
 ghost use Prim.Native.Nat.{_≤_, _<_};
 ghost use lib.ListN.{length};

@@ -6,6 +6,7 @@ use std::hint::black_box;
 use tinshrew_tests::reference::largest::largest_lists;
 use tinshrew_tests::reference::lists::cells;
 use tinshrew_tests::reference::sweep::{last_sweep, run_sweeps, Swept};
+use tinshrew_tests::reference::LIST_CELLS;
 use tinshrew_tests::rng::Rng;
 use tinshrew_tests::subject::{reference_sweeps, write_answer};
 
@@ -20,11 +21,11 @@ fn lent(arenas: &mut [Vec<u16>; 2], counts: [usize; 2]) -> [&mut [u16]; 2] {
     [&mut first[within(counts[0])], &mut second[within(counts[1])]]
 }
 
-/// A length for a buffer, short ones and those about 32 more often.
+/// A length for a buffer, short ones and those about the need more often.
 fn some_length(rng: &mut Rng) -> usize {
     match rng.below(3) {
         0 => rng.below(4),
-        1 => rng.between(31, 33),
+        1 => rng.between(LIST_CELLS - 1, LIST_CELLS + 1),
         _ => rng.below(100),
     }
 }
@@ -86,17 +87,17 @@ impl Layout<'_> {
         if sweeps < 1 || sweeps > most {
             return Err(format!("claim: {sweeps} sweeps instead of 1 to {most}"));
         }
-        let n = swept.plan.variables.len();
+        let written = swept.plan.list_cells();
         let buffers = lent(&mut found, self.case.sweep_lists);
-        let [number, count] = self.compare_part(buffers[0], buffers[1], sweeps, n)?;
+        let [number, count] = self.compare_part(buffers[0], buffers[1], sweeps, written)?;
         let last = &buffers[number - 1][..count];
-        let largest = cells(&largest_lists(&swept.plan, &swept.network));
+        let largest = cells(swept.plan.version, &largest_lists(&swept.plan, &swept.network));
         if last != largest {
             return Err(format!("claim: last sweep {last:?}, largest lists {largest:?}"));
         }
         match round {
-            Some(round) if round[..n] != *last => {
-                Err(format!("claim: last sweep {last:?}, round run {:?}", &round[..n]))
+            Some(round) if round[..written] != *last => {
+                Err(format!("claim: last sweep {last:?}, round run {:?}", &round[..written]))
             }
             _ => Ok(()),
         }

@@ -1,11 +1,50 @@
 // The sweeps worked by hand, and the parts that hold the last one.
 
+use super::wide::{all_supports_go, plan_p_in_two, plan_q};
 use super::{apart, half_supports, no_values, plan_p, sodium, table, three_differ, BROTH, MAINS};
 
 /// A plan, and its cells as loaded and after each sweep.
 type Steps = (Vec<u8>, &'static [&'static [u16]]);
 
 pub fn swept() -> Vec<Steps> {
+    [swept_in_one(), swept_in_two()].concat()
+}
+
+/// Of each variable's two cells the first holds its values 17 to 32.
+fn swept_in_two() -> Vec<Steps> {
+    vec![
+        (
+            plan_p_in_two(),
+            &[&[0, 3, 0, 3, 0, 3], &[0, 1, 0, 3, 0, 3], &[0, 1, 0, 3, 0, 1], &[0, 1, 0, 3, 0, 1]],
+        ),
+        // Sweep 1: 102 and 117 have no support in variable 2. Sweep 2: 304 and
+        // 317, which go with 102 alone, have none in variable 1. Sweep 3: 401
+        // goes with 304 alone and 402 with 317.
+        (
+            plan_q().encode(),
+            &[
+                &[15, 0xFFFF, 0, 3, 3, 0xFFFF, 0, 7],
+                &[14, 0xFFFD, 0, 3, 3, 0xFFFF, 0, 7],
+                &[14, 0xFFFD, 0, 3, 2, 0xFFF7, 0, 7],
+                &[14, 0xFFFD, 0, 3, 2, 0xFFF7, 0, 4],
+                &[14, 0xFFFD, 0, 3, 2, 0xFFF7, 0, 4],
+            ],
+        ),
+        // Sweep 1: the 32 values of variable 1 have no support in variable 3,
+        // that of variable 2 has all 32. Sweep 2: it has none.
+        (
+            all_supports_go().encode(),
+            &[
+                &[0xFFFF, 0xFFFF, 0, 1, 0, 0],
+                &[0, 0, 0, 1, 0, 0],
+                &[0, 0, 0, 0, 0, 0],
+                &[0, 0, 0, 0, 0, 0],
+            ],
+        ),
+    ]
+}
+
+fn swept_in_one() -> Vec<Steps> {
     let (one, two): (&[_], &[_]) = (&[BROTH], &MAINS);
     let plan = |variables: &[&[_]], constraints: &[_]| apart(variables, constraints).encode();
     let same_place = |first, second| table(first, second, &[1, 2]);
@@ -85,7 +124,7 @@ pub const PARTS: &[Part] = &[
 mod tests {
     use super::*;
     use crate::reference::largest::largest_lists;
-    use crate::reference::lists::cells;
+    use crate::reference::lists::{cells, Lists};
     use crate::reference::plan::{decode, Network};
     use crate::reference::sweep::{last_sweep, run_sweeps, sweeps};
     use crate::reference::{Decline, LIST_CELLS};
@@ -95,6 +134,7 @@ mod tests {
         for (bytes, steps) in swept() {
             let plan = decode(&bytes).unwrap();
             let network = Network::new(&plan);
+            let cells = |lists: &Lists| cells(plan.version, lists);
             let found: Vec<Vec<u16>> = sweeps(&plan, &network).iter().map(cells).collect();
             assert_eq!(found, steps, "{plan:?}");
             assert_eq!(cells(&largest_lists(&plan, &network)), found[found.len() - 1], "{plan:?}");
@@ -125,13 +165,13 @@ mod tests {
             (number, place)
         };
         let cut = &plan_p()[..57];
-        for plan in [&plan_p()[..], cut, &[]] {
-            for cells in [[31, 32], [32, 31], [31, 31], [0, 32], [32, 0], [0, 0], [31, 90]] {
+        for plan in [&plan_p()[..], &plan_p_in_two(), cut, &[]] {
+            for cells in [[63, 64], [64, 63], [32, 32], [0, 64], [64, 0], [0, 0], [63, 90]] {
                 assert_eq!(call(plan, cells), (10, 0));
             }
         }
-        assert_eq!(call(cut, [32, 32]), (1, 49));
-        assert_eq!(call(&[2], [33, 32]), (2, 0));
+        assert_eq!(call(cut, [64, 64]), (1, 49));
+        assert_eq!(call(&[3], [65, 64]), (2, 0));
     }
 
     #[test]

@@ -86,8 +86,11 @@ fn truncated() {
 
 #[test]
 fn bad_version() {
-    let text = "declined 2: version byte is not 1, at byte 0";
-    Told { decline: Decline::BadVersion, number: 2, place: 0, text }.of_plan(&damaged(0, "02"), None);
+    let text = "declined 2: version byte is neither 1 nor 2, at byte 0";
+    let told = Told { decline: Decline::BadVersion, number: 2, place: 0, text };
+    for version in ["00", "03", "FF"] {
+        told.of_plan(&damaged(0, version), None);
+    }
 }
 
 #[test]
@@ -97,6 +100,7 @@ fn bad_length() {
         (18, "000B", 18, Slot(2)), // for 10, of two dishes
         (42, "0006", 42, Rule(1)), // for 5, of a sodium rule
         (49, "0005", 49, Rule(2)), // for 7, of a table over two dishes
+        (0, "02", 49, Rule(2)),    // for 11, of such a table in version 2
     ];
     let what = "length is not the one that the content calls for";
     in_sections(|section_start| Decline::BadLength { section_start }, 3, what, &damages);
@@ -153,23 +157,23 @@ fn trailing_bytes() {
 
 #[test]
 fn short_work() {
-    let text = "declined 9: fewer than 24576 work cells";
+    let text = "declined 9: fewer than 30720 work cells";
     let told = Told { decline: Decline::ShortWork, number: 9, place: 0, text };
-    told.of_run([24_575, 31], &hex("0101"), None);
-    let mut b = Buffers::new(24_575, 31);
+    told.of_run([30_719, 63], &hex("0101"), None);
+    let mut b = Buffers::new(30_719, 63);
     assert_eq!(b.round(&hex(P)), Err(told.decline));
     assert!(b.unchanged());
 }
 
 #[test]
 fn short_lists() {
-    let text = "declined 10: fewer than 32 cells in a list buffer";
+    let text = "declined 10: fewer than 64 cells in a list buffer";
     let told = Told { decline: Decline::ShortLists, number: 10, place: 0, text };
-    told.of_run([24_576, 31], &hex("0101"), None);
-    let mut b = Buffers::new(24_576, 31);
+    told.of_run([30_720, 63], &hex("0101"), None);
+    let mut b = Buffers::new(30_720, 63);
     assert_eq!(b.round(&[]), Err(told.decline));
     assert!(b.unchanged());
-    for [first, second] in [[31, 32], [32, 31], [0, 64]] {
+    for [first, second] in [[63, 64], [64, 63], [0, 128]] {
         let mut s = SweepBuffers::new(first, second);
         assert_eq!(s.sweeps(&[]), Err(told.decline));
         assert!(s.unchanged());
@@ -180,8 +184,8 @@ fn short_lists() {
 fn bad_turn_list() {
     let text = "declined 11: turn list of odd length or over 65536 bytes";
     let told = Told { decline: Decline::BadTurnList, number: 11, place: 0, text };
-    told.of_run([24_576, 32], &hex("0101 09"), None);
-    told.of_run([24_576, 32], &[1; 65_538], None);
+    told.of_run([30_720, 64], &hex("0101 09"), None);
+    told.of_run([30_720, 64], &[1; 65_538], None);
 }
 
 #[test]
@@ -189,8 +193,8 @@ fn bad_turn() {
     // kitchen 1 reads from itself; the desk has no deed 13
     let decline = Decline::BadTurn { turn: 1 };
     let told = Told { decline, number: 12, place: 1, text: "declined 12: turn 1, counted from 0, is not allowed" };
-    told.of_run([24_576, 32], &hex("0109 0101 000D"), Some(Turn { number: 1, actor: 1, deed: 1 }));
-    told.of_run([24_576, 32], &hex("0109 000D 0101"), Some(Turn { number: 1, actor: 0, deed: 13 }));
+    told.of_run([30_720, 64], &hex("0109 0101 000D"), Some(Turn { number: 1, actor: 1, deed: 1 }));
+    told.of_run([30_720, 64], &hex("0109 000D 0101"), Some(Turn { number: 1, actor: 0, deed: 13 }));
 
     // a list of the greatest length, with its last turn at fault
     let mut turns = [1, 9].repeat(32_768);
@@ -198,7 +202,7 @@ fn bad_turn() {
     let decline = Decline::BadTurn { turn: 32_767 };
     let text = "declined 12: turn 32767, counted from 0, is not allowed";
     let turn = Turn { number: 32_767, actor: 9, deed: 10 };
-    Told { decline, number: 12, place: 32_767, text }.of_run([24_576, 32], &turns, Some(turn));
+    Told { decline, number: 12, place: 32_767, text }.of_run([30_720, 64], &turns, Some(turn));
 }
 
 /// Wherever P is damaged, a decline about a section finds it, and is one that such a section can have.

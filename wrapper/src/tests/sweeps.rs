@@ -29,7 +29,7 @@ fn one_dish_a_sweep() {
     for slot in 2..32 {
         plan.extend([0, 5, slot, slot + 1, 0, 0, 1]);
     }
-    let mut s = SweepBuffers::new(32, 32);
+    let mut s = SweepBuffers::new(64, 64);
     assert_eq!(s.sweeps(&plan), Ok(32));
     assert_eq!(s.cells(32), [[0; 32]; 2]);
 }

@@ -1,14 +1,14 @@
 -- `counting::support_rows` gives the rows of a variable's values against another, and gathers those of the other's values.
 -- Invariant: the rows of the first v values are there, and these values are gathered. Assumes nothing.
-use Prim.Native.Nat.{ℕ, _-_, _<_, _≤_}
+use Prim.Native.Nat.{ℕ, _-_, _^_, _<_, _≤_}
 use borrow.Author.Needs.{needs}
 use denote.Ref.{now}
 use mathlib.Core.List.{List}
-use mathlib.Core.Path.{_≡_, _∙_}
+use mathlib.Core.Path.{_≡_, _∙_, ap}
 use native.Mathlib.Omega.{arith}
 use Rattle.cells.specs.Layout.{VALUEROOM}
 use Rattle.base.specs.Row.{rowOf}
-use Rattle.counting.proofs.CountLaws.{size-low, supports-fit, rows-more, gathered, gathered-small, gathered-more, gathered-all}
+use Rattle.counting.proofs.CountLaws.{size-low, supports-held, supports-fit, rows-more, gathered, gathered-small, gathered-more, gathered-all}
 use Rattle.counting.proofs.support_rows.Statement.{statement}
 use Rattle.counting.proofs.support_rows.Tie as tie
 use Rattle.counting.specs.Count.{FirstRows, supportRow}
@@ -17,16 +17,21 @@ use Rattle.plan.specs.Decode.{planOf}
 use Rattle.plan.specs.Network.{networkOf}
 
 abbrev Inv-loop : tie.InvT-loop
-Inv-loop b cells x y others₀ n rows₀ v₀ others rows v =
+Inv-loop b cells x y others₀ n m rows₀ v₀ others rows v =
     (v ≤ n) × FirstRows (supportRow (networkOf (planOf b)) x y) v rows × FirstRows (gathered (planOf b) x y v) VALUEROOM others
 
 abbrev μ-loop : tie.MeasureT-loop
-μ-loop b cells x y others₀ n rows₀ v₀ others rows v = n - v
+μ-loop b cells x y others₀ n m rows₀ v₀ others rows v = n - v
 
 size-requires : tie.Need-size-requires Inv-loop μ-loop
 size-requires c κs =
     let s = c .before .before in
     (s .pre .0, linked-inside (now (s .args .plan)) (s .pre .0 .sound) (s .args .x) (s .args .y) (s .pre .1) .0)
+
+size-requires-2 : tie.Need-size-requires-2 Inv-loop μ-loop
+size-requires-2 c κs =
+    let s = c .before .before .before in
+    (s .pre .0, linked-inside (now (s .args .plan)) (s .pre .0 .sound) (s .args .x) (s .args .y) (s .pre .1) .1)
 
 no-rows-requires : tie.Need-no-rows-requires Inv-loop μ-loop
 no-rows-requires c κs = tt
@@ -45,8 +50,11 @@ module _ (t : tie.In-loop Inv-loop μ-loop) where
   abbrev loop-of : tie.At-loop Inv-loop μ-loop
   loop-of = t .before
 
+  abbrev other-sized : tie.After-size2 Inv-loop μ-loop
+  other-sized = loop-of .before .before
+
   abbrev sized : tie.After-size Inv-loop μ-loop
-  sized = loop-of .before .before
+  sized = other-sized .before
 
   abbrev start-of : tie.Start Inv-loop μ-loop
   start-of = sized .before .before .before
@@ -89,10 +97,23 @@ array-write-rows : tie.Need-array-write-rows Inv-loop μ-loop
 array-write-rows c = small (c .before)
 
 gather-requires : tie.Need-gather-requires Inv-loop μ-loop
+unfolding networkOf
 gather-requires c κs =
-    let t = c .before .before in
+    let k = c .before in
+    let t = k .before in
+    let s = start-of t in
     let g = loop-of t .loop .inv .2 in
-    (g .long, small t, gathered-small (planOf (plan-of t)) (start-of t .args .x) (start-of t .args .y) (loop-of t .loop .v) (loop-of t .loop .others) g)
+    record {
+      long = g .long;
+      few = omega (arith, other-sized t .size2 .ensures .1);
+      value = small t;
+      held = omega (
+        arith,
+        ap (λ (n : ℕ). 2 ^ n) (other-sized t .size2 .ensures .0),
+        supports-held (plan-of t) (s .pre .0 .sound) (s .args .x) (s .args .y) (s .pre .1) (loop-of t .loop .v) _ (found k),
+      );
+      lower = gathered-small (planOf (plan-of t)) (s .args .x) (s .args .y) (loop-of t .loop .v) (loop-of t .loop .others) g;
+    }
 
 add-v : tie.Need-add-v Inv-loop μ-loop
 add-v c = omega arith
@@ -132,6 +153,7 @@ support-rows-spec =
     Inv-loop
     μ-loop
     size-requires
+    size-requires-2
     no-rows-requires
     loop-holds
     support-row-requires

@@ -1,7 +1,7 @@
 -- `domains::push_domains` puts the lines of all variables. The loop's invariant: those of the variables passed are put, and `section` is
 -- the place of the next one's section. The measure is what is left. Assumes nothing.
-use Prim.Native.Nat.{suc, _+_, _-_, _*_, _≤_}
-use mathlib.Core.Path.{_≡_, refl}
+use Prim.Native.Nat.{ℕ, suc, _+_, _-_, _*_, _≤_}
+use mathlib.Core.Path.{_≡_, refl, _∙_, ap}
 use native.Mathlib.Numerals.{add-one}
 use native.Mathlib.Omega.{arith}
 use borrow.Author.Needs.{needs}
@@ -10,6 +10,8 @@ use lib.ListN.{length}
 use Rattle.base.specs.Below.{gatherBelow}
 use Rattle.plan.specs.Decode.{planOf}
 use Rattle.format.specs.Format.{sectionStart}
+use Rattle.format.specs.Lists.{rowIn}
+use Rattle.format.specs.Version.{rowWords}
 use Rattle.buffer.proofs.Puts.{adds-none, then-more}
 use Rattle.domains.proofs.Read.{line-read, start-first, start-more, lines-all}
 use Rattle.buffer.specs.Buffer.{Adds}
@@ -18,15 +20,18 @@ use Rattle.domains.proofs.push_domains.Statement.{statement}
 use Rattle.domains.proofs.push_domains.Tie as tie
 
 abbrev Inv-loop : tie.InvT-loop
-Inv-loop out₀ at plan lists count place₀ section₀ x₀ out place section x =
+Inv-loop out₀ at plan lists words count place₀ section₀ x₀ out place section x =
     (x ≤ count)
     × (length out ≡ length out₀)
     × (section ≡ sectionStart plan (suc x))
     × (section ≤ 65538 + x * 65537)
-    × Adds (gatherBelow x (variableLine (planOf plan) lists)) out₀ at out place
+    × Adds (gatherBelow x (variableLine (rowWords plan) (planOf plan) lists)) out₀ at out place
 
 abbrev μ-loop : tie.MeasureT-loop
-μ-loop out₀ at plan lists count place₀ section₀ x₀ out place section x = count - x
+μ-loop out₀ at plan lists words count place₀ section₀ x₀ out place section x = count - x
+
+row-words-requires : tie.Need-row-words-requires Inv-loop μ-loop
+row-words-requires c κs = search needs
 
 variable-count-requires : tie.Need-variable-count-requires Inv-loop μ-loop
 variable-count-requires c κs = search needs
@@ -46,8 +51,11 @@ loop-holds c =
 add-push-domain : tie.Need-add-push-domain Inv-loop μ-loop
 add-push-domain c = omega arith
 
-cell-at-requires : tie.Need-cell-at-requires Inv-loop μ-loop
-cell-at-requires c κs = search needs
+row-at-requires : tie.Need-row-at-requires Inv-loop μ-loop
+row-at-requires c κs =
+    let at-loop : tie.At-loop Inv-loop μ-loop = search in
+    let wide : tie.After-row-words Inv-loop μ-loop = search in
+    (omega (arith, wide .row-words .ensures .2), omega (arith, at-loop .before .before .variable-count .ensures .1))
 
 push-domain-requires : tie.Need-push-domain-requires Inv-loop μ-loop
 push-domain-requires c κs = omega arith
@@ -70,7 +78,8 @@ loop-less c = omega arith
 loop-again : tie.Need-loop-again Inv-loop μ-loop
 loop-again c =
     let at-line : tie.After-push-domain Inv-loop μ-loop = search in
-    let at-cell : tie.After-cell-at Inv-loop μ-loop = search in
+    let at-row : tie.After-row-at Inv-loop μ-loop = search in
+    let wide : tie.After-row-words Inv-loop μ-loop = search in
     let at-loop : tie.At-loop Inv-loop μ-loop = search in
     let start : tie.Start Inv-loop μ-loop = search in
     let plan = now (start .args .plan) in
@@ -80,9 +89,10 @@ loop-again c =
       omega arith,
       start-more plan (at-loop .loop .section) (c .word-at2 .result) x (at-loop .loop .inv .2) (c .word-at2 .ensures .0),
       omega arith,
-      then-more x (variableLine (planOf plan) lists) (at-loop .loop .inv .4)
-          (line-read plan lists x (at-loop .loop .section) (x + 1) (at-cell .cell-at .result)
-          (omega (arith, at-loop .before .before .variable-count .ensures .0)) (at-loop .loop .inv .2) (add-one x) (at-cell .cell-at .ensures))
+      then-more x (variableLine (rowWords plan) (planOf plan) lists) (at-loop .loop .inv .4)
+          (line-read plan lists x (at-loop .loop .section) (x + 1) (at-row .row-at .result)
+          (omega (arith, at-loop .before .before .variable-count .ensures .0)) (at-loop .loop .inv .2) (add-one x)
+          (at-row .row-at .ensures ∙ ap (λ (n : ℕ). rowIn n lists x) (wide .row-words .ensures .0)))
           (at-line .push-domain .ensures),
     )
 
@@ -103,12 +113,13 @@ push-domains-spec =
     (tie.spec
     Inv-loop
     μ-loop
+    row-words-requires
     variable-count-requires
     word-at-requires
     add-section
     loop-holds
     add-push-domain
-    cell-at-requires
+    row-at-requires
     push-domain-requires
     add-section-2
     word-at-requires-2

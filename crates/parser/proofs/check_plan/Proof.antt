@@ -1,5 +1,6 @@
 -- `parser::check_plan` gives the plan check's whole outcome for any bytes. Assumes nothing.
 use borrow.Author.Tests.{eq-eqb, ne-eqb}
+use Rattle.faults.proofs.Branches.{holds, fails}
 use Rattle.plan.specs.Answer.{checkOf, planCheck}
 use Rattle.plan.specs.Decode.{planFault, decode}
 use borrow.Author.Needs.{needs}
@@ -13,8 +14,11 @@ returns : tie.Need-returns
 unfolding planCheck decode planFault
 returns c = rw (eq-eqb _ 0 (c .before .if1 .taken)) (c .declined .ensures)
 
-byte-at-requires : tie.Need-byte-at-requires
-byte-at-requires c κs = search needs
+number-requires : tie.Need-number-requires
+number-requires c κs = search needs
+
+between-requires : tie.Need-between-requires
+between-requires c κs = search needs
 
 declined-requires-2 : tie.Need-declined-requires-2
 declined-requires-2 c κs = search needs
@@ -24,9 +28,9 @@ unfolding planCheck decode planFault
 returns-2 c =
     let t = c .before in
     rw (
-      ne-eqb _ 0 (t .before .before .if1 .left),
-      ← t .before .byte-at .ensures .0,
-      ne-eqb _ 1 (t .if2 .taken),
+      ne-eqb _ 0 (t .before .before .before .if1 .left),
+      ← t .before .before .number .ensures .0,
+      fails (t .before .between .ensures) (t .if2 .taken),
     )
     (c .declined2 .ensures)
 
@@ -38,9 +42,9 @@ unfolding planCheck decode planFault checkOf
 returns-3 c =
     let t = c .before in
     rw (
-      ne-eqb _ 0 (t .before .before .if1 .left),
-      ← t .before .byte-at .ensures .0,
-      eq-eqb _ 1 (t .if2 .left),
+      ne-eqb _ 0 (t .before .before .before .if1 .left),
+      ← t .before .before .number .ensures .0,
+      holds (t .before .between .ensures) (t .if2 .left),
     )
     (c .check-sections .ensures)
 
@@ -50,7 +54,8 @@ check-plan-spec =
     (tie.spec
     declined-requires
     returns
-    byte-at-requires
+    number-requires
+    between-requires
     declined-requires-2
     returns-2
     check-sections-requires

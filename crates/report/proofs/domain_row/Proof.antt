@@ -2,11 +2,8 @@
 use denote.Ref.{now}
 use mathlib.Core.Path.{refl}
 use native.Mathlib.Omega.{arith}
-use Rattle.base.proofs.Row.{row-low}
 use Rattle.cells.proofs.Ranges.{may-get}
-use Rattle.cells.specs.Memory.{memOf}
 use Rattle.index.proofs.Places.{few-sections}
-use Rattle.cells.specs.View.{inDomain}
 use Rattle.report.proofs.domain_row.Statement.{statement}
 use Rattle.report.proofs.domain_row.Tie as tie
 
@@ -21,14 +18,7 @@ row-holding-requires c κs =
 returns : tie.Need-returns
 returns c =
     let z = c .before in
-    let a = z .before .before .before .args in (
-      rw (← z .size .ensures .0) (c .row-holding .ensures),
-      omega (
-        arith,
-        c .row-holding .ensures,
-        row-low (z .size .result) (inDomain (memOf (now (a .cells))) (a .x)) (z .size .ensures .1),
-      ),
-    )
+    rw (← z .size .ensures .0) (c .row-holding .ensures)
 
 pub domain-row-spec : {M : Type 1} → statement M
 domain-row-spec = tie.close (tie.spec size-requires row-holding-requires returns)

@@ -41,7 +41,7 @@ returns c =
     let b = now (start .args .plan) in (
       empty-here b (memOf (now (start .args .cells))) (at-loop .loop .x) (at-loop .loop .inv .1)
           (omega (arith, at-loop .before .variable-count .ensures))
-          (sym (c .before .domain-row .ensures .0) ∙ c .if1 .taken),
+          (sym (c .before .domain-row .ensures) ∙ c .if1 .taken),
       omega (arith, few-sections b (start .pre .sound), at-loop .before .variable-count .ensures),
     )
 
@@ -57,7 +57,7 @@ loop-again c =
     let start : tie.Start Inv-loop μ-loop = search in (
       omega arith,
       empty-next (now (start .args .plan)) (memOf (now (start .args .cells))) (at-loop .loop .x) (at-loop .loop .inv .1)
-          (λ e. c .if1 .left (c .before .domain-row .ensures .0 ∙ e)),
+          (λ e. c .if1 .left (c .before .domain-row .ensures ∙ e)),
     )
 
 returns-2 : tie.Need-returns-2 Inv-loop μ-loop

@@ -17,11 +17,14 @@ use Rattle.report.proofs.write_lists.Statement.{statement}
 use Rattle.report.proofs.write_lists.Tie as tie
 
 abbrev Inv-loop : tie.InvT-loop
-Inv-loop plan cells lists₀ variables x₀ lists x =
-    (x ≤ variables) × (lists ≡ rowsBefore (domainRow plan (memOf cells)) x lists₀)
+Inv-loop plan cells lists₀ words variables x₀ lists x =
+    (x ≤ variables) × (lists ≡ rowsBefore words (domainRow plan (memOf cells)) x lists₀)
 
 abbrev μ-loop : tie.MeasureT-loop
-μ-loop plan cells lists₀ variables x₀ lists x = variables - x
+μ-loop plan cells lists₀ words variables x₀ lists x = variables - x
+
+row-words-requires : tie.Need-row-words-requires Inv-loop μ-loop
+row-words-requires c κs = search needs
 
 variable-count-requires : tie.Need-variable-count-requires Inv-loop μ-loop
 variable-count-requires c κs = search needs
@@ -29,10 +32,10 @@ variable-count-requires c κs = search needs
 loop-holds : tie.Need-loop-holds Inv-loop μ-loop
 loop-holds c =
     let start : tie.Start Inv-loop μ-loop = search in
-    (omega arith, rows-none (domainRow (now (start .args .plan)) (memOf (now (start .args .cells)))) (now (start .args .lists)))
+    (omega arith, rows-none _ (domainRow (now (start .args .plan)) (memOf (now (start .args .cells)))) (now (start .args .lists)))
 
 abbrev start-of : tie.At-loop Inv-loop μ-loop → tie.Start Inv-loop μ-loop
-start-of c = let counted = c .before in counted .before .before .before .before
+start-of c = let counted = c .before .before in counted .before .before .before .before
 
 abbrev row : tie.At-loop Inv-loop μ-loop → ℕ → ℕ
 row c = domainRow (now (start-of c .args .plan)) (memOf (now (start-of c .args .cells)))
@@ -45,7 +48,7 @@ few c = counted (start-of c .pre .0) (c .before .variable-count .ensures .0) .fe
 same : (c : tie.At-loop Inv-loop μ-loop) → length (c .loop .lists) ≡ length (now (start-of c .args .lists))
 same c =
     ap length (c .loop .inv .1)
-    ∙ rows-length (row c) (c .loop .x) (now (start-of c .args .lists)) (start-of c .pre .1) (omega (arith, c .loop .inv .0, few c))
+    ∙ rows-length _ (c .before .before .row-words .ensures .2) (row c) (c .loop .x) (now (start-of c .args .lists)) (start-of c .pre .1) (omega (arith, c .loop .inv .0, few c))
 
 domain-row-requires : tie.Need-domain-row-requires Inv-loop μ-loop
 domain-row-requires c κs =
@@ -55,7 +58,7 @@ domain-row-requires c κs =
 put-row-requires : tie.Need-put-row-requires Inv-loop μ-loop
 put-row-requires c κs =
     let at-loop : tie.At-loop Inv-loop μ-loop = search in
-    (omega (arith, few at-loop), omega (arith, same at-loop, start-of at-loop .pre .1), c .domain-row .ensures .1)
+    (omega (arith, at-loop .before .before .row-words .ensures .2), omega (arith, few at-loop), omega (arith, same at-loop, start-of at-loop .pre .1))
 
 add-x : tie.Need-add-x Inv-loop μ-loop
 add-x c = omega arith
@@ -71,8 +74,8 @@ loop-again c =
     let x = at-loop .loop .x in (
       omega arith,
       put .put-row .ensures
-          ∙ ap₂ (λ (a : List ℕ) (v : ℕ). putRow x v a) (at-loop .loop .inv .1) (rowed .domain-row .ensures .0)
-          ∙ rows-next (row at-loop) x (now (start-of at-loop .args .lists)) (start-of at-loop .pre .1) (omega (arith, few at-loop)),
+          ∙ ap₂ (λ (a : List ℕ) (v : ℕ). putRow (at-loop .before .before .row-words .result) x v a) (at-loop .loop .inv .1) (rowed .domain-row .ensures)
+          ∙ rows-next _ (at-loop .before .before .row-words .ensures .2) (row at-loop) x (now (start-of at-loop .args .lists)) (start-of at-loop .pre .1) (omega (arith, few at-loop)),
     )
 
 same-length : tie.Need-same-length Inv-loop μ-loop
@@ -83,6 +86,7 @@ returns c t =
     let at-loop = c .before in
     let start = start-of at-loop in
     at-loop .loop .inv .1
+    ∙ ap (λ (n : ℕ). rowsBefore n (row at-loop) (at-loop .loop .x) (now (start .args .lists))) (at-loop .before .before .row-words .ensures .0)
     ∙ rows-written (now (start .args .plan)) (memOf (now (start .args .cells))) (at-loop .loop .x) (now (start .args .lists))
     (omega (arith, at-loop .before .variable-count .ensures)) t
 
@@ -92,6 +96,7 @@ write-lists-spec =
     (tie.spec
     Inv-loop
     μ-loop
+    row-words-requires
     variable-count-requires
     loop-holds
     domain-row-requires

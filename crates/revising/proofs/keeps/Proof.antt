@@ -1,4 +1,4 @@
--- `revising::keeps` tells whether a row holds a value that has a support in another variable's list. Assumes nothing.
+-- `revising::keeps` tells whether a row holds a value that has a support in another variable's row. Assumes nothing.
 use borrow.Author.Needs.{needs}
 use denote.Ref.{now}
 use mathlib.Core.Bool.{Bool, _&&_}
@@ -25,14 +25,14 @@ abbrev supported : tie.Start → Domains → Bool
 supported start d = hasSupport (networkAt (now (start .args .plan))) d (start .args .x) (start .args .v) (start .args .y)
 
 returns : tie.Need-returns
-returns c d shown =
+returns c d is-row =
     let start : tie.Start = search in
     let tested : tie.After-row-holds = search in
-    _∙_ {b = supported start d} (c .has-support .ensures d shown)
+    _∙_ {b = supported start d} (c .has-support .ensures d is-row)
     (ap (λ (t : Bool). t && supported start d) (sym (c .before .if1 .taken) ∙ tested .row-holds .ensures))
 
 returns-2 : tie.Need-returns-2
-returns-2 c d shown =
+returns-2 c d is-row =
     let start : tie.Start = search in
     let tested : tie.After-row-holds = search in
     ap (λ (t : Bool). t && supported start d) (sym (c .if1 .left) ∙ tested .row-holds .ensures)

@@ -1,16 +1,24 @@
 -- `rows::constraint_row` gives the row of the values that a constraint permits. Assumes nothing.
-use Prim.Native.Nat.{ℕ}
+use Prim.Native.Nat.{ℕ, _<_}
 use borrow.Author.Needs.{needs}
 use borrow.Author.Tests.{eq-eqb, ne-eqb}
 use denote.Ref.{now}
-use mathlib.Core.Bool.{true}
+use mathlib.Core.Bool.{true, cond}
 use mathlib.Core.List.{List}
 use mathlib.Core.Path.{_≡_, sym, _∙_}
+use native.Mathlib.Omega.{arith}
 use lib.Dec.{eqb}
-use Rattle.format.specs.Format.{kindAt}
-use Rattle.rows.proofs.Rows.{limit-bits, table-bits, column-bits}
+use Rattle.format.proofs.Widths.{words-range}
+use Rattle.base.specs.Row.{bit}
+use Rattle.format.specs.Format.{kindAt, tableRowAt}
+use Rattle.rows.proofs.Rows.{limit-bits, table-permits}
 use Rattle.rows.proofs.constraint_row.Statement.{statement}
 use Rattle.rows.proofs.constraint_row.Tie as tie
+use Rattle.rows.specs.Permits.{permitsFrom, inColumn}
+
+-- a row has fewer than 256 values
+dish-low : (s : tie.Start) → s .args .v < 256
+dish-low s = omega (arith, s .pre .3, words-range (now (s .args .plan)))
 
 kind-requires : tie.Need-kind-requires
 kind-requires c κs = search needs
@@ -19,7 +27,9 @@ limit-requires : tie.Need-limit-requires
 limit-requires c κs = search needs
 
 figure-requires : tie.Need-figure-requires
-figure-requires c κs = search needs
+figure-requires c κs =
+    let start : tie.Start = search in
+    (start .pre .1, dish-low start)
 
 limit-row-requires : tie.Need-limit-row-requires
 limit-row-requires c κs = search needs
@@ -34,35 +44,45 @@ returns c w h =
     (c .before .before .limit .result) (c .before .figure .result) (start .args .values) (c .limit-row .result)
     (c .before .before .limit .ensures .0) (c .before .figure .ensures .0) (c .limit-row .ensures) w h
 
-table-row-requires : tie.Need-table-row-requires
-table-row-requires c κs = search needs
+row-words-requires : tie.Need-row-words-requires
+row-words-requires c κs = search needs
 
--- a constraint that is a table
-is-table : (b : List ℕ) (at kind : ℕ) → kind ≡ kindAt b at → kind ≡ 0 → eqb (kindAt b at) 0 ≡ true
-is-table b at kind e p = eq-eqb (kindAt b at) 0 (sym e ∙ p)
+-- a constraint that is no limit is a table, and permits what the table holds
+module _ (c : tie.After-row-words) where
+  abbrev start-of : tie.Start
+  start-of = c .before .before .before .before
+
+  abbrev plan-of : List ℕ
+  plan-of = now (start-of .args .plan)
+
+  is-table : eqb (kindAt plan-of (start-of .args .at)) 0 ≡ true
+  is-table = eq-eqb (kindAt plan-of (start-of .args .at)) 0 (sym (c .before .before .kind .ensures .0) ∙ c .before .if1 .left)
+
+  held : (r : ℕ)
+      → ((w : ℕ) → w < start-of .args .values
+      → bit r w ≡ cond (start-of .args .leads) (bit (tableRowAt plan-of (start-of .args .at) (start-of .args .v)) w)
+      (inColumn plan-of (start-of .args .at) (start-of .args .v) w))
+      → (w : ℕ) → w < start-of .args .values
+      → bit r w ≡ permitsFrom plan-of (start-of .args .at) (start-of .args .leads) (start-of .args .here) (start-of .args .v) (start-of .args .there) w
+  held r =
+      let a = start-of .args in
+      table-permits plan-of (a .at) (a .here) (a .v) (a .there) is-table (a .leads) (a .values) r
+
+table-values-requires : tie.Need-table-values-requires
+table-values-requires c κs =
+    let start = start-of (c .before) in
+    (sym (c .if2 .taken) ∙ c .before .row-words .ensures .0, start .pre .0, start .pre .3, start .pre .4)
 
 returns-2 : tie.Need-returns-2
-returns-2 c w h =
-    let kind-read : tie.After-kind = search in
-    let start : tie.Start = search in
-    let b = now (start .args .plan) in
-    rw (c .before .if2 .taken)
-    (table-bits b (start .args .at) (start .args .here) (start .args .v) (start .args .there)
-    (is-table b (start .args .at) (kind-read .kind .result) (kind-read .kind .ensures .0) (c .before .before .if1 .left))
-    (c .table-row .result) (c .table-row .ensures .0) w)
+returns-2 c = held (c .before .before) (c .table-values .result) (c .table-values .ensures)
 
-table-column-requires : tie.Need-table-column-requires
-table-column-requires c κs = search needs
+table-values-requires-2 : tie.Need-table-values-requires-2
+table-values-requires-2 c κs =
+    let start = start-of (c .before) in
+    (omega (arith, c .if2 .left, c .before .row-words .ensures), start .pre .0, start .pre .3, start .pre .4)
 
 returns-3 : tie.Need-returns-3
-returns-3 c w h =
-    let kind-read : tie.After-kind = search in
-    let start : tie.Start = search in
-    let b = now (start .args .plan) in
-    rw (c .before .if2 .left)
-    (column-bits b (start .args .at) (start .args .here) (start .args .v) (start .args .there)
-    (is-table b (start .args .at) (kind-read .kind .result) (kind-read .kind .ensures .0) (c .before .before .if1 .left))
-    (start .args .values) (c .table-column .result) (c .table-column .ensures) w h)
+returns-3 c = held (c .before .before) (c .table-values2 .result) (c .table-values2 .ensures)
 
 pub constraint-row-spec : {M : Type 1} → statement M
 constraint-row-spec =
@@ -73,7 +93,8 @@ constraint-row-spec =
     figure-requires
     limit-row-requires
     returns
-    table-row-requires
+    row-words-requires
+    table-values-requires
     returns-2
-    table-column-requires
+    table-values-requires-2
     returns-3)

@@ -1,6 +1,6 @@
 -- `rows::table_column` gives the row of the values whose rows in a table hold a value. Invariant: the row holds
 -- those from w on, counted from there; the measure is w. Assumes nothing.
-use Prim.Native.Nat.{ℕ, _+_, _-_, _*_, _%_}
+use Prim.Native.Nat.{ℕ, _+_, _-_, _*_, _/_, _%_}
 use denote.Ref.{now}
 use mathlib.Core.Bool.{Bool}
 use mathlib.Core.Path.{_∙_, ap}
@@ -8,6 +8,9 @@ use native.Mathlib.Omega.{arith}
 use Rattle.base.specs.Below.{one}
 use Rattle.base.specs.Bytes.{byteAt}
 use Rattle.base.specs.Row.{bit}
+use Rattle.format.proofs.Widths.{words-range}
+use Rattle.format.specs.Format.{tableByteAt}
+use Rattle.format.specs.Limits.{wordBytes}
 use Rattle.rows.proofs.Rows.{column-byte}
 use Rattle.rows.proofs.Upper.{Upper, upper-start, upper-more, upper-small, upper-all}
 use Rattle.rows.proofs.table_column.Statement.{statement}
@@ -15,16 +18,19 @@ use Rattle.rows.proofs.table_column.Tie as tie
 use Rattle.rows.specs.Permits.{inColumn}
 
 abbrev Inv-loop : tie.InvT-loop
-Inv-loop b at v values part k row₀ w₀ row w = Upper (inColumn b at v) values row w
+Inv-loop b words at v values part k row₀ w₀ row w = Upper (inColumn b at v) values row w
 
 abbrev μ-loop : tie.MeasureT-loop
-μ-loop b at v values part k row₀ w₀ row w = w
+μ-loop b words at v values part k row₀ w₀ row w = w
+
+mul-part : tie.Need-mul-part Inv-loop μ-loop
+mul-part c = omega (arith, c .before .pre .0, words-range (now (c .before .args .plan)))
 
 sub-part : tie.Need-sub-part Inv-loop μ-loop
-sub-part c = omega (arith, c .before .pre .1)
+sub-part c = omega (arith, c .before .pre)
 
 sub-part-2 : tie.Need-sub-part-2 Inv-loop μ-loop
-sub-part-2 c = omega (arith, c .before .pre .1)
+sub-part-2 c = omega (arith, c .before .pre)
 
 -- the test that the row's values pass
 abbrev permitted : tie.Start Inv-loop μ-loop → ℕ → Bool
@@ -42,10 +48,12 @@ mul-row : tie.Need-mul-row Inv-loop μ-loop
 mul-row c =
     let l = c .before in
     let s = l .before .before in
-    omega (arith, upper-small (permitted s) (s .args .values) (l .loop .row) (l .loop .w) (s .pre .2) (l .loop .inv))
+    omega (arith, upper-small (permitted s) (s .args .values) (l .loop .row) (l .loop .w) (s .pre .3) (l .loop .inv))
 
 table-byte-requires : tie.Need-table-byte-requires Inv-loop μ-loop
-table-byte-requires c κs = omega (arith, c .before .before .before .pre, c .before .loop .inv .low)
+table-byte-requires c κs =
+    let start : tie.Start Inv-loop μ-loop = search in
+    (start .pre .0, start .pre .1, omega (arith, start .pre, c .before .loop .inv .low), omega (arith, start .pre, words-range (now (start .args .plan))))
 
 row-holds-requires : tie.Need-row-holds-requires Inv-loop μ-loop
 row-holds-requires c κs =
@@ -72,13 +80,14 @@ module _ (c : tie.After-row-if Inv-loop μ-loop) where
       ∙ ap one
       (c .before .row-holds .ensures
       ∙ ap (λ (r : ℕ). bit r (start-of .args .v % 8)) (c .before .before .table-byte .ensures .0)
+      ∙ ap (λ (n : ℕ). bit (tableByteAt (now (start-of .args .plan)) (start-of .args .at) (loop-of .loop .w - 1) (wordBytes * n - 1 - start-of .args .v / 8)) (start-of .args .v % 8)) (start-of .pre .0)
       ∙ column-byte (now (start-of .args .plan)) (λ i. loop-of .before .shared-slice-known .given i .fits) (start-of .args .at) (start-of .args .v)
-      (start-of .pre .1) (loop-of .loop .w - 1)))
+      (start-of .pre .2) (loop-of .loop .w - 1)))
 
 add-row : tie.Need-add-row Inv-loop μ-loop
 add-row c =
     let s = start-of c in
-    omega (arith, upper-small (permitted s) (s .args .values) _ _ (s .pre .2) (more c))
+    omega (arith, upper-small (permitted s) (s .args .values) _ _ (s .pre .3) (more c))
 
 loop-less : tie.Need-loop-less Inv-loop μ-loop
 loop-less c = omega (arith, c .before .before .before .loop-test .taken)
@@ -98,6 +107,7 @@ table-column-spec =
     (tie.spec
     Inv-loop
     μ-loop
+    mul-part
     sub-part
     sub-part-2
     loop-holds

@@ -17,7 +17,7 @@ use Rattle.format.specs.Limits.{maxVariables, maxConstraints}
 use Rattle.cells.proofs.Ranges.{may-get}
 use Rattle.rows.proofs.Accepted.{acceptsAt}
 use Rattle.index.proofs.Along.{along-over}
-use Rattle.index.proofs.Labels.{located, label-small}
+use Rattle.index.proofs.Labels.{located, label-in-row}
 use Rattle.index.proofs.Nearest.{last-low}
 use Rattle.index.proofs.Linked.{linked-inside, supports-allowed}
 use Rattle.index.proofs.Places.{few-sections}
@@ -48,7 +48,9 @@ variable-count-requires : tie.Need-variable-count-requires Inv-loop μ-loop
 variable-count-requires c κs = search needs
 
 add-place : tie.Need-add-place Inv-loop μ-loop
-add-place c = omega (arith, few (c .before .before .before))
+add-place c =
+    let start : tie.Start Inv-loop μ-loop = search in
+    omega (arith, few start)
 
 place-requires : tie.Need-place-requires Inv-loop μ-loop
 place-requires c κs =
@@ -161,7 +163,7 @@ constraint-row-requires c κs = (
   at-placed c .within,
   here-placed (loop-of c) .within,
   there-placed (loop-of c) .within,
-  label-small (plan-of c) (start-of (loop-of c) .pre .0 .sound) (x c) (v c) (start-of (loop-of c) .pre .1) .1,
+  label-in-row (plan-of c) (start-of (loop-of c) .pre .0 .sound) (x c) (v c) (start-of (loop-of c) .pre .1),
   sized (loop-of c) .size .ensures .1,
 )
 

@@ -7,11 +7,12 @@ use mathlib.Core.List.{List}
 use mathlib.Core.Path.{_≡_, _∙_, ap, ap₂}
 use native.Mathlib.Omega.{arith}
 use lib.ListN.{length}
-use lib.Pow.{pow-pos, pow-mono}
+use lib.Pow.{pow-pos}
 use Rattle.disac4.specs.System.{networkAt}
+use Rattle.lending.specs.Call.{overwrite}
 use Rattle.listing.proofs.ListCells.{rowsBefore, rows-none, rows-length, rows-next, rows-all}
 use Rattle.listing.specs.ListCells.{putRow}
-use Rattle.disac4.specs.Report.{rowFrom}
+use Rattle.disac4.specs.Report.{rowFrom, domainCells}
 use Rattle.network.specs.Network.{loaded}
 use Rattle.plan.specs.Network.{networkOf}
 use Rattle.index.proofs.Counted.{counted}
@@ -24,19 +25,22 @@ abbrev fullRow : List ℕ → ℕ → ℕ
 fullRow plan = rowFrom (networkAt plan) (loaded (networkAt plan))
 
 abbrev Inv-loop : tie.InvT-loop
-Inv-loop plan cells lists₀ variables x₀ lists x = (x ≤ variables) × (lists ≡ rowsBefore (fullRow plan) x lists₀)
+Inv-loop plan cells lists₀ words variables x₀ lists x = (x ≤ variables) × (lists ≡ rowsBefore words (fullRow plan) x lists₀)
 
 abbrev μ-loop : tie.MeasureT-loop
-μ-loop plan cells lists₀ variables x₀ lists x = variables - x
+μ-loop plan cells lists₀ words variables x₀ lists x = variables - x
+
+row-words-requires : tie.Need-row-words-requires Inv-loop μ-loop
+row-words-requires c κs = search needs
 
 variable-count-requires : tie.Need-variable-count-requires Inv-loop μ-loop
 variable-count-requires c κs = search needs
 
 loop-holds : tie.Need-loop-holds Inv-loop μ-loop
-loop-holds c = (omega arith, rows-none _ _)
+loop-holds c = (omega arith, rows-none _ _ _)
 
 abbrev start-of : tie.At-loop Inv-loop μ-loop → tie.Start Inv-loop μ-loop
-start-of c = let known = c .before .before in known .before .before .before
+start-of c = let known = c .before .before .before in known .before .before .before
 
 -- the cells are as many as they were
 long : (c : tie.At-loop Inv-loop μ-loop) → length (c .loop .lists) ≡ length (now (start-of c .args .lists))
@@ -44,7 +48,7 @@ long c =
     let start = start-of c in
     let all = counted (start .pre .0) (c .before .variable-count .ensures .0) in
     ap length (c .loop .inv .1)
-    ∙ rows-length (fullRow (now (start .args .plan))) (c .loop .x) (now (start .args .lists)) (start .pre .1)
+    ∙ rows-length _ (c .before .before .row-words .ensures .2) (fullRow (now (start .args .plan))) (c .loop .x) (now (start .args .lists)) (start .pre .1)
     (omega (arith, c .loop .inv .0, all .few))
 
 size-requires : tie.Need-size-requires Inv-loop μ-loop
@@ -63,11 +67,10 @@ put-row-requires : tie.Need-put-row-requires Inv-loop μ-loop
 put-row-requires c κs =
     let start : tie.Start Inv-loop μ-loop = search in
     let total : tie.After-variable-count Inv-loop μ-loop = search in
-    let at-loop : tie.At-loop Inv-loop μ-loop = search in
-    let values = c .before .size in (
+    let at-loop : tie.At-loop Inv-loop μ-loop = search in (
+      total .before .row-words .ensures .2,
       omega (arith, counted (start .pre .0) (total .variable-count .ensures .0)),
       omega (arith, long at-loop, start .pre .1),
-      omega (arith, c .power .ensures, pow-pos (values .result), pow-mono (values .ensures .1)),
     )
 
 add-x : tie.Need-add-x Inv-loop μ-loop
@@ -95,8 +98,8 @@ loop-again c =
     ∙ loaded-row (networkAt plan) x (omega (arith, all .all)) in (
       omega arith,
       put .put-row .ensures
-          ∙ ap₂ (putRow x) full (at-loop .loop .inv .1)
-          ∙ rows-next (fullRow plan) x (now (start .args .lists)) (start .pre .1) (omega (arith, all)),
+          ∙ ap₂ (putRow _ x) full (at-loop .loop .inv .1)
+          ∙ rows-next _ (total .before .row-words .ensures .2) (fullRow plan) x (now (start .args .lists)) (start .pre .1) (omega (arith, all)),
     )
 
 same-length : tie.Need-same-length Inv-loop μ-loop
@@ -109,7 +112,8 @@ returns c =
     let all = counted (start .pre .0) (at-loop .before .variable-count .ensures .0) in
     let net = networkAt (now (start .args .plan)) in
     at-loop .loop .inv .1
-    ∙ rows-all net (loaded net) (now (start .args .lists)) (at-loop .loop .x) (omega (arith, all .all, at-loop .loop .inv .0))
+    ∙ rows-all _ net (loaded net) (now (start .args .lists)) (at-loop .loop .x) (omega (arith, all .all, at-loop .loop .inv .0))
+    ∙ ap (λ (n : ℕ). overwrite (domainCells n net (loaded net)) (now (start .args .lists))) (at-loop .before .before .row-words .ensures .0)
 
 pub put-loaded-spec : {M : Type 1} → statement M
 put-loaded-spec =
@@ -117,6 +121,7 @@ put-loaded-spec =
     (tie.spec
     Inv-loop
     μ-loop
+    row-words-requires
     variable-count-requires
     loop-holds
     size-requires

@@ -1,14 +1,17 @@
 -- `sweeping::sweep` writes the swept lists over the other buffer and tells whether it deleted anything. Invariant: the rows of
 -- the first x variables are written, and the count is 0 exactly if none of them differs, for any domains that the lists show;
 -- the buffer keeps its length. Assumes nothing.
-use Prim.Native.Nat.{_-_, _≤_}
+use Prim.Native.Nat.{ℕ, _-_, _≤_}
 use borrow.Author.Needs.{needs}
 use denote.Ref.{now}
-use mathlib.Core.Path.{_≡_, refl, _∙_}
+use mathlib.Core.Path.{_≡_, refl, _∙_, ap}
 use native.Mathlib.Omega.{arith}
 use lib.ListN.{length}
 use Rattle.disac4.specs.System.{networkAt}
-use Rattle.listing.specs.ListCells.{Shows}
+use Rattle.format.proofs.Widths.{words-range}
+use Rattle.format.specs.Lists.{rowIn}
+use Rattle.format.specs.Version.{rowWords}
+use Rattle.listing.specs.ListCells.{putRow, Shows}
 use Rattle.network.specs.Network.{Domains}
 use Rattle.plan.specs.Network.{networkOf}
 use Rattle.index.proofs.Counted.{counted}
@@ -18,30 +21,33 @@ use Rattle.sweeping.proofs.sweep.Tie as tie
 use Rattle.sweeping.specs.Sweeping.{SweepsTo}
 
 abbrev Inv-loop : tie.InvT-loop
-Inv-loop plan cells from to₀ variables shorter₀ x₀ to shorter x =
+Inv-loop plan cells from to₀ words variables shorter₀ x₀ to shorter x =
     (x ≤ variables) × (shorter ≤ x) × (length to ≡ length to₀)
-    × ((d : Domains) → Shows (networkAt plan) d from → Writing (networkAt plan) d to₀ to shorter x)
+    × ((d : Domains) → Shows (rowWords plan) (networkAt plan) d from → Writing (rowWords plan) (networkAt plan) d to₀ to shorter x)
 
 abbrev μ-loop : tie.MeasureT-loop
-μ-loop plan cells from to₀ variables shorter₀ x₀ to shorter x = variables - x
+μ-loop plan cells from to₀ words variables shorter₀ x₀ to shorter x = variables - x
+
+row-words-requires : tie.Need-row-words-requires Inv-loop μ-loop
+row-words-requires c κs = search needs
 
 variable-count-requires : tie.Need-variable-count-requires Inv-loop μ-loop
 variable-count-requires c κs = search needs
 
 loop-holds : tie.Need-loop-holds Inv-loop μ-loop
-loop-holds c = (omega arith, omega arith, refl, λ d shows. writing-none _ d _)
+loop-holds c = (omega arith, omega arith, refl, λ d shows. writing-none _ _ d _)
 
 sweep-row-requires : tie.Need-sweep-row-requires Inv-loop μ-loop
 sweep-row-requires c κs =
     let start : tie.Start Inv-loop μ-loop = search in
     let total : tie.After-variable-count Inv-loop μ-loop = search in
-    (start .pre .0, omega (arith, total .variable-count .ensures), omega (arith, start .pre))
+    (start .pre .0, omega (arith, total .variable-count .ensures))
 
 row-at-requires : tie.Need-row-at-requires Inv-loop μ-loop
 row-at-requires c κs =
     let start : tie.Start Inv-loop μ-loop = search in
     let total : tie.After-variable-count Inv-loop μ-loop = search in
-    (omega (arith, counted (start .pre .0) (total .variable-count .ensures .0)), start .pre .1)
+    (total .before .row-words .ensures .2, omega (arith, counted (start .pre .0) (total .variable-count .ensures .0)))
 
 rows-differ-requires : tie.Need-rows-differ-requires Inv-loop μ-loop
 rows-differ-requires c κs = search needs
@@ -56,11 +62,10 @@ put-row-requires : tie.Need-put-row-requires Inv-loop μ-loop
 put-row-requires c κs =
     let start : tie.Start Inv-loop μ-loop = search in
     let total : tie.After-variable-count Inv-loop μ-loop = search in
-    let at-loop : tie.At-loop Inv-loop μ-loop = search in
-    let swept : tie.After-sweep-row Inv-loop μ-loop = search in (
+    let at-loop : tie.At-loop Inv-loop μ-loop = search in (
+      total .before .row-words .ensures .2,
       omega (arith, counted (start .pre .0) (total .variable-count .ensures .0)),
       omega (arith, at-loop .loop .inv .2, start .pre .2),
-      swept .sweep-row .ensures .0,
     )
 
 add-x : tie.Need-add-x Inv-loop μ-loop
@@ -82,16 +87,18 @@ loop-again c =
     let told : tie.After-rows-differ Inv-loop μ-loop = search in
     let put : tie.After-put-row Inv-loop μ-loop = search in
     let all = counted (start .pre .0) (total .variable-count .ensures .0) in
+    let words = total .before .row-words .ensures in
+    let b = now (start .args .plan) in
     let l = at-loop .loop in (
       omega arith,
       omega (arith, told .rows-differ .ensures .0, l .inv .1),
       put .put-row .kept .0 ∙ l .inv .2,
       λ d shows.
-          writing-next (networkAt (now (start .args .plan))) d (now (start .args .to)) (l .to) _ (l .shorter) (l .x)
-          (swept .sweep-row .result) (read .row-at .result) (told .rows-differ .result) (l .inv .3 d shows) (start .pre .2)
-          (omega (arith, all)) (swept .sweep-row .ensures .1 d shows)
-          (read .row-at .ensures .0 ∙ shows (l .x) (omega (arith, all .all))) (told .rows-differ .ensures .1)
-          (put .put-row .ensures),
+          writing-next (rowWords b) (networkAt b) d (now (start .args .to)) (l .to) _ (l .shorter) (l .x)
+          (swept .sweep-row .result) (read .row-at .result) (told .rows-differ .result) (l .inv .3 d shows) (words-range b .1) (start .pre .2)
+          (omega (arith, all)) (swept .sweep-row .ensures d shows)
+          (read .row-at .ensures ∙ ap (λ (n : ℕ). rowIn n (now (start .args .from)) (l .x)) (words .0) ∙ shows (l .x) (omega (arith, all .all))) (told .rows-differ .ensures .1)
+          (put .put-row .ensures ∙ ap (λ (n : ℕ). putRow n (l .x) (swept .sweep-row .result) (l .to)) (words .0)),
     )
 
 same-length : tie.Need-same-length Inv-loop μ-loop
@@ -104,7 +111,7 @@ returns c d shows =
     let total : tie.After-variable-count Inv-loop μ-loop = search in
     let all = counted (start .pre .0) (total .variable-count .ensures .0) in
     let l = c .before .loop in
-    writing-all (networkAt (now (start .args .plan))) d (now (start .args .to)) (l .to) (l .shorter) (l .x) (l .inv .3 d shows)
+    writing-all (rowWords (now (start .args .plan))) (networkAt (now (start .args .plan))) d (now (start .args .to)) (l .to) (l .shorter) (l .x) (l .inv .3 d shows)
     (omega (arith, all .all, l .inv .0))
 
 pub sweep-spec : {M : Type 1} → statement M
@@ -113,6 +120,7 @@ sweep-spec =
     (tie.spec
     Inv-loop
     μ-loop
+    row-words-requires
     variable-count-requires
     loop-holds
     sweep-row-requires

@@ -7,8 +7,10 @@ use native.Mathlib.Omega.{arith}
 use lib.ListN.{length}
 use Rattle.disac4.specs.System.{networkAt}
 use Rattle.format.specs.Limits.{maxLabels}
-use Rattle.plan.proofs.WellFormed.{few-labels, read-well-formed}
-use Rattle.plan.specs.Decode.{planOf}
+use Rattle.format.specs.Version.{rowWords}
+use Rattle.listing.proofs.ListCells.{plan-wide}
+use Rattle.listing.specs.ListCells.{WideEnough}
+use Rattle.plan.proofs.WellFormed.{read-well-formed}
 use Rattle.sweeping.proofs.Going.{Going, going-none, going-few, going-on, going-ends}
 use Rattle.sweeping.proofs.sweep_all.Statement.{statement}
 use Rattle.sweeping.proofs.sweep_all.Tie as tie
@@ -17,11 +19,18 @@ use Rattle.sweeping.specs.Outcome.{TwoLists, twoLists, afterSweeps}
 abbrev Inv-loop : tie.InvT-loop
 Inv-loop plan cells first₀ second₀ k₀ first second k =
     (k ≤ suc maxLabels) × (length first ≡ length first₀) × (length second ≡ length second₀)
-    × ((l : TwoLists) → twoLists first₀ second₀ ≡ afterSweeps (networkAt plan) 0 l
-    → Going (networkAt plan) l k (twoLists first second))
+    × ((l : TwoLists) → twoLists first₀ second₀ ≡ afterSweeps (rowWords plan) (networkAt plan) 0 l
+    → Going (rowWords plan) (networkAt plan) l k (twoLists first second))
 
 abbrev μ-loop : tie.MeasureT-loop
 μ-loop plan cells first₀ second₀ k₀ first second k = suc maxLabels - k
+
+abbrev start-of : tie.At-loop Inv-loop μ-loop → tie.Start Inv-loop μ-loop
+start-of c = c .before .before .before .before .before
+
+-- the rows in the buffers have a bit for each value
+wide : (s : tie.Start Inv-loop μ-loop) → WideEnough (rowWords (now (s .args .plan))) (networkAt (now (s .args .plan)))
+wide s = plan-wide (now (s .args .plan)) (s .pre .0 .sound)
 
 loop-holds : tie.Need-loop-holds Inv-loop μ-loop
 loop-holds c = (omega arith, refl, refl, λ l e. going-none e)
@@ -56,7 +65,7 @@ returns : tie.Need-returns Inv-loop μ-loop
 returns c l e =
     let at-loop : tie.At-loop Inv-loop μ-loop = search in
     let ran : tie.After-sweep-at Inv-loop μ-loop = search in
-    going-ends (ran .sweep-at .result) (at-loop .loop .inv .3 l e) (ran .sweep-at .ensures) (c .if1 .taken)
+    going-ends (wide (start-of at-loop)) (ran .sweep-at .result) (at-loop .loop .inv .3 l e) (ran .sweep-at .ensures) (c .if1 .taken)
 
 loop-less : tie.Need-loop-less Inv-loop μ-loop
 loop-less c = omega arith
@@ -68,7 +77,7 @@ loop-again c =
       omega arith,
       ran .sweep-at .kept .1 .1 .1 .0 ∙ at-loop .loop .inv .1,
       ran .sweep-at .kept .1 .1 .1 .1 .0 ∙ at-loop .loop .inv .2,
-      λ l e. going-on (ran .sweep-at .result) (at-loop .loop .inv .3 l e) (ran .sweep-at .ensures) (c .if1 .left),
+      λ l e. going-on (wide (start-of at-loop)) (ran .sweep-at .result) (at-loop .loop .inv .3 l e) (ran .sweep-at .ensures) (c .if1 .left),
     )
 
 same-length-3 : tie.Need-same-length-3 Inv-loop μ-loop
@@ -85,7 +94,7 @@ returns-2 c l e =
     (omega (
       arith,
       going-few (c .before .loop .inv .3 l e),
-      few-labels (planOf plan) (read-well-formed plan (start .pre .0 .sound)),
+      read-well-formed plan (start .pre .0 .sound) .few-labels,
     ))
 
 pub sweep-all-spec : {M : Type 1} → statement M

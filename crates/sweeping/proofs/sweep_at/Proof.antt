@@ -6,6 +6,7 @@ use borrow.Author.Tests.{eq-eqb, ne-eqb}
 use denote.Ref.{now}
 use mathlib.Core.Bool.{true, false}
 use Rattle.disac4.specs.System.{networkAt}
+use Rattle.format.specs.Version.{rowWords}
 use Rattle.sweeping.proofs.Alternating.{sweeps-turn}
 use Rattle.sweeping.proofs.sweep_at.Statement.{statement}
 use Rattle.sweeping.proofs.sweep_at.Tie as tie
@@ -32,7 +33,7 @@ returns c =
     let start : tie.Start = search in
     let odd : tie.Then1 = search in
     let ran : tie.After-sweep = search in
-    sweeps-turn (networkAt (now (start .args .plan))) (start .args .k) (lent start) _ (ran .sweep .result) true
+    sweeps-turn (rowWords (now (start .args .plan))) (networkAt (now (start .args .plan))) (start .args .k) (lent start) _ (ran .sweep .result) true
     (eq-eqb (start .args .k % 2) 1 (odd .if1 .taken)) (ran .sweep .ensures)
 
 same-length-3 : tie.Need-same-length-3
@@ -46,7 +47,7 @@ returns-2 c =
     let start : tie.Start = search in
     let even : tie.Else1 = search in
     let ran : tie.After-sweep2 = search in
-    sweeps-turn (networkAt (now (start .args .plan))) (start .args .k) (lent start) _ (ran .sweep2 .result) false
+    sweeps-turn (rowWords (now (start .args .plan))) (networkAt (now (start .args .plan))) (start .args .k) (lent start) _ (ran .sweep2 .result) false
     (ne-eqb (start .args .k % 2) 1 (even .if1 .left)) (ran .sweep2 .ensures)
 
 pub sweep-at-spec : {M : Type 1} → statement M

@@ -4,6 +4,7 @@ use denote.Ref.{now}
 use native.Mathlib.Omega.{arith}
 use Rattle.disac4.specs.Need.{workNeed}
 use Rattle.disac4.specs.System.{networkAt}
+use Rattle.format.specs.Version.{rowWords}
 use Rattle.index.specs.Index.{Ready}
 use Rattle.sweeping.proofs.Going.{all-given}
 use Rattle.index.proofs.Zeroed.{zeros-long, zeroed-ready}
@@ -62,7 +63,7 @@ returns c =
     let put : tie.After-put-loaded = search in
     let ran : tie.After-sweep-all = search in
     let lent = twoLists (now (start .args .first)) (now (start .args .second)) in
-    all-given (networkAt (now (start .args .plan))) lent _ (ran .sweep-all .result) _ (put .put-loaded .ensures)
+    all-given (rowWords (now (start .args .plan))) (networkAt (now (start .args .plan))) lent _ (ran .sweep-all .result) _ (put .put-loaded .ensures)
     (ran .sweep-all .ensures lent)
 
 pub sweep-plan-spec : {M : Type 1} → statement M

@@ -10,7 +10,7 @@ use Rattle.cells.proofs.Regions.{place-needed, put-law}
 use Rattle.cells.proofs.layout.put.Statement.{statement}
 use Rattle.cells.proofs.layout.put.Tie as tie
 use Rattle.cells.specs.Layout.{address}
-use Rattle.cells.specs.Memory.{withPart, memOf}
+use Rattle.cells.specs.Memory.{withShare, memOf}
 
 near : (c : tie.Start) → address (c .args .g) (c .args .i) (c .args .j) < workNeed
 near c = place-needed (now (c .args .cells)) (c .args .g) (c .args .i) (c .args .j) (c .pre .0)
@@ -18,19 +18,19 @@ near c = place-needed (now (c .args .cells)) (c .args .g) (c .args .i) (c .args 
 place-requires : tie.Need-place-requires
 place-requires c κs = near (c .before)
 
-mul-with-part : tie.Need-mul-with-part
-mul-with-part c = omega (arith, near (c .before .before), c .place .ensures)
+mul-with-share : tie.Need-mul-with-share
+mul-with-share c = omega (arith, near (c .before .before), c .place .ensures)
 
-slice-read-with-part : tie.Need-slice-read-with-part
-slice-read-with-part c =
+slice-read-with-share : tie.Need-slice-read-with-share
+slice-read-with-share c =
     let start : tie.Start = search in
     omega (arith, near start, c .before .place .ensures, start .pre .0 .long)
 
-cast-with-part : tie.Need-cast-with-part
-cast-with-part c = omega (arith, c .slice-known2 .given (c .before .place .result))
+cast-with-share : tie.Need-cast-with-share
+cast-with-share c = omega (arith, c .slice-known2 .given (c .before .place .result))
 
-with-part-requires : tie.Need-with-part-requires
-with-part-requires c κs =
+with-share-requires : tie.Need-with-share-requires
+with-share-requires c κs =
     let start : tie.Start = search in
     (start .pre .1, omega (arith, c .slice-known2 .given (c .before .place .result)))
 
@@ -56,8 +56,8 @@ returns c =
     let a = start .args in
     let old = now (a .cells) in
     let placed = c .before .before .place in
-    ap (λ (w : ℕ). memOf (set old (placed .result) w)) (c .with-part .ensures .0)
-    ∙ ap (λ (k : ℕ). memOf (set old k (withPart (a .g) (a .i) (a .v) (getD old k 0)))) (placed .ensures)
+    ap (λ (w : ℕ). memOf (set old (placed .result) w)) (c .with-share .ensures .0)
+    ∙ ap (λ (k : ℕ). memOf (set old k (withShare (a .g) (a .i) (a .v) (getD old k 0)))) (placed .ensures)
     ∙ put-law old (a .g) (a .i) (a .j) (start .pre .0) (a .v) (start .pre .1)
 
 pub put-spec : {M : Type 1} → statement M
@@ -65,10 +65,10 @@ put-spec =
     tie.close
     (tie.spec
     place-requires
-    mul-with-part
-    slice-read-with-part
-    cast-with-part
-    with-part-requires
+    mul-with-share
+    slice-read-with-share
+    cast-with-share
+    with-share-requires
     cast-cells
     mul-cells
     slice-write-cells

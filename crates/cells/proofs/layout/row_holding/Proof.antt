@@ -11,6 +11,7 @@ use Rattle.base.specs.Row.{rowOf}
 use Rattle.cells.proofs.Ranges.{may-get}
 use Rattle.cells.proofs.layout.row_holding.Statement.{statement}
 use Rattle.cells.proofs.layout.row_holding.Tie as tie
+use Rattle.cells.specs.Layout.{VALUEROOM}
 use Rattle.cells.specs.Memory.{memOf}
 
 abbrev Inv-loop : tie.InvT-loop
@@ -47,7 +48,7 @@ module _ (c : tie.After-row-if Inv-loop μ-loop) where
       ∙ ap (λ (k : ℕ). cond (eqb k (loop-of .before .before .args .c)) (2 ^ loop-of .loop .v) 0) (c .before .get .ensures .0))
 
 add-row : tie.Need-add-row Inv-loop μ-loop
-add-row c = omega (arith, longer c, row-low (loop-of c .loop .v + 1) (test c) (omega arith))
+add-row c = omega (arith, longer c, row-low VALUEROOM (loop-of c .loop .v + 1) (test c) (omega arith))
 
 add-v : tie.Need-add-v Inv-loop μ-loop
 add-v c = omega arith

@@ -17,7 +17,7 @@ returns : tie.Need-returns
 unfolding checkOf trailingFault
 returns c =
     let start : tie.Start = search in
-    rw (← start .pre .1, lt-ltb (start .args .at) (length (start .args .plan .now)) (c .before .if1 .taken)) (c .declined .ensures)
+    rw (← start .pre .0, lt-ltb (start .args .at) (length (start .args .plan .now)) (c .before .if1 .taken)) (c .declined .ensures)
 
 worker-count-requires : tie.Need-worker-count-requires
 worker-count-requires c κs = search needs
@@ -28,19 +28,16 @@ variable-count-requires c κs = search needs
 constraint-count-requires : tie.Need-constraint-count-requires
 constraint-count-requires c κs = search needs
 
-count-labels-requires : tie.Need-count-labels-requires
-count-labels-requires c κs = search needs
-
 returns-2 : tie.Need-returns-2
 unfolding checkOf trailingFault
 returns-2 c =
     let ended : tie.Else1 = search in
     let start : tie.Start = search in
     let b = start .args .plan .now in
-    rw (← start .pre .1, le-ltb (start .args .at) (length b) (ended .if1 .left))
+    rw (← start .pre .0, le-ltb (start .args .at) (length b) (ended .if1 .left))
     (ap Accepted
-    (counts-built b _ (c .before .before .before .worker-count .ensures .0)
-    (c .before .before .variable-count .ensures .0) (c .before .constraint-count .ensures .0) (c .count-labels .ensures)))
+    (counts-built b _ (c .before .before .worker-count .ensures .0) (c .before .variable-count .ensures .0)
+    (c .constraint-count .ensures .0) (start .pre .1)))
 
 pub check-end-spec : {M : Type 1} → statement M
 check-end-spec =
@@ -51,5 +48,4 @@ check-end-spec =
     worker-count-requires
     variable-count-requires
     constraint-count-requires
-    count-labels-requires
     returns-2)

@@ -1,7 +1,8 @@
 -- `parser::scan::check_section` gives the first fault of a section, by its kind. Assumes nothing.
 use borrow.Author.Tests.{le-leb, lt-leb, eq-eqb, ne-eqb}
+use mathlib.Core.Path.{_∙_}
 use native.Mathlib.Omega.{arith}
-use Rattle.parser.proofs.Scanned.{variables-known}
+use Rattle.parser.proofs.Scanned.{variables-known, labels-to}
 use Rattle.plan.specs.Check.{sectionChecks}
 use borrow.Author.Needs.{needs}
 use Rattle.parser.proofs.scan.check_section.Statement.{statement}
@@ -33,7 +34,7 @@ returns-2 c =
       le-leb (start .args .k) _ (of-variable .if2 .taken),
       ← start .pre .1,
     )
-    (c .check-variable .ensures)
+    (c .check-variable .ensures (start .args .k) (start .pre .4 ∙ labels-to (start .args .plan .now) (start .args .k) (of-variable .before .variable-count .ensures .0) (of-variable .if2 .taken)))
 
 check-constraint-requires : tie.Need-check-constraint-requires
 check-constraint-requires c κs =

@@ -1,5 +1,5 @@
 -- `parser::scan::check_sections` gives the first fault of the sections in turn, or what follows them.
--- Invariant: the sections before k passed, and section k starts at `at`. Assumes nothing.
+-- Invariant: the sections before k passed and have so many labels, and section k starts at `at`. Assumes nothing.
 use Prim.Native.Nat.{ℕ, _+_, _-_, _≤_}
 use borrow.Author.Needs.{needs}
 use mathlib.Core.List.{List}
@@ -9,21 +9,21 @@ use native.Mathlib.Omega.{arith}
 use lib.ListN.{length, length-set}
 use Rattle.sections.specs.Known.{startCount}
 use Rattle.format.specs.Format.{sectionStart, sectionCount}
-use Rattle.parser.proofs.Scanned.{variables-known, next-within, next-start, passed-more, fault-answer, end-answer}
+use Rattle.parser.proofs.Scanned.{labels-none, labels-all, few-labels, next-within, next-start, passed-more, fault-answer, end-answer}
 use Rattle.faults.proofs.Checks.{verdict-passes, verdict-fails}
 use Rattle.faults.specs.CheckList.{firstFault}
 use Rattle.plan.specs.Check.{sectionChecks}
 use Rattle.plan.specs.Decode.{planEnd}
-use Rattle.parser.specs.Known.{PassedBefore}
+use Rattle.parser.specs.Known.{PassedBefore, labelsBefore}
 use Rattle.parser.proofs.scan.check_sections.Statement.{statement}
 use Rattle.parser.proofs.scan.check_sections.Tie as tie
 
 abbrev Inv-loop : tie.InvT-loop
-Inv-loop b count starts₀ at₀ k₀ starts at k =
-    PassedBefore b starts k × (length starts ≡ startCount) × (at ≡ sectionStart b k) × (at ≤ length b) × (k ≤ count)
+Inv-loop b count starts₀ labels₀ at₀ k₀ starts labels at k =
+    PassedBefore b starts k × (length starts ≡ startCount) × (at ≡ sectionStart b k) × (at ≤ length b) × (k ≤ count) × (labels ≡ labelsBefore b k)
 
 abbrev μ-loop : tie.MeasureT-loop
-μ-loop b count starts₀ at₀ k₀ starts at k = count - k
+μ-loop b count starts₀ labels₀ at₀ k₀ starts labels at k = count - k
 
 module _ (at-loop : tie.At-loop Inv-loop μ-loop) where
   abbrev start-of : tie.Start Inv-loop μ-loop
@@ -48,13 +48,20 @@ no-starts-requires c κs = search needs
 loop-holds : tie.Need-loop-holds Inv-loop μ-loop
 unfolding sectionStart
 loop-holds c =
-    (record { passed = refl; found = λ i l h. absurd (not-suc-le-zero l) }, c .no-starts .ensures, refl, c .before .before .before .pre, search needs)
+    (record { passed = refl; found = λ i l h. absurd (not-suc-le-zero l) }, c .no-starts .ensures, refl, c .before .before .before .pre, search needs, labels-none (c .before .before .before .args .plan .now))
+
+labels-with-requires : tie.Need-labels-with-requires Inv-loop μ-loop
+labels-with-requires c κs =
+    let at-loop : tie.At-loop Inv-loop μ-loop = search in
+    let l = at-loop .loop in
+    (l .inv .2, l .inv .3, l .inv .5, rw (l .inv .5) (few-labels (plan-of at-loop) (l .starts) (l .k) (l .inv .0)))
 
 check-section-requires : tie.Need-check-section-requires Inv-loop μ-loop
 check-section-requires c κs =
     let at-loop : tie.At-loop Inv-loop μ-loop = search in
     let inv = at-loop .loop .inv in
-    (inv .0, inv .2, inv .3, start-of at-loop .pre)
+    let counted-on : tie.After-labels-with Inv-loop μ-loop = search in
+    (inv .0, inv .2, inv .3, start-of at-loop .pre, counted-on .labels-with .ensures)
 
 enum-known-verdict : tie.Need-enum-known-verdict Inv-loop μ-loop
 enum-known-verdict c = search needs
@@ -105,6 +112,8 @@ loop-again c =
       next,
       rw next (next-within b _ (l .k + 1) more (start-of at-loop .pre)),
       omega arith,
+      let counted-on : tie.After-labels-with Inv-loop μ-loop = search in
+          counted-on .labels-with .ensures,
     )
 
 check-end-requires : tie.Need-check-end-requires Inv-loop μ-loop
@@ -113,8 +122,8 @@ check-end-requires c κs =
     let at-loop : tie.At-loop Inv-loop μ-loop = search in
     let l = at-loop .loop in
     let b = plan-of at-loop in (
-      variables-known b (l .starts) (l .k) (l .inv .0) (start-of at-loop .pre) (omega (arith, counted at-loop)),
-      l .inv .2 ∙ ap (sectionStart b) (ended at-loop (c .before .loop-test .left)),
+      l .inv .2 ∙ ap (sectionStart b) (ended at-loop (c .loop-test .left)),
+      labels-all b (l .k) (l .labels) (l .inv .5) (ended at-loop (c .loop-test .left)),
     )
 
 returns-2 : tie.Need-returns-2 Inv-loop μ-loop
@@ -122,7 +131,7 @@ returns-2 c =
     let at-loop : tie.At-loop Inv-loop μ-loop = search in
     let l = at-loop .loop in
     c .check-end .ensures
-    ∙ end-answer (plan-of at-loop) (l .starts) (l .k) (l .inv .0) (ended at-loop (c .before .before .loop-test .left))
+    ∙ end-answer (plan-of at-loop) (l .starts) (l .k) (l .inv .0) (ended at-loop (c .before .loop-test .left))
 
 pub check-sections-spec : {M : Type 1} → statement M
 check-sections-spec =
@@ -133,6 +142,7 @@ check-sections-spec =
     section-count-requires
     no-starts-requires
     loop-holds
+    labels-with-requires
     check-section-requires
     enum-known-verdict
     declined-requires

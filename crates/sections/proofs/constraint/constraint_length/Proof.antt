@@ -1,6 +1,8 @@
 -- `sections::constraint::constraint_length` gives the length that a constraint's content calls for. Assumes nothing.
+use Prim.Native.Nat.{_*_, _≤_}
 use borrow.Author.Tests.{eq-eqb, ne-eqb}
 use native.Mathlib.Omega.{arith}
+use Rattle.format.proofs.Widths.{rows-short}
 use Rattle.plan.proofs.InOrder.{ordered}
 use Rattle.plan.specs.Check.{constraintLength}
 use borrow.Author.Needs.{needs}
@@ -9,6 +11,9 @@ use Rattle.sections.proofs.constraint.constraint_length.Tie as tie
 
 kind-requires : tie.Need-kind-requires
 kind-requires c κs = search needs
+
+row-bytes-requires : tie.Need-row-bytes-requires
+row-bytes-requires c κs = search needs
 
 first-requires : tie.Need-first-requires
 first-requires c κs = search needs
@@ -19,16 +24,30 @@ numbered-size-requires c κs =
     let o = ordered (start .args .plan .now) (start .args .at) (start .pre .2) in
     (start .pre .0, omega (arith, o, c .first .ensures .0), omega (arith, o, c .first .ensures .0))
 
+-- the rows together
+short : (c : tie.After-numbered-size) → c .before .before .row-bytes .result * c .numbered-size .result ≤ 1024
+short c =
+    let r = c .before .before in
+    rows-short (r .before .before .before .before .args .plan .now) (r .row-bytes .result) (c .numbered-size .result) (r .row-bytes .ensures)
+    (omega (arith, c .numbered-size .ensures .1))
+
 mul-result : tie.Need-mul-result
-mul-result c = search needs
+mul-result c = omega (arith, short c)
 
 add-result : tie.Need-add-result
-add-result c = search needs
+add-result c = omega (arith, short c)
 
 returns : tie.Need-returns
 unfolding constraintLength
 returns c =
-    rw (← c .before .before .before .kind .ensures .0, eq-eqb _ 0 (c .before .before .if1 .taken), ← c .before .first .ensures .0, ← c .numbered-size .ensures .0)
+    let r = c .before .before in
+    rw (
+      ← r .before .before .kind .ensures .0,
+      eq-eqb _ 0 (r .before .if1 .taken),
+      ← r .row-bytes .ensures,
+      ← c .before .first .ensures .0,
+      ← c .numbered-size .ensures .0,
+    )
 
 returns-2 : tie.Need-returns-2
 unfolding constraintLength
@@ -39,6 +58,7 @@ constraint-length-spec =
     tie.close
     (tie.spec
     kind-requires
+    row-bytes-requires
     first-requires
     numbered-size-requires
     mul-result

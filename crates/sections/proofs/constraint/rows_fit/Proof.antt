@@ -36,10 +36,10 @@ unfolding fits
 rows-fit b at limit width rows r e p = sym p ∙ ap (λ (k : ℕ). allBelow rows (fits b at k)) e
 
 abbrev Inv-loop : tie.InvT-loop
-Inv-loop b at rows width limit v₀ v = (v ≤ rows) × (allBelow v (fits b at limit) ≡ true)
+Inv-loop b words at rows width limit v₀ v = (v ≤ rows) × (allBelow v (fits b at limit) ≡ true)
 
 abbrev μ-loop : tie.MeasureT-loop
-μ-loop b at rows width limit v₀ v = rows - v
+μ-loop b words at rows width limit v₀ v = rows - v
 
 power-requires : tie.Need-power-requires Inv-loop μ-loop
 power-requires c κs = omega arith
@@ -48,7 +48,9 @@ loop-holds : tie.Need-loop-holds Inv-loop μ-loop
 loop-holds c = (search needs, refl)
 
 table-row-requires : tie.Need-table-row-requires Inv-loop μ-loop
-table-row-requires c κs = omega arith
+table-row-requires c κs =
+    let start : tie.Start Inv-loop μ-loop = search in
+    (start .pre .0, start .pre .1, omega arith)
 
 returns : tie.Need-returns Inv-loop μ-loop
 returns c =
@@ -56,7 +58,7 @@ returns c =
     let s = l .before .before .before in
     rows-fit (s .args .plan .now) (s .args .at) (l .before .power .result) (s .args .width) (s .args .rows) false (l .before .power .ensures)
     (row-past (s .args .plan .now) (s .args .at) (l .before .power .result) (c .before .table-row .result) (l .loop .v)
-    (c .before .table-row .ensures .0) (s .args .rows) (omega arith) (c .if1 .taken))
+    (c .before .table-row .ensures) (s .args .rows) (omega arith) (c .if1 .taken))
 
 add-v : tie.Need-add-v Inv-loop μ-loop
 add-v c = omega arith
@@ -70,7 +72,7 @@ loop-again c =
     let s = l .before .before .before in (
       omega arith,
       fits-more (s .args .plan .now) (s .args .at) (l .before .power .result) (c .before .table-row .result) (l .loop .v)
-          (c .before .table-row .ensures .0) (l .loop .inv .1) (c .if1 .left),
+          (c .before .table-row .ensures) (l .loop .inv .1) (c .if1 .left),
     )
 
 returns-2 : tie.Need-returns-2 Inv-loop μ-loop
