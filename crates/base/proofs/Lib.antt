@@ -5,6 +5,7 @@ pub mod Choice
 pub mod Digits
 pub mod Each
 pub mod Loops
+pub mod Lowest
 pub mod Members
 pub mod Row
 pub mod Sums

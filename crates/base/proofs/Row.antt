@@ -39,12 +39,12 @@ half-of r q true e = omega arith
 half-of r q false e = omega arith
 
 -- value 0 is in the odd rows
-bit-zero : (r : ℕ) → bit r 0 ≡ isOdd r
+pub bit-zero : (r : ℕ) → bit r 0 ≡ isOdd r
 unfolding bit
 bit-zero r = ap isOdd (div-one r)
 
 -- the other values, moved down by one, are in the row's half
-bit-suc : (r w : ℕ) → bit r (suc w) ≡ bit (r / 2) w
+pub bit-suc : (r w : ℕ) → bit r (suc w) ≡ bit (r / 2) w
 unfolding bit
 bit-suc r w = ap (λ (k : ℕ). isOdd (r / k)) (pow-succ' 2 w) ∙ ap isOdd (sym (div-div-eq-div-mul r 2 (2 ^ w)))
 
@@ -63,7 +63,7 @@ row-halves n t =
 row-half : (n : ℕ) (t : ℕ → Bool) → rowOf (suc n) t / 2 ≡ rowOf n (λ w. t (suc w))
 row-half n t = half-of (rowOf (suc n) t) (rowOf n (λ w. t (suc w))) (t 0) (row-halves n t)
 
-half-small : (n r : ℕ) → r < 2 ^ suc n → r / 2 < 2 ^ n
+pub half-small : (n r : ℕ) → r < 2 ^ suc n → r / 2 < 2 ^ n
 half-small n r h = omega (arith, two-pow-succ n)
 
 -- ---- a row in two parts, the lower one of n values

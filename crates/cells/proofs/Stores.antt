@@ -1,4 +1,4 @@
--- Stores, pushes and copies: what is at a point after them.
+-- Stores, pushes, deletions and copies: what is at a point after them.
 use Prim.Native.Nat.{ℕ, _+_, _<_}
 use mathlib.Core.Bool.{Bool, true, false, cond, _&&_}
 use mathlib.Core.Path.{_≡_, refl, sym, _∙_, fun-ext}
@@ -8,9 +8,10 @@ use lib.Dec.{ltb, eqb}
 use Rattle.base.proofs.Bools.{and-left, and-right, and-intro, refuted}
 use Rattle.base.proofs.Choice.{cond-true, cond-false}
 use Rattle.base.proofs.Loops.{loop-same}
-use Rattle.cells.specs.Layout.{WORKERS, LOG, WORK, TAIL, LABELROOM}
-use Rattle.cells.specs.Queues.{pushM, copyLabelM, copyM}
+use Rattle.cells.specs.Layout.{WORKERS, LOG, WORK, DOMAIN, TAIL, LOGEND, LABELROOM}
+use Rattle.cells.specs.Queues.{pushM, deleteM, copyLabelM, copyM}
 use Rattle.cells.specs.Memory.{Mem, store}
+use Rattle.cells.specs.View.{labelNumber}
 
 module _ (m : Mem) (r i j v : ℕ) where
   -- a store puts its value
@@ -74,6 +75,14 @@ module _ (q col i c : ℕ) (m : Mem) where
           store-other (store m q i (m WORKERS i col) c) WORKERS i col (m WORKERS i col + 1) r a b (h .1)
           ∙ store-other m q i (m WORKERS i col) c r a b (λ e f g. h .0 e f)
       go false = refl
+
+-- beside the log and the work list, deleting a label is a store
+pub delete-stores : (i x v : ℕ) (m : Mem) (r a b : ℕ) → OffList WORK TAIL i r a b → OffList LOG LOGEND i r a b
+    → deleteM i x v m r a b ≡ store m DOMAIN x v 0 r a b
+unfolding deleteM
+delete-stores i x v m r a b work log =
+    push-other WORK TAIL i (labelNumber x v) (pushM LOG LOGEND i (labelNumber x v) (store m DOMAIN x v 0)) r a b work
+    ∙ push-other LOG LOGEND i (labelNumber x v) (store m DOMAIN x v 0) r a b log
 
 -- a copy changes the reader's work list alone
 pub copy-other : (j i from n : ℕ) (m : Mem) (r a b : ℕ) → OffList WORK TAIL i r a b → copyM j i from n m r a b ≡ m r a b

@@ -17,21 +17,20 @@ use Rattle.disac4.specs.System.{System}
 use Rattle.network.specs.Network.{supports}
 use Rattle.plan.proofs.Links.{linked-symmetric}
 use Rattle.plan.proofs.Pairs.{allowed-symmetric}
-use Rattle.plan.proofs.Parts.{size-read}
 use Rattle.plan.specs.Decode.{planFault, planOf}
 use Rattle.plan.specs.Network.{shareConstraint, networkOf}
 use Rattle.plan.specs.Plan.{Plan}
 use Rattle.cells.specs.Memory.{Mem}
 use Rattle.cells.specs.Layout.{VALUEROOM}
+use Rattle.index.proofs.Labels.{values-low}
 use Rattle.index.proofs.Linked.{linked-inside}
-use Rattle.index.proofs.Places.{few-values}
 use Rattle.counting.specs.Count.{FirstRows, Gathers, Gathered, supportRow, countPairM, countAgainstM, countBothM}
 
 -- a variable has no more values than there is room for, and so has a row of them
 module _ (b : List ℕ) (sound : planFault b ≡ none) (x y : ℕ) (e : shareConstraint (planOf b) x y ≡ true) where
   pub size-low : networkOf (planOf b) .size y ≤ VALUEROOM
   unfolding networkOf
-  size-low = let h = linked-inside b sound x y e .1 in omega (arith, size-read b y h, few-values b sound y h)
+  size-low = values-low b sound y (linked-inside b sound x y e .1)
 
   pub supports-held : (v row : ℕ) → row ≡ supportRow (networkOf (planOf b)) x y v → row < 2 ^ networkOf (planOf b) .size y
   supports-held v row r = omega (arith, row-small (networkOf (planOf b) .size y) (supports (networkOf (planOf b)) x v y))

@@ -46,7 +46,11 @@ pub located : (b cells : List ℕ) → Ready b cells → Located b cells
 located b cells r = record { sound = r .sound; places = r .index .places; long = r .long }
 
 module _ (b : List ℕ) (sound : planFault b ≡ none) where
-  -- a label's variable and value are within the room for them
+  -- a variable has no more values than there is room for
+  pub values-low : (x : ℕ) → x < variableCount b → sizeOf (planOf b) x ≤ VALUEROOM
+  values-low x h = omega (arith, few-values b sound x h, size-read b x h)
+
+  -- a label's variable and value are within that room
   pub label-small : (x v : ℕ) → Loaded b x v → (x < maxVariables) × (v < VALUEROOM)
   label-small x v l =
       omega (arith, few-sections b sound, few-values b sound x (l .variable), size-read b x (l .variable))

@@ -10,7 +10,7 @@ use Rattle.cells.proofs.RegionsKept.{kept-same, kept-either, kept-repeated, kep
 use Rattle.index.proofs.Kept.{IndexKept}
 use Rattle.treating.specs.Treat.{loseM, touchM, touchVariableM, touchVariablesM}
 
-lose-kept : (i x v y : ℕ) (m : Mem) → IndexKept m (loseM i x v y m)
+pub lose-kept : (i x v y : ℕ) (m : Mem) → IndexKept m (loseM i x v y m)
 unfolding loseM
 lose-kept i x v y m =
     let p : IndexKept m (store m COUNTERS (counterRow m x y) v (m COUNTERS (counterRow m x y) v - 1)) =

@@ -1,3 +1,4 @@
 pub mod Chain
 pub mod Kept
+pub mod LoseLaws
 pub mod TreatLaws

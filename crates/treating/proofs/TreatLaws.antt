@@ -1,18 +1,19 @@
 -- Laws that the code of a treatment meets its definitions in memory by.
-use Prim.Native.Nat.{ℕ, suc, _+_, _-_, _%_, _<_, _≤_}
-use mathlib.Core.Bool.{Bool, true, false, cond}
+use Prim.Native.Nat.{ℕ, suc, _+_, _-_, _<_, _≤_, zero-le}
+use mathlib.Core.Bool.{Bool, true, false, cond, _&&_}
 use mathlib.Core.List.{List}
-use mathlib.Core.Logic.{⊎-elim}
 use mathlib.Core.Option.{none, some}
-use mathlib.Core.Path.{_≡_, refl, sym, _∙_, ap}
+use mathlib.Core.Path.{_≡_, refl, sym, _∙_, ap, ap₂}
+use native.Mathlib.Nat.{lt-of-le-of-lt}
 use native.Mathlib.Omega.{arith}
-use borrow.Author.Tests.{lt-ltb, ltb-true, eq-eqb, ne-eqb, eqb-true}
+use borrow.Author.Tests.{lt-ltb, ltb-true, eq-eqb, ne-eqb}
+use lib.Bits.{bitAnd, and-le-l}
 use lib.Dec.{eqb}
-use Rattle.base.proofs.Bools.{decided, and-left, and-right, and-intro, refuted}
+use Rattle.base.proofs.Bools.{and-left, and-right, and-intro, and-false-right, refuted}
 use Rattle.base.proofs.Choice.{cond-true, cond-false}
-use Rattle.base.proofs.Row.{row-bit}
+use Rattle.base.proofs.Row.{row-bit, row-small, bit-past, bit-and}
 use Rattle.base.specs.Below.{loop}
-use Rattle.base.specs.Row.{isOdd, bit, rowOf}
+use Rattle.base.specs.Row.{bit, rowOf}
 use Rattle.disac4.specs.System.{System, systemOf, systemAt}
 use Rattle.network.specs.Network.{supports}
 use Rattle.plan.proofs.Pairs.{allowed-symmetric}
@@ -21,10 +22,11 @@ use Rattle.plan.specs.Network.{pairAllowed, shareConstraint, networkOf}
 use Rattle.plan.specs.Plan.{sizeOf}
 use Rattle.index.proofs.Linked.{supports-allowed}
 use Rattle.rows.specs.Permits.{Loaded}
-use Rattle.cells.specs.Layout.{WORKERS, WORK, DOMAIN, COUNTERS, HEAD, TAIL, LABELROOM, LISTED}
+use Rattle.cells.specs.Layout.{WORKERS, WORK, DOMAIN, COUNTERS, HEAD, TAIL, LABELROOM, VALUEROOM, LISTED}
 use Rattle.cells.specs.Queues.{deleteM}
 use Rattle.cells.specs.Memory.{Mem, store}
-use Rattle.treating.specs.Treat.{SupportRow, loseM, touchM, touchVariableM, touchVariablesM, hasWork, HeadLoaded, treatM}
+use Rattle.treating.proofs.LoseLaws.{LosingRow}
+use Rattle.treating.specs.Treat.{loseM, touchM, touchVariableM, touchVariablesM, hasWork, HeadLoaded, treatM}
 use Rattle.cells.specs.View.{inDomain, counterRow, labelOf}
 
 -- ---- a count goes down
@@ -47,60 +49,50 @@ module _ (i x v y r n : ℕ) (m m₁ : Mem) (row : r ≡ counterRow m x y) (coun
       ∙ ap (λ (k : ℕ). store m COUNTERS (counterRow m x y) v (k - 1)) counted
       ∙ sym (cond-false _ _ (ne-eqb (m COUNTERS (counterRow m x y) v - 1) 0 (omega (arith, counted))))
 
--- ---- a label
+-- ---- a variable
 
--- the second of two tests fails
+-- the labels that lose the treated one are in the domain's row and in that of its supports: a pair reads the same from either
+-- side
+module _ (b : List ℕ) (m : Mem) (y w x listed : ℕ) (size : sizeOf (planOf b) x ≤ VALUEROOM)
+    (read : listed ≡ rowOf VALUEROOM (λ v. eqb (m DOMAIN x v) LISTED)) where
+  in-row : (v : ℕ) → v < sizeOf (planOf b) x → bit listed v ≡ inDomain m x v
+  in-row v h = ap (λ (r : ℕ). bit r v) read ∙ row-bit VALUEROOM (λ v. eqb (m DOMAIN x v) LISTED) v (omega arith)
+
+  pub losing : (s : ℕ) → shareConstraint (planOf b) y x ≡ true → s ≡ rowOf (sizeOf (planOf b) x) (supports (networkOf (planOf b)) y w x)
+      → LosingRow (systemAt b) m y w x (bitAnd s listed)
+  unfolding systemOf networkOf
+  losing s l e = record {
+    holds = λ v h.
+        bit-and s listed v ∙ ap₂ (λ (t u : Bool). t && u) (allowed v h) (in-row v h);
+    few = omega (arith, and-le-l s listed, row-small (sizeOf (planOf b) x) (supports (networkOf (planOf b)) y w x), e);
+  }
+    where
+      allowed : (v : ℕ) → v < sizeOf (planOf b) x → bit s v ≡ pairAllowed (planOf b) x v y w
+      allowed v h =
+          ap (λ (t : ℕ). bit t v) (e ∙ supports-allowed b (sizeOf (planOf b) x) y w x l)
+          ∙ row-bit (sizeOf (planOf b) x) (pairAllowed (planOf b) y w x) v h
+          ∙ allowed-symmetric (planOf b) y w x v
+
+  -- with an empty domain there are none
+  pub losing-none : listed ≡ 0 → LosingRow (systemAt b) m y w x 0
+  unfolding systemOf networkOf
+  losing-none e = record {
+    holds = λ v h.
+        let none : bit 0 v ≡ false = bit-past 0 0 v (omega arith) (omega arith) in
+        none ∙ sym (and-false-right (pairAllowed (planOf b) x v y w) (sym (in-row v h) ∙ ap (λ (r : ℕ). bit r v) e ∙ none));
+    few = lt-of-le-of-lt zero-le (row-small (sizeOf (planOf b) x) (λ v. false));
+  }
+
+-- a test that fails behind another
 second-fails : (t : Bool) {u : Bool} (n m : Mem) → u ≡ false → m ≡ cond t (cond u n m) m
 second-fails true n m e = sym (cond-false n m e)
 second-fails false n m e = refl
 
-module _ (sys : System) (i y w x v : ℕ) (m : Mem) where
-  touched : (n : Mem) → m DOMAIN x v ≡ LISTED → sys .net .allows x v y w ≡ true → n ≡ loseM i x v y m
-      → n ≡ touchM sys i y w x v m
-  unfolding touchM
-  touched n d a e = e ∙ sym (cond-true _ _ (eq-eqb (m DOMAIN x v) LISTED d) ∙ cond-true _ _ a)
-
-  not-allowed : sys .net .allows x v y w ≡ false → m ≡ touchM sys i y w x v m
-  unfolding touchM
-  not-allowed a = second-fails (inDomain m x v) (loseM i x v y m) m a
-
-  not-listed : (m DOMAIN x v ≡ LISTED → ⊥) → m ≡ touchM sys i y w x v m
-  unfolding touchM
-  not-listed d = sym (cond-false _ _ (ne-eqb (m DOMAIN x v) LISTED d))
-
--- whether a label had the treated one as a support, and its domain cell: one test on their sum tells both
-module _ (sys : System) (i y w x v t d : ℕ) (m : Mem) (cell : d ≡ m DOMAIN x v) (small : d < 65536)
-    (odd : isOdd t ≡ sys .net .allows x v y w) where
-  pub sum-touched : (n : Mem) → t % 2 + d ≡ LISTED + 1 → n ≡ loseM i x v y m → n ≡ touchM sys i y w x v m
-  sum-touched n e = touched sys i y w x v m n (omega arith) (sym odd ∙ eq-eqb (t % 2) 1 (omega arith))
-
-  pub sum-passed : (t % 2 + d ≡ LISTED + 1 → ⊥) → m ≡ touchM sys i y w x v m
-  sum-passed e =
-      ⊎-elim (λ p. not-listed sys i y w x v m (λ l. e (omega (arith, eqb-true (t % 2) 1 p))))
-      (λ p. not-allowed sys i y w x v m (sym odd ∙ p)) (decided (isOdd t))
-
--- ---- a variable
-
--- the row of the treated label's supports holds the values that had it as a support: a pair reads the same from either side
-pub supported : (b : List ℕ) (m : Mem) (y w x n s r : ℕ) → shareConstraint (planOf b) y x ≡ true → n ≡ sizeOf (planOf b) x
-    → s ≡ rowOf (sizeOf (planOf b) x) (supports (networkOf (planOf b)) y w x) → r ≡ counterRow m x y
-    → SupportRow (systemAt b) m y w x n s r
-unfolding systemOf networkOf
-supported b m y w x n s r l k e c = record {
-  holds = λ v h.
-      ap (λ (t : ℕ). bit t v) (e ∙ supports-allowed b (sizeOf (planOf b) x) y w x l)
-      ∙ row-bit (sizeOf (planOf b) x) (pairAllowed (planOf b) y w x) v (omega arith)
-      ∙ allowed-symmetric (planOf b) y w x v;
-  counted = c;
-}
-
 module _ (sys : System) (i y w x : ℕ) (m : Mem) where
-  pub variable-touched : (n : Mem) (k : ℕ) → eqb (sys .owner x) (suc i) ≡ true → sys .net .linked x y ≡ true → k ≡ sys .net .size x
-      → n ≡ loop k (touchM sys i y w x) m → n ≡ touchVariableM sys i y w x m
+  pub variable-touched : (n : Mem) → eqb (sys .owner x) (suc i) ≡ true → sys .net .linked x y ≡ true
+      → n ≡ loop (sys .net .size x) (touchM sys i y w x) m → n ≡ touchVariableM sys i y w x m
   unfolding touchVariableM
-  variable-touched n k o l s e =
-      e ∙ ap (λ (k : ℕ). loop k (touchM sys i y w x) m) s
-      ∙ sym (cond-true _ _ o ∙ cond-true _ _ l)
+  variable-touched n o l e = e ∙ sym (cond-true _ _ o ∙ cond-true _ _ l)
 
   pub not-linked : sys .net .linked x y ≡ false → m ≡ touchVariableM sys i y w x m
   unfolding touchVariableM

@@ -3,7 +3,6 @@ use Prim.Native.Nat.{ℕ, suc, _+_, _-_, _<_}
 use mathlib.Core.Bool.{Bool, cond, _&&_}
 use mathlib.Core.List.{List}
 use mathlib.Core.Option.{Option, none, some}
-use mathlib.Core.Path.{_≡_}
 use lib.Dec.{ltb, eqb}
 use Rattle.base.specs.Below.{loop}
 use Rattle.base.specs.Row.{bit}
@@ -14,18 +13,16 @@ use Rattle.cells.specs.Queues.{deleteM}
 use Rattle.cells.specs.Memory.{Mem, store}
 use Rattle.cells.specs.View.{inDomain, counterRow, labelOf}
 
--- what is asked for once in a variable: `row` holds those of the first `n` values of `x` that had label `w` of `y` as a
--- support, and their counters against `y` stand in row `at`
-pub record SupportRow (sys : System) (m : Mem) (y w x n row at : ℕ) : Type 0 where
-  pub holds : (v : ℕ) → v < n → bit row v ≡ sys .net .allows x v y w
-  pub counted : at ≡ counterRow m x y
-
 -- label `v` of `x` loses one from its count against `y`; at 0 it is deleted
 unfoldable pub loseM : ℕ → ℕ → ℕ → ℕ → Mem → Mem
 loseM i x v y m =
     cond (eqb (m COUNTERS (counterRow m x y) v - 1) 0)
     (deleteM i x v (store m COUNTERS (counterRow m x y) v (m COUNTERS (counterRow m x y) v - 1)))
     (store m COUNTERS (counterRow m x y) v (m COUNTERS (counterRow m x y) v - 1))
+
+-- each of the labels of `x` below `n` that a row holds
+unfoldable pub loseRowM : ℕ → ℕ → ℕ → ℕ → ℕ → Mem → Mem
+loseRowM n i x y row = loop n (λ v m. cond (bit row v) (loseM i x v y m) m)
 
 -- label `v` of `x`, if it is in its domain and had label `w` of `y` as a support
 unfoldable pub touchM : System → ℕ → ℕ → ℕ → ℕ → ℕ → Mem → Mem

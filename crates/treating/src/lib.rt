@@ -6,19 +6,17 @@ use cells::queues;
 use index::parts;
 ghost use mathlib.Core.Bool.{true};
 ghost use mathlib.Core.Path.{_≡_};
-ghost use Prim.Native.Nat.{ℕ, _<_, _≤_};
+ghost use Prim.Native.Nat.{ℕ, _^_, _<_, _≤_};
 ghost use lib.ListN.{length};
 ghost use Rattle.format.specs.Limits.{maxWorkers, maxVariables};
-ghost use Rattle.base.specs.Below.{loop};
-ghost use Rattle.base.specs.Row.{bit};
-ghost use Rattle.disac4.specs.System.{System, systemAt};
+ghost use Rattle.disac4.specs.System.{systemAt};
 ghost use Rattle.disac4.specs.Need.{workNeed};
 ghost use Rattle.rows.specs.Permits.{Loaded};
 ghost use Rattle.index.specs.Index.{ownLinked, Ready};
 ghost use Rattle.cells.specs.Acts.{Acts};
 ghost use Rattle.cells.specs.Layout.{VALUEROOM, COUNTERMAX};
 ghost use Rattle.cells.specs.Memory.{memOf};
-ghost use Rattle.treating.specs.Treat.{SupportRow, loseM, touchM, touchVariableM, touchVariablesM, HeadLoaded, treatM};
+ghost use Rattle.treating.specs.Treat.{loseM, loseRowM, touchVariableM, touchVariablesM, HeadLoaded, treatM};
 ghost use Rattle.cells.specs.View.{counterRow};
 
 // Label v of x loses one from its count, in a row of counters; at 0 row i deletes it.
@@ -35,39 +33,31 @@ fn lose(cells: &mut [u16], i: usize, x: usize, v: usize, row: usize)
     }
 }
 
-// Label v of x, if it had the treated one as a support and is in its domain. Its bit and its domain cell sum to one more
-// than LISTED only then: one test, since two that go either way would cost more.
-fn touch(cells: &mut [u16], i: usize, x: usize, v: usize, supported: usize, row: usize)
-    requires { ⌜ (workNeed ≤ length (now cells)) × (i < maxWorkers) × (x < maxVariables) × (v < VALUEROOM) × (row ≤ COUNTERMAX) ⌝ }
-    ensures { λ _. ⌜ ((sys : System) (y w : ℕ) → bit supported v ≡ sys .net .allows x v y w → row ≡ counterRow (memOf (now (cells .entry))) x y → memOf (now (cells .exit)) ≡ touchM sys i y w x v (memOf (now (cells .entry)))) ⌝ }
+// The labels of x that a row holds, lowest first; their counters stand in another row.
+fn lose_values(cells: &mut [u16], i: usize, x: usize, losing: usize, row: usize)
+    requires { ⌜ (workNeed ≤ length (now cells)) × (i < maxWorkers) × (x < maxVariables) × (losing < 2 ^ VALUEROOM) × (row ≤ COUNTERMAX) ⌝ }
+    ensures { λ _. ⌜ ((n y : ℕ) → losing < 2 ^ n → row ≡ counterRow (memOf (now (cells .entry))) x y → memOf (now (cells .exit)) ≡ loseRowM n i x y losing (memOf (now (cells .entry)))) ⌝ }
 {
-    let listed = layout::get(cells, layout::DOMAIN, x, v);
-    if (supported >> v) % 2 + listed == LISTED + 1 {
-        lose(cells, i, x, v, row);
+    let mut rest = losing;
+    while rest != 0 {
+        lose(cells, i, x, usize::trailing_zeros(rest) as usize, row);
+        rest = rest & (rest - 1);
     }
 }
 
-// The first n values of x: those that had the treated label as a support are in one row, their counters in another.
-fn touch_values(cells: &mut [u16], i: usize, x: usize, n: usize, supported: usize, row: usize)
-    requires { ⌜ (workNeed ≤ length (now cells)) × (i < maxWorkers) × (x < maxVariables) × (n ≤ VALUEROOM) × (row ≤ COUNTERMAX) ⌝ }
-    ensures { λ _. ⌜ ((sys : System) (y w : ℕ) → SupportRow sys (memOf (now (cells .entry))) y w x n supported row → memOf (now (cells .exit)) ≡ loop n (touchM sys i y w x) (memOf (now (cells .entry)))) ⌝ }
-{
-    let mut v = 0;
-    while v < n {
-        touch(cells, i, x, v, supported, row);
-        v += 1;
-    }
-}
-
-// Variable x of row i, which shares a constraint with y.
+// Variable x of row i, which shares a constraint with y. Only labels in its domain that had the treated one as a support
+// lose it, so an empty domain needs no look at the constraints.
 fn touch_variable(plan: &[u8], cells: &mut [u16], i: usize, y: usize, w: usize, x: usize)
     requires { ⌜ Ready (now plan) (now cells) × (i < maxWorkers) × Loaded (now plan) y w × (ownLinked (now plan) i y x ≡ true) ⌝ }
     ensures { λ _. ⌜ memOf (now (cells .exit)) ≡ touchVariableM (systemAt (now (plan .entry))) i y w x (memOf (now (cells .entry))) ⌝ }
 {
-    let n = parts::size(plan, cells, x);
-    let supported = supports::support_row(plan, cells, y, w, x);
+    let listed = layout::row_holding(cells, layout::DOMAIN, x, VALUEROOM, LISTED);
+    if listed == 0 {
+        return;
+    }
+    let losing = supports::support_row(plan, cells, y, w, x) & listed;
     let row = parts::counter_row(cells, x, y);
-    touch_values(cells, i, x, n, supported, row);
+    lose_values(cells, i, x, losing, row);
 }
 
 // Every variable: only those of the row that share a constraint with y are touched, so following their chain is enough.
