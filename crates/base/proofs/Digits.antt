@@ -62,8 +62,7 @@ module _ (bits : ℕ) where
   pub length-digits : (k n : ℕ) → length (digits bits k n) ≡ k
   unfolding digits
   length-digits zero n = refl
-  length-digits (suc k) n =
-      length-append (digits bits k (n / 2 ^ bits)) ((n % 2 ^ bits) ∷ []) ∙ omega (arith, length-digits k (n / 2 ^ bits))
+  length-digits (suc k) n = rw length-append (omega (arith, length-digits k (n / 2 ^ bits)))
 
   -- a number that fits is made of its parts
   pub number-digits : (k n : ℕ) → n < 2 ^ (bits * k) → numberAt bits (digits bits k n) 0 k ≡ n

@@ -100,6 +100,10 @@ row-bit (suc n) t (suc w) h =
     ∙ ap (λ (r : ℕ). bit r w) (row-half n t)
     ∙ row-bit n (λ u. t (suc u)) w (le-of-suc-le-suc h)
 
+-- and so does a number that is this row
+pub row-held : (n r : ℕ) (t : ℕ → Bool) → r ≡ rowOf n t → (w : ℕ) → w < n → bit r w ≡ t w
+row-held n r t e w h = ap (λ (r : ℕ). bit r w) e ∙ row-bit n t w h
+
 -- a row below 2 ^ n, with value n or without, is below the next power
 pub put-small : (n r : ℕ) (b : Bool) → r < 2 ^ n → r + cond b (2 ^ n) 0 < 2 ^ suc n
 put-small n r true h = omega (arith, two-pow-succ n)
@@ -321,21 +325,66 @@ pub rowCount-counts : (n : ℕ) (t : ℕ → Bool) → rowCount n (rowOf n t) �
 rowCount-counts n t =
     rowCount-bits n (rowOf n t) (row-small n t) ∙ count-ext n (bit (rowOf n t)) t (row-bit n t)
 
--- ---- counting one value after the other
+-- ---- counting four values at a time
 
 -- the empty row counts 0
 pub rowCount-empty : (n : ℕ) → rowCount n 0 ≡ 0
 rowCount-empty n = rowCount-bits n 0 (pow-pos n) ∙ count-empty n
 
--- any other row counts one more than the row without its lowest value
-pub rowCount-lowest : (n r : ℕ) → 0 < r → r < 2 ^ n → rowCount n r ≡ suc (rowCount n (withoutLowest n r))
-rowCount-lowest n r l h =
-    rowCount-bits n r h ∙ lowest-count n r l h
-    ∙ ap suc (sym (rowCount-bits n (withoutLowest n r) (lowest-small n r h)))
-
 -- a row counts at most its width
 pub rowCount-small : (n r : ℕ) → r < 2 ^ n → rowCount n r ≤ n
 rowCount-small n r h = omega (arith, rowCount-bits n r h, count-le n (bit r))
+
+-- a row counts what its half does at the same width, and one more where it has value 0
+rowCount-half : (n r half : ℕ) → r < 2 ^ n → half ≡ r / 2 → rowCount n r ≡ r % 2 + rowCount n half
+rowCount-half zero r half h e =
+    let none : r ≡ 0 = omega arith in
+    let none-half : half ≡ 0 = omega arith in
+    omega (arith, ap (rowCount 0) none, ap (rowCount 0) none-half, rowCount-empty 0)
+rowCount-half (suc n) r half h e =
+    let small : half < 2 ^ n = omega (arith, half-small n r h) in
+    rowCount-bits (suc n) r h
+    ∙ count-halves n r
+    ∙ ap (λ (k : ℕ). r % 2 + countBelow n (bit k)) (sym e)
+    ∙ omega (
+      arith,
+      rowCount-bits (suc n) half (omega (arith, two-pow-succ n)),
+      ap one (bit-past n half n small (omega arith)),
+    )
+
+-- how many of the values 0 to 3 a row has
+unfoldable ofFour : ℕ → ℕ
+ofFour r = r % 2 + r / 2 % 2 + r / 4 % 2 + r / 8 % 2
+
+rowCount-fourth : (n r : ℕ) → r < 2 ^ n → rowCount n r ≡ ofFour r + rowCount n (r / 16)
+unfolding ofFour
+rowCount-fourth n r h =
+    omega (
+      arith,
+      rowCount-half n r (r / 2) h refl,
+      rowCount-half n (r / 2) (r / 4) (omega arith) (omega arith),
+      rowCount-half n (r / 4) (r / 8) (omega arith) (omega arith),
+      rowCount-half n (r / 8) (r / 16) (omega arith) (omega arith),
+    )
+
+four-alone : (r : ℕ) → ofFour (r % 16) ≡ ofFour r
+unfolding ofFour
+four-alone r = ap₂ _+_ (ap₂ _+_ (ap₂ _+_ (omega arith) (omega arith)) (omega arith)) (omega arith)
+
+-- a row counts what its four lowest values count by themselves, and what the others do, moved down by four
+pub rowCount-four : (n r : ℕ) → r < 2 ^ n → rowCount n r ≡ rowCount 4 (r % 16) + rowCount n (r / 16)
+rowCount-four n r h =
+    let none : r % 16 / 16 ≡ 0 = omega arith in
+    omega (
+      arith,
+      rowCount-fourth n r h,
+      rowCount-fourth 4 (r % 16) (omega arith),
+      four-alone r,
+      ap (rowCount 4) none,
+      rowCount-empty 4,
+    )
+
+-- ---- a row without its lowest value
 
 -- `r & (r - 1)` is the row without its lowest value
 pub lowest-and : (n r : ℕ) → 0 < r → r < 2 ^ n → bitAnd r (r - 1) ≡ withoutLowest n r

@@ -1,7 +1,8 @@
 // Reads in a slice of bytes, and rows of bits; as definitions, loops below a bound and updates too.
 ghost use mathlib.Core.Bool.{cond};
 ghost use mathlib.Core.Path.{_≡_};
-ghost use Prim.Native.Nat.{ℕ, _<_, _^_};
+ghost use Prim.Native.Nat.{ℕ, _%_, _<_, _^_};
+ghost use lib.ListN.{length};
 ghost use Rattle.base.specs.Below.{one};
 ghost use Rattle.base.specs.Choice.{between as betweenOf};
 ghost use Rattle.base.specs.Bytes.{byteAt};
@@ -14,11 +15,19 @@ fn wide(x: u8) -> usize
     x as usize
 }
 
+// The byte at i, which is inside.
+pub fn byte_inside(b: &[u8], i: usize) -> usize
+    requires { ⌜ i < length (now b) ⌝ }
+    ensures { λ r. ⌜ (r ≡ byteAt (now (b .entry)) i) × (r < 256) ⌝ }
+{
+    wide(b[i])
+}
+
 // The byte at i, 0 past the end.
 pub fn byte_at(b: &[u8], i: usize) -> usize
     ensures { λ r. ⌜ (r ≡ byteAt (now (b .entry)) i) × (r < 256) ⌝ }
 {
-    if i < b.len() { wide(b[i]) } else { 0 }
+    if i < b.len() { byte_inside(b, i) } else { 0 }
 }
 
 // The row of value k alone: 2 to the k.
@@ -45,16 +54,25 @@ pub fn row_if(held: bool, k: usize) -> usize
     if held { power(k) } else { 0 }
 }
 
-// How many values a row holds, at any width that it fits: its lowest value is taken off and counted until none is left.
-// `rest & (rest - 1)` is the rest without it, since `rest - 1` differs from `rest` in its lowest value and below.
+// How many values each row of four values holds, in four bits: the empty row in the lowest ones, the full row in the highest.
+const OF_FOUR: usize = 0x4332_3221_3221_2110;
+
+// How many of the values 0 to 3 a row holds.
+fn count_four(row: usize) -> usize
+    ensures { λ r. ⌜ r ≡ rowCount 4 (row % 16) ⌝ }
+{
+    (OF_FOUR >> (4 * (row % 16))) % 16
+}
+
+// How many values a row holds, at any width that it fits: its four lowest are counted and taken off until none is left.
 pub fn row_count(row: usize) -> usize
     ensures { λ r. ⌜ ((width : ℕ) → row < 2 ^ width → r ≡ rowCount width row) ⌝ }
 {
     let mut rest = row;
     let mut count = 0;
     while rest != 0 {
-        rest = rest & (rest - 1);
-        count += 1;
+        count += count_four(rest);
+        rest = rest / 16;
     }
     count
 }

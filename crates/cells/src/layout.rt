@@ -264,16 +264,17 @@ pub fn put(cells: &mut [u16], g: Region, i: usize, j: usize, v: usize)
     cells[at] = with_share(g, i, v, cells[at] as usize) as u16;
 }
 
-// The row of the values below n whose cells in row i of a region hold c.
+// The row of the values below n whose cells in row i of a region hold c. It is gathered in 32 bits, of which the compiler
+// tests more at once than of 64.
 pub fn row_holding(cells: &[u16], g: Region, i: usize, n: usize, c: usize) -> usize
     requires { ⌜ Fits (now cells) g i (VALUEROOM - 1) × (n ≤ VALUEROOM) ⌝ }
     ensures { λ r. ⌜ r ≡ rowOf n (λ v. eqb (memOf (now (cells .entry)) (g .id) i v) c) ⌝ }
 {
-    let mut row = 0;
+    let mut row: u32 = 0;
     let mut v = 0;
     while v < n {
-        row += row_if(get(cells, g, i, v) == c, v);
+        row += row_if(get(cells, g, i, v) == c, v) as u32;
         v += 1;
     }
-    row
+    row as usize
 }

@@ -9,7 +9,7 @@ use lib.Pow.{pow-pos}
 use Rattle.base.proofs.Below.{all-below, every-below}
 use Rattle.base.proofs.Bools.{bool-ext}
 use Rattle.base.proofs.Choice.{update-same, update-other}
-use Rattle.base.proofs.Row.{row-bit, row-small, row-ext, row-of-bits, row-full}
+use Rattle.base.proofs.Row.{row-held, row-small, row-ext, row-of-bits, row-full}
 use Rattle.base.proofs.Sums.{sum-change}
 use Rattle.base.specs.Below.{allBelow}
 use Rattle.base.specs.Choice.{update}
@@ -52,7 +52,7 @@ module _ (p marks : ℕ) (small : marks < 2 ^ p) where
 
   -- it is there, and the others are as they were
   pub mark-bit : (i : ℕ) → i < p → (w : ℕ) → w < p → bit (withMark marks i) w ≡ update (bit marks) i true w
-  mark-bit i h w l = ap (λ (r : ℕ). bit r w) (mark-row i h) ∙ row-bit p (update (bit marks) i true) w l
+  mark-bit i h w l = row-held p _ (update (bit marks) i true) (mark-row i h) w l
 
   -- all are there exactly if the row is one less than the next power of two
   pub marks-full : eqb (marks + 1) (2 ^ p) ≡ allBelow p (bit marks)
@@ -60,7 +60,7 @@ module _ (p marks : ℕ) (small : marks < 2 ^ p) where
       bool-ext (eqb (marks + 1) (2 ^ p)) (allBelow p (bit marks))
       (λ e.
       let r : marks ≡ rowOf p (λ w. true) = omega (arith, eqb-true (marks + 1) (2 ^ p) e, row-full p) in
-      every-below p (bit marks) (λ w l. ap (λ (k : ℕ). bit k w) r ∙ row-bit p (λ w. true) w l))
+      every-below p (bit marks) (row-held p _ (λ w. true) r))
       (λ e.
       eq-eqb (marks + 1) (2 ^ p)
       (omega (arith, row-full p, pow-pos p, row-of-bits p marks small, row-ext p (bit marks) (λ w. true) (all-below p (bit marks) e))))

@@ -7,11 +7,8 @@ use mathlib.Core.Path.{_≡_, refl, _∙_}
 use native.Mathlib.Nat.{mul-le-mul-right}
 use native.Mathlib.Omega.{arith}
 use lib.ListN.{length, replicate, length-replicate, getD-replicate}
-use Rattle.base.proofs.Below.{gather-even}
-use Rattle.base.proofs.Digits.{length-digits}
+use Rattle.format.proofs.RowCells.{cells-first}
 use Rattle.format.proofs.Widths.{words-range}
-use Rattle.format.specs.Limits.{wordBits}
-use Rattle.format.specs.Lists.{rowCells}
 use Rattle.format.specs.Version.{rowWords}
 use Rattle.lending.proofs.Outcome.{Answers}
 use Rattle.lending.proofs.Overwritten.{overwrite-front, overwrite-back, overwrite-length, overwrite-starts}
@@ -33,9 +30,8 @@ use Rattle.faults.specs.declared.Decline.{Decline}
 
 -- domains have as many list cells for each variable as a row has words
 pub lists-length : (words : ℕ) (net : Network) (d : Domains) → length (domainCells words net d) ≡ words * net .variables
-unfolding domainCells rowCells
-lists-length words net d =
-    gather-even (net .variables) words (λ x. rowCells words (rowFrom net d x)) (λ x. length-digits wordBits words (rowFrom net d x))
+unfolding domainCells
+lists-length words net d = cells-first words (rowFrom net d) (net .variables)
 
 -- so those of an accepted plan have room in the cells that are needed
 pub lists-fit : (b : List ℕ) → planFault b ≡ none → (d : Domains) → length (domainCells (rowWords b) (networkAt b) d) ≤ listNeed

@@ -1,1 +1,2 @@
+pub mod RowCells
 pub mod Widths

@@ -41,6 +41,10 @@ codeAt b at v = wordAt b (at + 4 + 4 * v)
 abbrev pub figureAt : List ℕ → ℕ → ℕ → ℕ
 figureAt b at v = wordAt b (at + 4 + 4 * v + 2)
 
+-- the place behind the first `n` dishes of a slot's section at `at`
+abbrev pub valuesEnd : ℕ → ℕ → ℕ
+valuesEnd at n = at + 4 + 4 * n
+
 -- where constraint (rule) `c` starts, counted from 0: behind the head and the slots
 abbrev pub constraintStart : List ℕ → ℕ → ℕ
 constraintStart b c = sectionStart b (suc (variableCount b + c))

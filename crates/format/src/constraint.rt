@@ -1,11 +1,13 @@
 // The parts of a constraint (document 01: a rule), read by the place of its section.
 use crate::limits::WORD_BYTES;
 use reader::byte_at;
+use reader::byte_inside;
 use reader::word_at;
 ghost use mathlib.Core.Path.{_≡_};
-ghost use Prim.Native.Nat.{_+_, _<_, _≤_};
+ghost use Prim.Native.Nat.{suc, _+_, _<_, _≤_};
 ghost use lib.ListN.{length};
-ghost use Rattle.format.specs.Version.{rowWords};
+ghost use Rattle.format.specs.Limits.{rowsRoom};
+ghost use Rattle.format.specs.Version.{rowWords, rowBytes};
 ghost use Rattle.format.specs.Format.{firstAt, secondAt, kindAt, tableRowStart, tableRowAt, tableByteAt, limitAt};
 
 // A rule's first slot.
@@ -35,7 +37,7 @@ pub fn kind(plan: &[u8], at: usize) -> usize
 // Where a table's row for a dish of its first slot starts. How many words a row has is told by whoever reads several rows.
 fn table_row_start(plan: &[u8], words: usize, at: usize, v: usize) -> usize
     requires { ⌜ (words ≡ rowWords (now plan)) × (at ≤ length (now plan)) × (v < 256) ⌝ }
-    ensures { λ r. ⌜ (r ≡ tableRowStart (now (plan .entry)) at v) × (r ≤ length (now (plan .entry)) + 2048) ⌝ }
+    ensures { λ r. ⌜ (r ≡ tableRowStart (now (plan .entry)) at v) × (r ≤ length (now (plan .entry)) + 5 + rowsRoom) ⌝ }
 {
     at + 5 + WORD_BYTES * words * v
 }
@@ -55,12 +57,12 @@ pub fn table_row(plan: &[u8], words: usize, at: usize, v: usize) -> usize
     row
 }
 
-// One byte of such a row, the highest first.
+// One byte of such a row, the highest first. The row stands inside the plan, so there is no test for the plan's end.
 pub fn table_byte(plan: &[u8], words: usize, at: usize, v: usize, part: usize) -> usize
-    requires { ⌜ (words ≡ rowWords (now plan)) × (at ≤ length (now plan)) × (v < 256) × (part < 256) ⌝ }
+    requires { ⌜ (words ≡ rowWords (now plan)) × (at ≤ length (now plan)) × (v < 256) × (part < rowBytes (now plan)) × (tableRowStart (now plan) at (suc v) ≤ length (now plan)) ⌝ }
     ensures { λ r. ⌜ (r ≡ tableByteAt (now (plan .entry)) at v part) × (r < 256) ⌝ }
 {
-    byte_at(plan, table_row_start(plan, words, at, v) + part)
+    byte_inside(plan, table_row_start(plan, words, at, v) + part)
 }
 
 // A sodium rule's limit.

@@ -2,10 +2,11 @@
 // slot for variable, rule for constraint and dish for value.
 use reader::byte_at;
 use reader::word_at;
+use reader::word_inside;
 ghost use mathlib.Core.Path.{_≡_};
-ghost use Prim.Native.Nat.{_<_, _≤_};
+ghost use Prim.Native.Nat.{suc, _<_, _≤_};
 ghost use lib.ListN.{length};
-ghost use Rattle.format.specs.Format.{behind as behindOf, workerCount, variableCount, constraintCount, sectionCount, ownerAt, sizeAt, codeAt, figureAt};
+ghost use Rattle.format.specs.Format.{behind as behindOf, workerCount, variableCount, constraintCount, sectionCount, ownerAt, sizeAt, codeAt, figureAt, valuesEnd};
 
 // The place behind the section at `at`.
 pub fn behind(plan: &[u8], at: usize) -> usize
@@ -67,10 +68,10 @@ pub fn code(plan: &[u8], at: usize, v: usize) -> usize
     word_at(plan, at + 4 + 4 * v)
 }
 
-// The sodium figure of a variable's value.
+// The sodium figure of a variable's value, which stands inside the plan, so that there is no test for the plan's end.
 pub fn figure(plan: &[u8], at: usize, v: usize) -> usize
-    requires { ⌜ (at ≤ length (now plan)) × (v < 256) ⌝ }
+    requires { ⌜ valuesEnd at (suc v) ≤ length (now plan) ⌝ }
     ensures { λ r. ⌜ (r ≡ figureAt (now (plan .entry)) at v) × (r < 65536) ⌝ }
 {
-    word_at(plan, at + 4 + 4 * v + 2)
+    word_inside(plan, at + 4 + 4 * v + 2)
 }

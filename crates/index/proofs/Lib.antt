@@ -3,6 +3,7 @@ pub mod Chains
 pub mod ConstraintChains
 pub mod Counted
 pub mod CounterRows
+pub mod Inside
 pub mod Kept
 pub mod Labels
 pub mod Leads

@@ -9,9 +9,9 @@ use native.Mathlib.Numerals.{add-one}
 use native.Mathlib.Omega.{arith}
 use lib.ListN.{length, getD, set, take, drop, length-append, length-drop, take-append-drop}
 use lib.Seq.{length-take-le, split-at, set-at, take-at, drop-at, drop-drop, drop-append-add, append-snoc}
-use Rattle.base.proofs.Below.{gather-even, gather-at}
+use Rattle.base.proofs.Below.{gather-at}
 use Rattle.base.proofs.Bools.{bool-ext, and-left}
-use Rattle.base.proofs.Digits.{length-digits, number-digits, number-same}
+use Rattle.base.proofs.Digits.{number-digits, number-same}
 use Rattle.base.proofs.Row.{row-bit, row-low}
 use Rattle.base.specs.Below.{gatherBelow}
 use Rattle.base.specs.Digits.{digits}
@@ -20,6 +20,7 @@ use Rattle.disac4.proofs.Outcome.{lists-length}
 use Rattle.disac4.specs.Need.{listNeed}
 use Rattle.disac4.specs.Report.{domainCells, rowFrom}
 use Rattle.disac4.specs.System.{networkAt}
+use Rattle.format.proofs.RowCells.{cells-each, cells-first}
 use Rattle.format.specs.Limits.{wordBits, maxWords, maxVariables}
 use Rattle.format.specs.Lists.{rowCells, rowIn}
 use Rattle.format.specs.Version.{rowWords}
@@ -73,17 +74,9 @@ row-put words x row cells h =
     ∙ ap (λ (l : List ℕ). front ++ (digits wordBits words row ++ l)) (drop-drop words at cells)
 
 module _ (words : ℕ) where
-  -- the cells of a variable are as many as a row has words
-  cells-each : (row : ℕ → ℕ) (x : ℕ) → length (rowCells words (row x)) ≡ words
-  unfolding rowCells
-  cells-each row x = length-digits wordBits words (row x)
-
   -- the cells of the first `k` rows
   abbrev firstRows : (ℕ → ℕ) → ℕ → List ℕ
   firstRows row k = gatherBelow k (λ x. rowCells words (row x))
-
-  first-length : (row : ℕ → ℕ) (k : ℕ) → length (firstRows row k) ≡ words * k
-  first-length row k = gather-even k words (λ x. rowCells words (row x)) (cells-each row)
 
   -- the rows of the first `k` variables, in front of the cells that are not written yet
   unfoldable pub rowsBefore : (ℕ → ℕ) → ℕ → List ℕ → List ℕ
@@ -99,7 +92,7 @@ module _ (words : ℕ) where
     pub rows-length : k ≤ maxVariables → length (rowsBefore row k cells) ≡ length cells
     unfolding rowsBefore listNeed
     rows-length h =
-        written-length (firstRows row k) (words * k) (first-length row k) cells (omega (arith, mul-le-mul-right k few))
+        written-length (firstRows row k) (words * k) (cells-first words row k) cells (omega (arith, mul-le-mul-right k few))
 
     -- one more row is written
     pub rows-next : k < maxVariables → putRow words k (row k) (rowsBefore row k cells) ≡ rowsBefore row (k + 1) cells
@@ -108,7 +101,7 @@ module _ (words : ℕ) where
         let front = firstRows row k in
         let back = drop (words * k) cells in
         let own = rowCells words (row k) in
-        let e : length front ≡ words * k = first-length row k in
+        let e : length front ≡ words * k = cells-first words row k in
         let more : words * k + words ≡ words * (k + 1) = omega (arith, mul-suc words k, ap (λ (n : ℕ). words * n) (add-one k)) in
         ap (λ (l : List ℕ). l ++ (own ++ drop (words * k + words) (front ++ back))) (take-at front back (words * k) e)
         ∙ ap (λ (l : List ℕ). front ++ (own ++ l))
@@ -124,7 +117,7 @@ module _ (words : ℕ) where
     pub rows-all : (k : ℕ) → k ≡ net .variables → rowsBefore (rowFrom net d) k cells ≡ overwrite (domainCells words net d) cells
     unfolding rowsBefore domainCells
     rows-all k e =
-        written-all (firstRows (rowFrom net d) k) (words * k) (first-length (rowFrom net d) k) cells
+        written-all (firstRows (rowFrom net d) k) (words * k) (cells-first words (rowFrom net d) k) cells
         ∙ ap (λ (n : ℕ). overwrite (firstRows (rowFrom net d) n) cells) e
 
     -- cells that are those of the domains hold them
@@ -136,7 +129,7 @@ module _ (words : ℕ) where
         number-same wordBits cells (rowCells words (rowFrom net d x)) (words * x) 0 words
         (λ j l.
         same (words * x + j) (omega (arith, lists-length words net d, mul-suc words x, mul-le-mul-right words h))
-        ∙ gather-at (net .variables) words (λ z. rowCells words (rowFrom net d z)) (cells-each (rowFrom net d)) 0 x j h l
+        ∙ gather-at (net .variables) words (λ z. rowCells words (rowFrom net d z)) (cells-each words (rowFrom net d)) 0 x j h l
         ∙ ap (λ (i : ℕ). getD (rowCells words (rowFrom net d x)) i 0) (omega arith))
         ∙ number-digits wordBits words (rowFrom net d x) (row-low (wordBits * words) (net .size x) (d x) (wide x h))
 

@@ -1,6 +1,7 @@
 // The reader that every byte of a plan is read through: it holds the bytes and its place.
 ghost use mathlib.Core.Path.{_≡_};
-ghost use Prim.Native.Nat.{_<_};
+ghost use Prim.Native.Nat.{_+_, _<_};
+ghost use lib.ListN.{length};
 ghost use Rattle.base.specs.Bytes.{byteAt, wordAt};
 
 pub struct Reader<'a> {
@@ -8,18 +9,27 @@ pub struct Reader<'a> {
     pub at: usize,
 }
 
-// The byte at the reader's place, 0 past the end.
+// The byte at the reader's place, which is inside.
 pub fn byte<'a>(reader: Reader<'a>) -> usize
+    requires { ⌜ reader .at < length (now (reader .bytes)) ⌝ }
     ensures { λ r. ⌜ (r ≡ byteAt (now (reader .entry .bytes)) (reader .entry .at)) × (r < 256) ⌝ }
 {
-    base::byte_at(reader.bytes, reader.at)
+    base::byte_inside(reader.bytes, reader.at)
 }
 
-// The byte at a place. A reader is made here, so that whoever calls this needs only bytes and a place.
-pub fn byte_at(b: &[u8], at: usize) -> usize
+// The byte at a place inside. A reader is made here, so that whoever calls this needs only bytes and a place.
+pub fn byte_inside(b: &[u8], at: usize) -> usize
+    requires { ⌜ at < length (now b) ⌝ }
     ensures { λ r. ⌜ (r ≡ byteAt (now (b .entry)) at) × (r < 256) ⌝ }
 {
     byte(Reader { bytes: b, at })
+}
+
+// The byte at a place, 0 past the end.
+pub fn byte_at(b: &[u8], at: usize) -> usize
+    ensures { λ r. ⌜ (r ≡ byteAt (now (b .entry)) at) × (r < 256) ⌝ }
+{
+    if at < b.len() { byte_inside(b, at) } else { 0 }
 }
 
 // The 16-bit number at a place, with 0 for bytes past the end.
@@ -31,4 +41,12 @@ pub fn word_at(b: &[u8], at: usize) -> usize
     } else {
         0
     }
+}
+
+// The 16-bit number at a place, both of whose bytes are inside.
+pub fn word_inside(b: &[u8], at: usize) -> usize
+    requires { ⌜ at + 1 < length (now b) ⌝ }
+    ensures { λ r. ⌜ (r ≡ wordAt (now (b .entry)) at) × (r < 65536) ⌝ }
+{
+    byte_inside(b, at) * 256 + byte_inside(b, at + 1)
 }

@@ -12,7 +12,7 @@ use lib.Dec.{leb, ltb, eqb}
 use Rattle.base.proofs.Bools.{decided, bool-ext}
 use Rattle.base.proofs.Choice.{cond-true, cond-false}
 use Rattle.base.proofs.Digits.{number-bit}
-use Rattle.base.proofs.Row.{row-bit}
+use Rattle.base.proofs.Row.{row-held}
 use Rattle.base.specs.Bytes.{byteAt}
 use Rattle.base.specs.Row.{bit, rowOf}
 use Rattle.format.specs.Format.{variableCount, constraintCount, kindAt, tableRowStart, tableRowAt, tableByteAt, limitAt, figureAt}
@@ -54,7 +54,7 @@ module _ (b : List ℕ) (at here v there : ℕ) where
   limit-bits p leads limit f n r e₁ e₂ e₃ w h = go leads
     where
       judged : bit r w ≡ withinLimit limit f (figureAt b there w)
-      judged = ap (λ (k : ℕ). bit k w) e₃ ∙ row-bit n (limited b limit f there) w h
+      judged = row-held n r (limited b limit f there) e₃ w h
 
       go : (leads : Bool) → bit r w ≡ permitsFrom b at leads here v there w
       go true = permits-limit b at here v there w (bit r w) p limit f (figureAt b there w) e₁ e₂ refl judged

@@ -6,12 +6,12 @@ use format::limits::MAX_WORDS;
 use format::limits::WORD_BYTES;
 use format::read;
 use format::version::row_words;
-ghost use mathlib.Core.Bool.{cond};
+ghost use mathlib.Core.Bool.{false, cond};
 ghost use mathlib.Core.Path.{_≡_};
-ghost use Prim.Native.Nat.{ℕ, _<_, _≤_};
+ghost use Prim.Native.Nat.{ℕ, suc, _<_, _≤_};
 ghost use lib.Dec.{ltb};
 ghost use lib.ListN.{length};
-ghost use Rattle.format.specs.Format.{tableRowAt};
+ghost use Rattle.format.specs.Format.{valuesEnd, kindAt, tableRowStart, tableRowAt};
 ghost use Rattle.format.specs.Limits.{maxValues};
 ghost use Rattle.format.specs.Version.{rowWords, maxSize};
 ghost use Rattle.base.specs.Row.{bit, rowOf};
@@ -43,7 +43,7 @@ fn room_beside(limit: usize, f: usize) -> usize
 // The row of the values of the variable at `place` whose figures a limit permits with figure f; it has `values` of them.
 // From the last one down the row is doubled: that is quicker than to shift each bit to its place.
 fn limit_row(plan: &[u8], limit: usize, f: usize, place: usize, values: usize) -> usize
-    requires { ⌜ (place ≤ length (now plan)) × (values ≤ maxValues) × (limit < 65536) ⌝ }
+    requires { ⌜ (valuesEnd place values ≤ length (now plan)) × (values ≤ maxValues) × (limit < 65536) ⌝ }
     ensures { λ r. ⌜ r ≡ rowOf values (limited (now (plan .entry)) limit f place) ⌝ }
 {
     let room = room_beside(limit, f);
@@ -59,7 +59,7 @@ fn limit_row(plan: &[u8], limit: usize, f: usize, place: usize, values: usize) -
 // The row of the values of a table's first variable whose rows hold value v of the second; it has `values` of them.
 // It is doubled in the same way. Value v stands in one byte of each row, so no other is read.
 fn table_column(plan: &[u8], words: usize, at: usize, v: usize, values: usize) -> usize
-    requires { ⌜ (words ≡ rowWords (now plan)) × (at ≤ length (now plan)) × (v < maxSize (now plan)) × (values ≤ maxValues) ⌝ }
+    requires { ⌜ (words ≡ rowWords (now plan)) × (at ≤ length (now plan)) × (v < maxSize (now plan)) × (values ≤ maxValues) × (tableRowStart (now plan) at values ≤ length (now plan)) ⌝ }
     ensures { λ r. ⌜ r ≡ rowOf values (inColumn (now (plan .entry)) at v) ⌝ }
 {
     let part = WORD_BYTES * words - 1 - v / 8;
@@ -80,7 +80,7 @@ fn table_column(plan: &[u8], words: usize, at: usize, v: usize, values: usize) -
 // The row of the values that the table at `at` permits with value v of its first variable where `leads`, else of its second; the
 // other variable has `values` of them. A row for v is read at once.
 fn table_values(plan: &[u8], words: usize, at: usize, leads: bool, v: usize, values: usize) -> usize
-    requires { ⌜ (words ≡ rowWords (now plan)) × (at ≤ length (now plan)) × (v < maxSize (now plan)) × (values ≤ maxValues) ⌝ }
+    requires { ⌜ (words ≡ rowWords (now plan)) × (at ≤ length (now plan)) × (v < maxSize (now plan)) × (values ≤ maxValues) × (leads ≡ false → tableRowStart (now plan) at values ≤ length (now plan)) ⌝ }
     ensures { λ r. ⌜ ((w : ℕ) → w < values → bit r w ≡ cond leads (bit (tableRowAt (now (plan .entry)) at v) w) (inColumn (now (plan .entry)) at v w)) ⌝ }
 {
     if leads {
@@ -102,7 +102,7 @@ pub fn constraint_row(
     there: usize,
     values: usize,
 ) -> usize
-    requires { ⌜ (at ≤ length (now plan)) × (here ≤ length (now plan)) × (there ≤ length (now plan)) × (v < maxSize (now plan)) × (values ≤ maxValues) ⌝ }
+    requires { ⌜ (at ≤ length (now plan)) × (v < maxSize (now plan)) × (valuesEnd here (suc v) ≤ length (now plan)) × (values ≤ maxValues) × (valuesEnd there values ≤ length (now plan)) × (kindAt (now plan) at ≡ 0 → leads ≡ false → tableRowStart (now plan) at values ≤ length (now plan)) ⌝ }
     ensures { λ r. ⌜ ((w : ℕ) → w < values → bit r w ≡ permitsFrom (now (plan .entry)) at leads here v there w) ⌝ }
 {
     if constraint::kind(plan, at) != 0 {

@@ -11,7 +11,7 @@ use lib.Bits.{bitAnd, and-le-l}
 use lib.Dec.{eqb}
 use Rattle.base.proofs.Bools.{and-left, and-right, and-intro, and-false-right, refuted}
 use Rattle.base.proofs.Choice.{cond-true, cond-false}
-use Rattle.base.proofs.Row.{row-bit, row-small, bit-past, bit-and}
+use Rattle.base.proofs.Row.{row-held, row-small, bit-past, bit-and}
 use Rattle.base.specs.Below.{loop}
 use Rattle.base.specs.Row.{bit, rowOf}
 use Rattle.disac4.specs.System.{System, systemOf, systemAt}
@@ -56,7 +56,7 @@ module _ (i x v y r n : ℕ) (m m₁ : Mem) (row : r ≡ counterRow m x y) (coun
 module _ (b : List ℕ) (m : Mem) (y w x listed : ℕ) (size : sizeOf (planOf b) x ≤ VALUEROOM)
     (read : listed ≡ rowOf VALUEROOM (λ v. eqb (m DOMAIN x v) LISTED)) where
   in-row : (v : ℕ) → v < sizeOf (planOf b) x → bit listed v ≡ inDomain m x v
-  in-row v h = ap (λ (r : ℕ). bit r v) read ∙ row-bit VALUEROOM (λ v. eqb (m DOMAIN x v) LISTED) v (omega arith)
+  in-row v h = row-held VALUEROOM _ (λ v. eqb (m DOMAIN x v) LISTED) read v (omega arith)
 
   pub losing : (s : ℕ) → shareConstraint (planOf b) y x ≡ true → s ≡ rowOf (sizeOf (planOf b) x) (supports (networkOf (planOf b)) y w x)
       → LosingRow (systemAt b) m y w x (bitAnd s listed)
@@ -69,8 +69,7 @@ module _ (b : List ℕ) (m : Mem) (y w x listed : ℕ) (size : sizeOf (planOf b)
     where
       allowed : (v : ℕ) → v < sizeOf (planOf b) x → bit s v ≡ pairAllowed (planOf b) x v y w
       allowed v h =
-          ap (λ (t : ℕ). bit t v) (e ∙ supports-allowed b (sizeOf (planOf b) x) y w x l)
-          ∙ row-bit (sizeOf (planOf b) x) (pairAllowed (planOf b) y w x) v h
+          row-held (sizeOf (planOf b) x) s (pairAllowed (planOf b) y w x) (e ∙ supports-allowed b (sizeOf (planOf b) x) y w x l) v h
           ∙ allowed-symmetric (planOf b) y w x v
 
   -- with an empty domain there are none

@@ -17,7 +17,7 @@ ghost use Rattle.cells.specs.Acts.{Acts};
 ghost use Rattle.cells.specs.Layout.{VALUEROOM, COUNTERMAX};
 ghost use Rattle.cells.specs.Memory.{memOf};
 ghost use Rattle.treating.specs.Treat.{loseM, loseRowM, touchVariableM, touchVariablesM, HeadLoaded, treatM};
-ghost use Rattle.cells.specs.View.{counterRow};
+ghost use Rattle.cells.specs.View.{Numbered, counterRow};
 
 // Label v of x loses one from its count, in a row of counters; at 0 row i deletes it.
 fn lose(cells: &mut [u16], i: usize, x: usize, v: usize, row: usize)
@@ -45,6 +45,21 @@ fn lose_values(cells: &mut [u16], i: usize, x: usize, losing: usize, row: usize)
     }
 }
 
+// Their counters against y. Which half of its cells a counter has hangs on the order of the two variables: the compiler makes
+// more of the loop where it knows it, so it is told.
+fn lose_against(cells: &mut [u16], i: usize, x: usize, y: usize, losing: usize)
+    requires { ⌜ (workNeed ≤ length (now cells)) × (i < maxWorkers) × (x < maxVariables) × (y < maxVariables) × Numbered (memOf (now cells)) x y × (losing < 2 ^ VALUEROOM) ⌝ }
+    ensures { λ _. ⌜ ((n : ℕ) → losing < 2 ^ n → memOf (now (cells .exit)) ≡ loseRowM n i x y losing (memOf (now (cells .entry)))) ⌝ }
+{
+    if y < x {
+        let row = parts::counter_row(cells, x, y);
+        lose_values(cells, i, x, losing, row);
+    } else {
+        let row = parts::counter_row(cells, x, y);
+        lose_values(cells, i, x, losing, row);
+    }
+}
+
 // Variable x of row i, which shares a constraint with y. Only labels in its domain that had the treated one as a support
 // lose it, so an empty domain needs no look at the constraints.
 fn touch_variable(plan: &[u8], cells: &mut [u16], i: usize, y: usize, w: usize, x: usize)
@@ -56,8 +71,7 @@ fn touch_variable(plan: &[u8], cells: &mut [u16], i: usize, y: usize, w: usize, 
         return;
     }
     let losing = supports::support_row(plan, cells, y, w, x) & listed;
-    let row = parts::counter_row(cells, x, y);
-    lose_values(cells, i, x, losing, row);
+    lose_against(cells, i, x, y, losing);
 }
 
 // Every variable: only those of the row that share a constraint with y are touched, so following their chain is enough.

@@ -6,20 +6,15 @@ use denote.Ref.{now}
 use Rattle.base.proofs.Bytes.{byteAt-past}
 use Rattle.base.proofs.byte_at.Statement.{statement}
 use Rattle.base.proofs.byte_at.Tie as tie
-use Rattle.base.specs.Bytes.{byteAt}
 
-shared-slice-read-wide : tie.Need-shared-slice-read-wide
-shared-slice-read-wide c = search needs
-
-wide-requires : tie.Need-wide-requires
-wide-requires c κs = search needs
+byte-inside-requires : tie.Need-byte-inside-requires
+byte-inside-requires c κs = search needs
 
 returns : tie.Need-returns
-unfolding byteAt
-returns c = c .wide .ensures
+returns c = c .byte-inside .ensures
 
 returns-2 : tie.Need-returns-2
 returns-2 c = (sym (byteAt-past (now (c .before .before .args .b)) (c .before .before .args .i) (c .if1 .left)), omega arith)
 
 pub byte-at-spec : {M : Type 1} → statement M
-byte-at-spec = tie.close (tie.spec shared-slice-read-wide wide-requires returns returns-2)
+byte-at-spec = tie.close (tie.spec byte-inside-requires returns returns-2)

@@ -1,10 +1,10 @@
--- `base::row_count` takes the lowest value off the rest of a row and counts it, until none is left. Invariant: at any width that
--- the row fits, what is counted and the count of the rest make the row's count. The rest falls. Assumes nothing.
-use Prim.Native.Nat.{ℕ, _+_, _-_, _^_, _<_, _≤_}
+-- `base::row_count` counts the four lowest values of the rest of a row and takes them off, until none is left. Invariant: at any
+-- width that the row fits, what is counted and the count of the rest make the row's count. The rest falls. Assumes nothing.
+use Prim.Native.Nat.{ℕ, _+_, _/_, _%_, _^_, _<_, _≤_}
 use mathlib.Core.Path.{_≡_, ap}
 use native.Mathlib.Omega.{arith}
-use lib.Bits.{and-le-l, and-le-r}
-use Rattle.base.proofs.Row.{lowest-and, rowCount-empty, rowCount-lowest, rowCount-small}
+use borrow.Author.Needs.{needs}
+use Rattle.base.proofs.Row.{rowCount-empty, rowCount-four, rowCount-small}
 use Rattle.base.proofs.row_count.Statement.{statement}
 use Rattle.base.proofs.row_count.Tie as tie
 use Rattle.base.specs.Row.{rowCount}
@@ -19,36 +19,32 @@ abbrev μ-loop : tie.MeasureT-loop
 loop-holds : tie.Need-loop-holds Inv-loop μ-loop
 loop-holds c = (omega arith, λ width h. omega arith)
 
-sub-rest : tie.Need-sub-rest Inv-loop μ-loop
-sub-rest c = omega (arith, c .loop-test .taken)
+count-four-requires : tie.Need-count-four-requires Inv-loop μ-loop
+count-four-requires c κs = search needs
+
+-- the row before the loop, its rest, and what is counted of that
+module _ (c : tie.After-count-four Inv-loop μ-loop) where
+  abbrev loop-of : tie.At-loop Inv-loop μ-loop
+  loop-of = c .before .before
+
+  counted : (width : ℕ) → loop-of .before .args .row < 2 ^ width
+      → loop-of .loop .count + c .count-four .result + rowCount width (loop-of .loop .rest / 16) ≡ rowCount width (loop-of .before .args .row)
+  counted width h =
+      let l = loop-of .loop in
+      let fits : l .rest < 2 ^ width = omega (arith, l .inv .0) in
+      omega (arith, l .inv .1 width h, rowCount-four width (l .rest) fits, c .count-four .ensures)
 
 add-count : tie.Need-add-count Inv-loop μ-loop
 add-count c =
-    let row = c .before .before .args .row in
+    let row = loop-of c .before .args .row in
     let fits : row < 2 ^ 64 = omega arith in
-    omega (arith, c .before .loop .inv .1 64 fits, rowCount-small 64 row fits)
+    omega (arith, counted c 64 fits, rowCount-small 64 row fits)
 
 loop-less : tie.Need-loop-less Inv-loop μ-loop
-loop-less c =
-    let rest = c .before .loop .rest in
-    omega (arith, c .loop-test .taken, and-le-r rest (rest - 1))
+loop-less c = omega (arith, c .before .loop-test .taken)
 
 loop-again : tie.Need-loop-again Inv-loop μ-loop
-loop-again c =
-    let l = c .before .loop in
-    let rest = l .rest in
-    let less = and-le-l rest (rest - 1) in (
-      omega (arith, l .inv .0, less),
-      λ width h.
-          let some : 0 < rest = omega (arith, c .loop-test .taken) in
-          let fits : rest < 2 ^ width = omega (arith, l .inv .0) in
-          omega (
-            arith,
-            l .inv .1 width h,
-            rowCount-lowest width rest some fits,
-            ap (rowCount width) (lowest-and width rest some fits),
-          ),
-    )
+loop-again c = (omega (arith, loop-of c .loop .inv .0), counted c)
 
 returns : tie.Need-returns Inv-loop μ-loop
 returns c width h =
@@ -57,4 +53,4 @@ returns c width h =
     omega (arith, l .inv .1 width h, ap (rowCount width) none, rowCount-empty width)
 
 pub row-count-spec : {M : Type 1} → statement M
-row-count-spec = tie.close (tie.spec Inv-loop μ-loop loop-holds sub-rest add-count loop-less loop-again returns)
+row-count-spec = tie.close (tie.spec Inv-loop μ-loop loop-holds count-four-requires add-count loop-less loop-again returns)

@@ -8,17 +8,12 @@ use mathlib.Core.List.{List}
 use mathlib.Core.Path.{_≡_, sym, _∙_}
 use native.Mathlib.Omega.{arith}
 use lib.Dec.{eqb}
-use Rattle.format.proofs.Widths.{words-range}
 use Rattle.base.specs.Row.{bit}
 use Rattle.format.specs.Format.{kindAt, tableRowAt}
 use Rattle.rows.proofs.Rows.{limit-bits, table-permits}
 use Rattle.rows.proofs.constraint_row.Statement.{statement}
 use Rattle.rows.proofs.constraint_row.Tie as tie
 use Rattle.rows.specs.Permits.{permitsFrom, inColumn}
-
--- a row has fewer than 256 values
-dish-low : (s : tie.Start) → s .args .v < 256
-dish-low s = omega (arith, s .pre .3, words-range (now (s .args .plan)))
 
 kind-requires : tie.Need-kind-requires
 kind-requires c κs = search needs
@@ -29,10 +24,12 @@ limit-requires c κs = search needs
 figure-requires : tie.Need-figure-requires
 figure-requires c κs =
     let start : tie.Start = search in
-    (start .pre .1, dish-low start)
+    start .pre .2
 
 limit-row-requires : tie.Need-limit-row-requires
-limit-row-requires c κs = search needs
+limit-row-requires c κs =
+    let start : tie.Start = search in
+    (start .pre .4, start .pre .3, c .before .limit .ensures .1)
 
 returns : tie.Need-returns
 returns c w h =
@@ -55,8 +52,11 @@ module _ (c : tie.After-row-words) where
   abbrev plan-of : List ℕ
   plan-of = now (start-of .args .plan)
 
+  of-kind : kindAt plan-of (start-of .args .at) ≡ 0
+  of-kind = sym (c .before .before .kind .ensures .0) ∙ c .before .if1 .left
+
   is-table : eqb (kindAt plan-of (start-of .args .at)) 0 ≡ true
-  is-table = eq-eqb (kindAt plan-of (start-of .args .at)) 0 (sym (c .before .before .kind .ensures .0) ∙ c .before .if1 .left)
+  is-table = eq-eqb (kindAt plan-of (start-of .args .at)) 0 of-kind
 
   held : (r : ℕ)
       → ((w : ℕ) → w < start-of .args .values
@@ -71,7 +71,7 @@ module _ (c : tie.After-row-words) where
 table-values-requires : tie.Need-table-values-requires
 table-values-requires c κs =
     let start = start-of (c .before) in
-    (sym (c .if2 .taken) ∙ c .before .row-words .ensures .0, start .pre .0, start .pre .3, start .pre .4)
+    (sym (c .if2 .taken) ∙ c .before .row-words .ensures .0, start .pre .0, start .pre .1, start .pre .3, start .pre .5 (of-kind (c .before)))
 
 returns-2 : tie.Need-returns-2
 returns-2 c = held (c .before .before) (c .table-values .result) (c .table-values .ensures)
@@ -79,7 +79,7 @@ returns-2 c = held (c .before .before) (c .table-values .result) (c .table-value
 table-values-requires-2 : tie.Need-table-values-requires-2
 table-values-requires-2 c κs =
     let start = start-of (c .before) in
-    (omega (arith, c .if2 .left, c .before .row-words .ensures), start .pre .0, start .pre .3, start .pre .4)
+    (omega (arith, c .if2 .left, c .before .row-words .ensures), start .pre .0, start .pre .1, start .pre .3, start .pre .5 (of-kind (c .before)))
 
 returns-3 : tie.Need-returns-3
 returns-3 c = held (c .before .before) (c .table-values2 .result) (c .table-values2 .ensures)

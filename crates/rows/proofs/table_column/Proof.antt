@@ -1,9 +1,10 @@
 -- `rows::table_column` gives the row of the values whose rows in a table hold a value. Invariant: the row holds
 -- those from w on, counted from there; the measure is w. Assumes nothing.
-use Prim.Native.Nat.{ℕ, _+_, _-_, _*_, _/_, _%_}
+use Prim.Native.Nat.{ℕ, suc, _+_, _-_, _*_, _/_, _%_, _≤_}
 use denote.Ref.{now}
 use mathlib.Core.Bool.{Bool}
 use mathlib.Core.Path.{_∙_, ap}
+use native.Mathlib.Nat.{mul-le-mul-left}
 use native.Mathlib.Omega.{arith}
 use Rattle.base.specs.Below.{one}
 use Rattle.base.specs.Bytes.{byteAt}
@@ -11,6 +12,7 @@ use Rattle.base.specs.Row.{bit}
 use Rattle.format.proofs.Widths.{words-range}
 use Rattle.format.specs.Format.{tableByteAt}
 use Rattle.format.specs.Limits.{wordBytes}
+use Rattle.format.specs.Version.{rowBytes}
 use Rattle.rows.proofs.Rows.{column-byte}
 use Rattle.rows.proofs.Upper.{Upper, upper-start, upper-more, upper-small, upper-all}
 use Rattle.rows.proofs.table_column.Statement.{statement}
@@ -53,7 +55,15 @@ mul-row c =
 table-byte-requires : tie.Need-table-byte-requires Inv-loop μ-loop
 table-byte-requires c κs =
     let start : tie.Start Inv-loop μ-loop = search in
-    (start .pre .0, start .pre .1, omega (arith, start .pre, c .before .loop .inv .low), omega (arith, start .pre, words-range (now (start .args .plan))))
+    let plan = now (start .args .plan) in
+    let rows : rowBytes plan * suc (c .before .loop .w - 1) ≤ rowBytes plan * start .args .values =
+    mul-le-mul-left (rowBytes plan) (omega (arith, c .before .loop .inv .low, c .loop-test .taken)) in (
+      start .pre .0,
+      start .pre .1,
+      omega (arith, start .pre .3, c .before .loop .inv .low),
+      omega (arith, start .pre .0, start .pre .2, words-range plan),
+      omega (arith, rows, start .pre .4),
+    )
 
 row-holds-requires : tie.Need-row-holds-requires Inv-loop μ-loop
 row-holds-requires c κs =

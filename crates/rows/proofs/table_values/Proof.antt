@@ -1,10 +1,10 @@
 -- `rows::table_values` reads a table's row, or its column. Assumes nothing.
 use Prim.Native.Nat.{ℕ}
-use mathlib.Core.Path.{_∙_, ap}
+use mathlib.Core.Path.{ap}
 use native.Mathlib.Omega.{arith}
 use borrow.Author.Needs.{needs}
 use denote.Ref.{now}
-use Rattle.base.proofs.Row.{row-bit}
+use Rattle.base.proofs.Row.{row-held}
 use Rattle.base.specs.Row.{bit}
 use Rattle.format.proofs.Widths.{words-range}
 use Rattle.rows.proofs.table_values.Statement.{statement}
@@ -20,14 +20,15 @@ returns : tie.Need-returns
 returns c w h = rw (c .before .if1 .taken) (ap (λ (r : ℕ). bit r w) (c .table-row .ensures))
 
 table-column-requires : tie.Need-table-column-requires
-table-column-requires c κs = search needs
+table-column-requires c κs =
+    let start : tie.Start = search in
+    (start .pre .0, start .pre .1, start .pre .2, start .pre .3, start .pre .4 (c .if1 .left))
 
 returns-2 : tie.Need-returns-2
 returns-2 c w h =
     let start : tie.Start = search in
     let a = start .args in
-    rw (c .before .if1 .left)
-    (ap (λ (r : ℕ). bit r w) (c .table-column .ensures) ∙ row-bit (a .values) (inColumn (now (a .plan)) (a .at) (a .v)) w h)
+    rw (c .before .if1 .left) (row-held (a .values) _ (inColumn (now (a .plan)) (a .at) (a .v)) (c .table-column .ensures) w h)
 
 pub table-values-spec : {M : Type 1} → statement M
 table-values-spec =

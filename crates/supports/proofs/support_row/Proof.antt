@@ -1,8 +1,9 @@
 -- `supports::support_row` gives the row of supports. Invariant: the row holds the values that the constraints so far
 -- permit; the measure is the next constraint, since a chain goes down. Assumes nothing.
-use Prim.Native.Nat.{ℕ, suc, _+_, _-_, _<_, _≤_}
+use Prim.Native.Nat.{ℕ, suc, _+_, _-_, _*_, _<_, _≤_}
 use borrow.Author.Needs.{needs}
 use denote.Ref.{now}
+use borrow.Author.Tests.{ltb-false}
 use lib.Dec.{ltb}
 use lib.Pow.{pow-pos}
 use mathlib.Core.Bool.{true}
@@ -12,11 +13,13 @@ use native.Mathlib.Numerals.{add-one}
 use native.Mathlib.Omega.{arith}
 use Rattle.base.proofs.Below.{at-suc}
 use Rattle.base.specs.Row.{bit, rowOf}
-use Rattle.format.specs.Format.{variableCount, constraintCount}
+use Rattle.format.specs.Format.{variableCount, constraintCount, kindAt}
 use Rattle.format.specs.Limits.{maxVariables, maxConstraints}
+use Rattle.format.specs.Version.{rowBytes}
 use Rattle.cells.proofs.Ranges.{may-get}
 use Rattle.rows.proofs.Accepted.{acceptsAt}
 use Rattle.index.proofs.Along.{along-over}
+use Rattle.index.proofs.Inside.{values-inside, column-inside}
 use Rattle.index.proofs.Labels.{located, label-in-row}
 use Rattle.index.proofs.Nearest.{last-low}
 use Rattle.index.proofs.Linked.{linked-inside, supports-allowed}
@@ -159,13 +162,27 @@ module _ (c : tie.After-place3 Inv-loop μ-loop) where
       (record { variable = inside (start-of loop-of); value = omega (arith, h, sized loop-of .size .ensures) })
 
 constraint-row-requires : tie.Need-constraint-row-requires Inv-loop μ-loop
-constraint-row-requires c κs = (
-  at-placed c .within,
-  here-placed (loop-of c) .within,
-  there-placed (loop-of c) .within,
-  label-in-row (plan-of c) (start-of (loop-of c) .pre .0 .sound) (x c) (v c) (start-of (loop-of c) .pre .1),
-  sized (loop-of c) .size .ensures .1,
-)
+constraint-row-requires c κs =
+    let b = plan-of c in
+    let sound = start-of (loop-of c) .pre .0 .sound in
+    let label = start-of (loop-of c) .pre .1 in
+    let here = here-placed (loop-of c) in
+    let there = there-placed (loop-of c) in
+    let size = sized (loop-of c) .size .ensures .0 in (
+      at-placed c .within,
+      label-in-row b sound (x c) (v c) label,
+      omega (arith, here .start, label .value, values-inside b sound (x c) (label .variable)),
+      sized (loop-of c) .size .ensures .1,
+      omega (arith, there .start, size, values-inside b sound (y c) (inside (start-of (loop-of c)))),
+      λ k l.
+          omega (
+            arith,
+            at-placed c .start,
+            ap (λ (n : ℕ). rowBytes b * n) size,
+            column-inside b sound (loop-of c .loop .next - 1) (left c .along .low) (x c) (y c) (at-over c) (ltb-false (x c) (y c) l)
+                (ap (kindAt b) (sym (at-placed c .start)) ∙ k),
+          ),
+    )
 
 sub-get : tie.Need-sub-get Inv-loop μ-loop
 sub-get c = omega (arith, left (c .before) .along)

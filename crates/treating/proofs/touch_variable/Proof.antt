@@ -76,27 +76,23 @@ support-row-requires c κs =
     let start : tie.Start = search in
     (start .pre .0, start .pre .2, linked-too start)
 
-counter-row-requires : tie.Need-counter-row-requires
-counter-row-requires c κs =
-    let start : tie.Start = search in
-    let few = few-sections (plan-of start) (start .pre .0 .sound) in
-    (start .pre .0 .long, omega (arith, known start .0), omega (arith, known start .1), known start .2)
-
-lose-values-requires : tie.Need-lose-values-requires
-lose-values-requires c κs =
-    let row-found = c .before in
+lose-against-requires : tie.Need-lose-against-requires
+lose-against-requires c κs =
     let domain-read : tie.After-row-holding = search in
     let supports-read : tie.After-support-row = search in
     let start : tie.Start = search in
-    let few = few-sections (plan-of start) (start .pre .0 .sound) in
-    omega (
-      arith,
-      known start .0,
+    let few = few-sections (plan-of start) (start .pre .0 .sound) in (
       start .pre .0 .long,
-      and-le-r (supports-read .support-row .result) (domain-read .row-holding .result),
-      row-small VALUEROOM (λ v. eqb (memOf (now (start .args .cells)) DOMAIN (start .args .x) v) LISTED),
-      domain-read .row-holding .ensures,
-      row-found .counter-row .ensures,
+      start .pre .1,
+      omega (arith, known start .0),
+      omega (arith, known start .1),
+      known start .2,
+      omega (
+        arith,
+        and-le-r (supports-read .support-row .result) (domain-read .row-holding .result),
+        row-small VALUEROOM (λ v. eqb (memOf (now (start .args .cells)) DOMAIN (start .args .x) v) LISTED),
+        domain-read .row-holding .ensures,
+      ),
     )
 
 same-length-2 : tie.Need-same-length-2
@@ -105,7 +101,6 @@ same-length-2 c = search needs
 returns-2 : tie.Need-returns-2
 unfolding systemOf networkOf owns
 returns-2 c =
-    let row-found : tie.After-counter-row = search in
     let supports-read : tie.After-support-row = search in
     let domain-read : tie.After-row-holding = search in
     let start : tie.Start = search in
@@ -115,7 +110,7 @@ returns-2 c =
     losing (plan-of start) _ (a .y) (a .w) (a .x) _ (few-values start) (domain-read .row-holding .ensures) _ (linked-too start)
     (supports-read .support-row .ensures) in
     variable-touched sys (a .i) (a .y) (a .w) (a .x) _ _ (owned start) (linked start)
-    (c .before .before .lose-values .ensures (sys .net .size (a .x)) (a .y) (row .few) (row-found .counter-row .ensures .0)
+    (c .before .before .lose-against .ensures (sys .net .size (a .x)) (row .few)
     ∙ row-touched sys (a .i) (a .y) (a .w) (a .x) _ _ row)
 
 pub touch-variable-spec : {M : Type 1} → statement M
@@ -126,7 +121,6 @@ touch-variable-spec =
     same-length
     returns
     support-row-requires
-    counter-row-requires
-    lose-values-requires
+    lose-against-requires
     same-length-2
     returns-2)

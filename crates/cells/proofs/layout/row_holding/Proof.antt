@@ -1,6 +1,6 @@
 -- `cells::layout::row_holding` gives the row of the values whose cells hold a number. The loop's invariant: the row holds
 -- those of the values passed. The measure is what is left. Assumes nothing.
-use Prim.Native.Nat.{ℕ, _+_, _-_, _^_, _≤_}
+use Prim.Native.Nat.{ℕ, _+_, _-_, _^_, _<_, _≤_}
 use mathlib.Core.Bool.{Bool, cond}
 use mathlib.Core.Path.{_≡_, refl, _∙_, ap}
 use native.Mathlib.Omega.{arith}
@@ -33,22 +33,29 @@ get-requires c κs =
 row-if-requires : tie.Need-row-if-requires Inv-loop μ-loop
 row-if-requires c κs = omega arith
 
+-- whether a value's cell holds the number
+abbrev test : tie.At-loop Inv-loop μ-loop → ℕ → Bool
+test l w = let a = l .before .before .args in eqb (memOf (now (a .cells)) (a .g .id) (a .i) w) (a .c)
+
 -- after a value: its place in the row
 module _ (c : tie.After-row-if Inv-loop μ-loop) where
   abbrev loop-of : tie.At-loop Inv-loop μ-loop
   loop-of = c .before .before .before
 
-  abbrev test : ℕ → Bool
-  test w = let a = loop-of .before .before .args in eqb (memOf (now (a .cells)) (a .g .id) (a .i) w) (a .c)
-
-  longer : loop-of .loop .row + c .row-if .result ≡ rowOf (loop-of .loop .v + 1) test
+  longer : loop-of .loop .row + c .row-if .result ≡ rowOf (loop-of .loop .v + 1) (test loop-of)
   longer =
-      row-more (loop-of .loop .v) (loop-of .loop .row) (c .row-if .result) test (loop-of .loop .inv .1)
+      row-more (loop-of .loop .v) (loop-of .loop .row) (c .row-if .result) (test loop-of) (loop-of .loop .inv .1)
       (c .row-if .ensures
       ∙ ap (λ (k : ℕ). cond (eqb k (loop-of .before .before .args .c)) (2 ^ loop-of .loop .v) 0) (c .before .get .ensures .0))
 
+  fits : rowOf (loop-of .loop .v + 1) (test loop-of) < 2 ^ VALUEROOM
+  fits = row-low VALUEROOM (loop-of .loop .v + 1) (test loop-of) (omega arith)
+
+cast-row : tie.Need-cast-row Inv-loop μ-loop
+cast-row c = omega (arith, longer c, fits c)
+
 add-row : tie.Need-add-row Inv-loop μ-loop
-add-row c = omega (arith, longer c, row-low VALUEROOM (loop-of c .loop .v + 1) (test c) (omega arith))
+add-row c = omega (arith, longer c, fits c)
 
 add-v : tie.Need-add-v Inv-loop μ-loop
 add-v c = omega arith
@@ -58,6 +65,9 @@ loop-less c = omega arith
 
 loop-again : tie.Need-loop-again Inv-loop μ-loop
 loop-again c = (omega arith, longer c)
+
+cast-result : tie.Need-cast-result Inv-loop μ-loop
+cast-result c = omega (arith, c .before .loop .inv .1, row-low VALUEROOM (c .before .loop .v) (test (c .before)) (omega arith))
 
 returns : tie.Need-returns Inv-loop μ-loop
 returns c =
@@ -74,8 +84,10 @@ row-holding-spec =
     loop-holds
     get-requires
     row-if-requires
+    cast-row
     add-row
     add-v
     loop-less
     loop-again
+    cast-result
     returns)

@@ -1,5 +1,4 @@
--- `format::constraint::table_byte` gives a byte of a table's row. Assumes the plan's own number of words, a
--- place within the bytes, and a dish and a part below 256.
+-- `format::constraint::table_byte` gives a byte of a table's row. Assumes nothing.
 use Prim.Native.Nat.{ℕ, _+_}
 use denote.Ref.{now}
 use mathlib.Core.Path.{_∙_, ap}
@@ -11,17 +10,17 @@ use Rattle.format.proofs.constraint.table_byte.Tie as tie
 table-row-start-requires : tie.Need-table-row-start-requires
 table-row-start-requires c κs = search needs
 
-add-byte-at : tie.Need-add-byte-at
-add-byte-at c = search needs
+add-byte-inside : tie.Need-add-byte-inside
+add-byte-inside c = search needs
 
-byte-at-requires : tie.Need-byte-at-requires
-byte-at-requires c κs = search needs
+byte-inside-requires : tie.Need-byte-inside-requires
+byte-inside-requires c κs = search needs
 
 returns : tie.Need-returns
 returns c =
     let s = c .before .before .before in
-    (c .byte-at .ensures .0 ∙ ap (λ (i : ℕ). byteAt (now (s .args .plan)) (i + s .args .part)) (c .before .table-row-start .ensures .0), c .byte-at .ensures .1)
+    (c .byte-inside .ensures .0 ∙ ap (λ (i : ℕ). byteAt (now (s .args .plan)) (i + s .args .part)) (c .before .table-row-start .ensures .0), c .byte-inside .ensures .1)
 
 pub table-byte-spec : {M : Type 1} → statement M
 table-byte-spec =
-    tie.close (tie.spec table-row-start-requires add-byte-at byte-at-requires returns)
+    tie.close (tie.spec table-row-start-requires add-byte-inside byte-inside-requires returns)

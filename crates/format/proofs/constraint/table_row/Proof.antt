@@ -27,8 +27,8 @@ loop-holds : tie.Need-loop-holds Inv-loop μ-loop
 unfolding numberAt
 loop-holds c = (omega arith, refl, omega arith)
 
--- a row has few words
-few : (s : tie.Start Inv-loop μ-loop) → s .args .words ≤ maxWords
+-- a row has a word, and few of them
+few : (s : tie.Start Inv-loop μ-loop) → (1 ≤ s .args .words) × (s .args .words ≤ maxWords)
 few s = omega (arith, s .pre .0, words-range (now (s .args .plan)))
 
 mul-row : tie.Need-mul-row Inv-loop μ-loop
@@ -64,7 +64,7 @@ add-k : tie.Need-add-k Inv-loop μ-loop
 add-k c = omega (arith, c .before .loop-test .taken)
 
 loop-less : tie.Need-loop-less Inv-loop μ-loop
-loop-less c = omega (arith, c .before .loop-test .taken)
+loop-less c = let start : tie.Start Inv-loop μ-loop = search in omega (arith, c .before .loop-test .taken, few start)
 
 loop-again : tie.Need-loop-again Inv-loop μ-loop
 loop-again c =
@@ -72,7 +72,7 @@ loop-again c =
     let placed : tie.After-table-row-start Inv-loop μ-loop = search in
     let l = c .before .before .loop in
     let w = c .word-at in (
-      omega (arith, c .before .loop-test .taken),
+      omega (arith, c .before .loop-test .taken, few start),
       ap₂ (λ (n d : ℕ). n * 65536 + d) (l .inv .1) (w .ensures .0)
           ∙ number-word (now (start .args .plan)) (placed .table-row-start .result) (l .k),
       word-more (l .row) (l .k) (w .result) (l .inv .2) (w .ensures .1),

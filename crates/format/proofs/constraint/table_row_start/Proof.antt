@@ -8,7 +8,7 @@ use borrow.Author.Needs.{needs}
 use Rattle.format.proofs.Widths.{words-range, rows-short}
 use Rattle.format.proofs.constraint.table_row_start.Statement.{statement}
 use Rattle.format.proofs.constraint.table_row_start.Tie as tie
-use Rattle.format.specs.Limits.{wordBytes}
+use Rattle.format.specs.Limits.{wordBytes, rowsRoom}
 
 add-result : tie.Need-add-result
 add-result c = search needs
@@ -17,7 +17,7 @@ mul-result : tie.Need-mul-result
 mul-result c = omega (arith, c .pre .0, words-range (now (c .args .plan)))
 
 -- the rows before the wanted one
-short : (s : tie.Start) → wordBytes * s .args .words * s .args .v ≤ 1024
+short : (s : tie.Start) → wordBytes * s .args .words * s .args .v ≤ rowsRoom
 short s = rows-short (now (s .args .plan)) (wordBytes * s .args .words) (s .args .v) (ap (λ (n : ℕ). wordBytes * n) (s .pre .0)) (s .pre .2)
 
 mul-result-2 : tie.Need-mul-result-2

@@ -3,6 +3,7 @@ use Prim.Native.Nat.{_*_, _≤_}
 use borrow.Author.Tests.{eq-eqb, ne-eqb}
 use native.Mathlib.Omega.{arith}
 use Rattle.format.proofs.Widths.{rows-short}
+use Rattle.format.specs.Limits.{rowsRoom}
 use Rattle.plan.proofs.InOrder.{ordered}
 use Rattle.plan.specs.Check.{constraintLength}
 use borrow.Author.Needs.{needs}
@@ -25,7 +26,7 @@ numbered-size-requires c κs =
     (start .pre .0, omega (arith, o, c .first .ensures .0), omega (arith, o, c .first .ensures .0))
 
 -- the rows together
-short : (c : tie.After-numbered-size) → c .before .before .row-bytes .result * c .numbered-size .result ≤ 1024
+short : (c : tie.After-numbered-size) → c .before .before .row-bytes .result * c .numbered-size .result ≤ rowsRoom
 short c =
     let r = c .before .before in
     rows-short (r .before .before .before .before .args .plan .now) (r .row-bytes .result) (c .numbered-size .result) (r .row-bytes .ensures)

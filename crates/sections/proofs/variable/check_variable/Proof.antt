@@ -37,11 +37,11 @@ module _ (n : ℕ) where
   unfolding variableChecks
   counted c =
       let s = roomy (c .before) in
-      next s (rw (← s .place .before .size .ensures .0, ← s .place .max-size .ensures, le-leb _ _ (c .if3 .left)))
+      next s (rw (← s .place .before .size .ensures .0, ← s .place .max-size .ensures, le-leb (s .place .before .size .result) _ (c .if3 .left)))
 
   abbrev few : (c : tie.Else4) → Counts n (counted (c .before) .place) → Stage (checks n)
   unfolding variableChecks counted
-  few c e = let s = counted (c .before) in next s (rw (← e, le-leb _ maxLabels (c .if4 .left)))
+  few c e = let s = counted (c .before) in next s (rw (← e, le-leb (start (s .place) .args .labels) maxLabels (c .if4 .left)))
 
   abbrev exact : (c : tie.Else5) → Counts n (counted (c .before .before) .place) → Stage (checks n)
   unfolding variableChecks few
