@@ -1,15 +1,41 @@
 -- The lowest value of a row: where it stands, and the row without it.
-use Prim.Native.Nat.{ℕ, zero, suc, _-_, _*_, _/_, _%_, _^_, _<_}
+use Prim.Native.Nat.{ℕ, zero, suc, _+_, _-_, _*_, _/_, _%_, _^_, _<_, min}
 use mathlib.Core.Bool.{true, false, cond}
+use mathlib.Core.Logic.{⊎-elim}
 use mathlib.Core.Path.{_≡_, refl, sym, _∙_, ap}
 use native.Mathlib.Nat.{not-suc-le-zero, le-of-suc-le-suc}
 use native.Mathlib.Omega.{arith}
-use borrow.Author.Tests.{eqb-true, eq-eqb, ne-eqb}
-use lib.Bits.{bitAnd}
+use borrow.Author.Tests.{eqb-true, eqb-false, eq-eqb, ne-eqb}
+use lib.Bits.{bitAnd, and-step, and-self}
 use lib.Count.{trailingZeros, under}
 use lib.Dec.{eqb}
-use Rattle.base.proofs.Row.{bit-zero, bit-suc, half-small, lowest-and}
+use Rattle.base.proofs.Bools.{decided}
+use Rattle.base.proofs.Choice.{cond-true, cond-false}
+use Rattle.base.proofs.Row.{bit-zero, bit-suc, half-small}
 use Rattle.base.specs.Row.{isOdd, bit, withoutLowest}
+
+-- `r & (r - 1)` is the row without its lowest value
+lowest-and : (n r : ℕ) → 0 < r → r < 2 ^ n → bitAnd r (r - 1) ≡ withoutLowest n r
+unfolding withoutLowest
+lowest-and zero r l h = omega arith
+lowest-and (suc n) r l h =
+    ⊎-elim
+    (λ p.
+    let odd : r % 2 ≡ 1 = eqb-true (r % 2) 1 p in
+    omega
+    (arith, halves (r / 2) (omega arith), and-self (r / 2), cond-true (r - 1) (2 * withoutLowest n (r / 2)) p))
+    (λ p.
+    let even : r % 2 ≡ 0 = omega (arith, eqb-false (r % 2) 1 p) in
+    omega (
+      arith,
+      halves (r / 2 - 1) (omega arith),
+      lowest-and n (r / 2) (omega arith) (half-small n r h),
+      cond-false (r - 1) (2 * withoutLowest n (r / 2)) p,
+    ))
+    (decided (isOdd r))
+  where
+    halves : (a : ℕ) → (r - 1) / 2 ≡ a → bitAnd r (r - 1) ≡ bitAnd (r / 2) a * 2 + min (r % 2) ((r - 1) % 2)
+    halves a e = and-step r (r - 1) ∙ ap (λ (k : ℕ). bitAnd (r / 2) k * 2 + min (r % 2) ((r - 1) % 2)) e
 
 -- value `t` is the lowest of row `r`, and `rest` is the row without it
 pub record Lowest (r t rest : ℕ) : Type 0 where

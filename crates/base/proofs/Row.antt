@@ -7,7 +7,7 @@ use native.Mathlib.Nat.{not-suc-le-zero, le-of-suc-le-suc, two-pow-succ, pow-suc
 use native.Mathlib.Omega.{arith}
 use borrow.Author.Tests.{eqb-true, eqb-false, eq-eqb, ne-eqb}
 use lib.Dec.{eqb}
-use lib.Bits.{bitAnd, and-step, and-self, and-le-l}
+use lib.Bits.{bitAnd, and-step, and-le-l}
 use lib.Pow.{pow-mono, pow-pos, shr-shr, high}
 use Rattle.base.proofs.Below.{some-below, any-below}
 use Rattle.base.proofs.Bools.{decided, refuted}
@@ -325,8 +325,6 @@ pub rowCount-counts : (n : ℕ) (t : ℕ → Bool) → rowCount n (rowOf n t) �
 rowCount-counts n t =
     rowCount-bits n (rowOf n t) (row-small n t) ∙ count-ext n (bit (rowOf n t)) t (row-bit n t)
 
--- ---- counting four values at a time
-
 -- the empty row counts 0
 pub rowCount-empty : (n : ℕ) → rowCount n 0 ≡ 0
 rowCount-empty n = rowCount-bits n 0 (pow-pos n) ∙ count-empty n
@@ -334,6 +332,8 @@ rowCount-empty n = rowCount-bits n 0 (pow-pos n) ∙ count-empty n
 -- a row counts at most its width
 pub rowCount-small : (n r : ℕ) → r < 2 ^ n → rowCount n r ≤ n
 rowCount-small n r h = omega (arith, rowCount-bits n r h, count-le n (bit r))
+
+-- ---- counting four values at a time
 
 -- a row counts what its half does at the same width, and one more where it has value 0
 rowCount-half : (n r half : ℕ) → r < 2 ^ n → half ≡ r / 2 → rowCount n r ≡ r % 2 + rowCount n half
@@ -356,9 +356,10 @@ rowCount-half (suc n) r half h e =
 unfoldable ofFour : ℕ → ℕ
 ofFour r = r % 2 + r / 2 % 2 + r / 4 % 2 + r / 8 % 2
 
-rowCount-fourth : (n r : ℕ) → r < 2 ^ n → rowCount n r ≡ ofFour r + rowCount n (r / 16)
+-- a row counts these, and what the others do, moved down by four
+rowCount-lower : (n r : ℕ) → r < 2 ^ n → rowCount n r ≡ ofFour r + rowCount n (r / 16)
 unfolding ofFour
-rowCount-fourth n r h =
+rowCount-lower n r h =
     omega (
       arith,
       rowCount-half n r (r / 2) h refl,
@@ -367,44 +368,20 @@ rowCount-fourth n r h =
       rowCount-half n (r / 8) (r / 16) (omega arith) (omega arith),
     )
 
+-- cut to four values, it has as many of them
 four-alone : (r : ℕ) → ofFour (r % 16) ≡ ofFour r
 unfolding ofFour
 four-alone r = ap₂ _+_ (ap₂ _+_ (ap₂ _+_ (omega arith) (omega arith)) (omega arith)) (omega arith)
 
--- a row counts what its four lowest values count by themselves, and what the others do, moved down by four
+-- so a row counts what its values 0 to 3 count by themselves, and what the others do
 pub rowCount-four : (n r : ℕ) → r < 2 ^ n → rowCount n r ≡ rowCount 4 (r % 16) + rowCount n (r / 16)
 rowCount-four n r h =
     let none : r % 16 / 16 ≡ 0 = omega arith in
     omega (
       arith,
-      rowCount-fourth n r h,
-      rowCount-fourth 4 (r % 16) (omega arith),
+      rowCount-lower n r h,
+      rowCount-lower 4 (r % 16) (omega arith),
       four-alone r,
       ap (rowCount 4) none,
       rowCount-empty 4,
     )
-
--- ---- a row without its lowest value
-
--- `r & (r - 1)` is the row without its lowest value
-pub lowest-and : (n r : ℕ) → 0 < r → r < 2 ^ n → bitAnd r (r - 1) ≡ withoutLowest n r
-unfolding withoutLowest
-lowest-and zero r l h = omega arith
-lowest-and (suc n) r l h =
-    ⊎-elim
-    (λ p.
-    let odd : r % 2 ≡ 1 = eqb-true (r % 2) 1 p in
-    omega
-    (arith, halves (r / 2) (omega arith), and-self (r / 2), cond-true (r - 1) (2 * withoutLowest n (r / 2)) p))
-    (λ p.
-    let even : r % 2 ≡ 0 = omega (arith, eqb-false (r % 2) 1 p) in
-    omega (
-      arith,
-      halves (r / 2 - 1) (omega arith),
-      lowest-and n (r / 2) (omega arith) (half-small n r h),
-      cond-false (r - 1) (2 * withoutLowest n (r / 2)) p,
-    ))
-    (decided (isOdd r))
-  where
-    halves : (a : ℕ) → (r - 1) / 2 ≡ a → bitAnd r (r - 1) ≡ bitAnd (r / 2) a * 2 + min (r % 2) ((r - 1) % 2)
-    halves a e = and-step r (r - 1) ∙ ap (λ (k : ℕ). bitAnd (r / 2) k * 2 + min (r % 2) ((r - 1) % 2)) e

@@ -15,7 +15,7 @@ fn wide(x: u8) -> usize
     x as usize
 }
 
-// The byte at i, which is inside.
+// The byte at i, which is inside the slice.
 pub fn byte_inside(b: &[u8], i: usize) -> usize
     requires { ⌜ i < length (now b) ⌝ }
     ensures { λ r. ⌜ (r ≡ byteAt (now (b .entry)) i) × (r < 256) ⌝ }
@@ -54,7 +54,7 @@ pub fn row_if(held: bool, k: usize) -> usize
     if held { power(k) } else { 0 }
 }
 
-// How many values each row of four values holds, in four bits: the empty row in the lowest ones, the full row in the highest.
+// How many values row k of four values holds, for each k below 16: in bits 4k to 4k + 3.
 const OF_FOUR: usize = 0x4332_3221_3221_2110;
 
 // How many of the values 0 to 3 a row holds.
@@ -64,7 +64,8 @@ fn count_four(row: usize) -> usize
     (OF_FOUR >> (4 * (row % 16))) % 16
 }
 
-// How many values a row holds, at any width that it fits: its four lowest are counted and taken off until none is left.
+// How many values a row holds, at any width that it fits: the values 0 to 3 of the rest are counted and the others moved down
+// by four, until none is left.
 pub fn row_count(row: usize) -> usize
     ensures { λ r. ⌜ ((width : ℕ) → row < 2 ^ width → r ≡ rowCount width row) ⌝ }
 {

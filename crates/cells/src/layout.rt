@@ -264,8 +264,8 @@ pub fn put(cells: &mut [u16], g: Region, i: usize, j: usize, v: usize)
     cells[at] = with_share(g, i, v, cells[at] as usize) as u16;
 }
 
-// The row of the values below n whose cells in row i of a region hold c. It is gathered in 32 bits, of which the compiler
-// tests more at once than of 64.
+// The row of the values below n whose cells in row i of a region hold c. It fits 32 bits, and of so short a row the compiled loop
+// tests more values at once than of one of 64.
 pub fn row_holding(cells: &[u16], g: Region, i: usize, n: usize, c: usize) -> usize
     requires { ⌜ Fits (now cells) g i (VALUEROOM - 1) × (n ≤ VALUEROOM) ⌝ }
     ensures { λ r. ⌜ r ≡ rowOf n (λ v. eqb (memOf (now (cells .entry)) (g .id) i v) c) ⌝ }

@@ -1,5 +1,6 @@
 -- How many list cells rows take: as many as a row has words, each.
 use Prim.Native.Nat.{ℕ, _*_}
+use mathlib.Core.List.{List}
 use mathlib.Core.Path.{_≡_}
 use lib.ListN.{length}
 use Rattle.base.proofs.Below.{gather-even}
@@ -14,6 +15,9 @@ module _ (words : ℕ) (row : ℕ → ℕ) where
   unfolding rowCells
   cells-each x = length-digits wordBits words (row x)
 
-  -- the first `k` rows
-  pub cells-first : (k : ℕ) → length (gatherBelow k (λ x. rowCells words (row x))) ≡ words * k
+  -- the cells of the first `k` rows
+  abbrev pub firstRows : ℕ → List ℕ
+  firstRows k = gatherBelow k (λ x. rowCells words (row x))
+
+  pub cells-first : (k : ℕ) → length (firstRows k) ≡ words * k
   cells-first k = gather-even k words (λ x. rowCells words (row x)) cells-each

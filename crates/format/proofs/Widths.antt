@@ -7,7 +7,8 @@ use native.Mathlib.Nat.{mul-le-mul-right}
 use native.Mathlib.Omega.{arith}
 use lib.Dec.{eqb}
 use lib.Pow.{pow-add, pow-mono}
-use Rattle.format.specs.Limits.{wordBits, wordBytes, maxWords, rowsRoom, maxValues}
+use Rattle.format.specs.Format.{rowsRoom}
+use Rattle.format.specs.Limits.{wordBits, wordBytes, maxWords, maxValues}
 use Rattle.format.specs.Version.{version, rowWords, maxSize, rowBytes}
 
 -- a number of words and one word more
@@ -35,7 +36,7 @@ module _ (b : List ℕ) where
   pub size-range : maxSize b ≤ maxValues
   size-range = omega (arith, words-range)
 
-  -- the rows of a table for as many dishes as a byte can count have room
+  -- the rows before that of dish `v`, a number of a byte, take no more than 256 rows
   pub rows-short : (bytes v : ℕ) → bytes ≡ rowBytes b → v < 256 → bytes * v ≤ rowsRoom
   rows-short bytes v e h =
       let few : bytes ≤ wordBytes * maxWords = omega (arith, words-range .1) in

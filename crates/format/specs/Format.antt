@@ -3,6 +3,7 @@ use Prim.Native.Nat.{ℕ, zero, suc, _+_, _*_}
 use mathlib.Core.List.{List}
 use Rattle.base.specs.Bytes.{byteAt, wordAt}
 use Rattle.base.specs.Digits.{numberAt}
+use Rattle.format.specs.Limits.{wordBytes, maxWords}
 use Rattle.format.specs.Version.{rowBytes}
 
 -- a section is a 16-bit length and then that many bytes: the place behind the section at `at`
@@ -62,6 +63,10 @@ kindAt b at = byteAt b (at + 2 + 2)
 -- where the row for dish `v` of the first slot starts
 abbrev pub tableRowStart : List ℕ → ℕ → ℕ → ℕ
 tableRowStart b at v = at + 5 + rowBytes b * v
+
+-- bytes that 256 rows take at most, in any version
+abbrev pub rowsRoom : ℕ
+rowsRoom = wordBytes * maxWords * 256
 
 -- that row
 abbrev pub tableRowAt : List ℕ → ℕ → ℕ → ℕ

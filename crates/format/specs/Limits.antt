@@ -24,10 +24,6 @@ wordBytes = 2
 abbrev pub maxWords : ℕ
 maxWords = 2
 
--- bytes of a table's rows for as many dishes as a byte can count, in any version
-abbrev pub rowsRoom : ℕ
-rowsRoom = wordBytes * maxWords * 256
-
 -- dishes of a slot, in any version
 abbrev pub maxValues : ℕ
 maxValues = wordBits * maxWords

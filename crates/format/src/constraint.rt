@@ -6,9 +6,8 @@ use reader::word_at;
 ghost use mathlib.Core.Path.{_≡_};
 ghost use Prim.Native.Nat.{suc, _+_, _<_, _≤_};
 ghost use lib.ListN.{length};
-ghost use Rattle.format.specs.Limits.{rowsRoom};
 ghost use Rattle.format.specs.Version.{rowWords, rowBytes};
-ghost use Rattle.format.specs.Format.{firstAt, secondAt, kindAt, tableRowStart, tableRowAt, tableByteAt, limitAt};
+ghost use Rattle.format.specs.Format.{firstAt, secondAt, kindAt, tableRowStart, rowsRoom, tableRowAt, tableByteAt, limitAt};
 
 // A rule's first slot.
 pub fn first(plan: &[u8], at: usize) -> usize
@@ -59,7 +58,7 @@ pub fn table_row(plan: &[u8], words: usize, at: usize, v: usize) -> usize
 
 // One byte of such a row, the highest first. The row stands inside the plan, so there is no test for the plan's end.
 pub fn table_byte(plan: &[u8], words: usize, at: usize, v: usize, part: usize) -> usize
-    requires { ⌜ (words ≡ rowWords (now plan)) × (at ≤ length (now plan)) × (v < 256) × (part < rowBytes (now plan)) × (tableRowStart (now plan) at (suc v) ≤ length (now plan)) ⌝ }
+    requires { ⌜ (words ≡ rowWords (now plan)) × (v < 256) × (part < rowBytes (now plan)) × (tableRowStart (now plan) at (suc v) ≤ length (now plan)) ⌝ }
     ensures { λ r. ⌜ (r ≡ tableByteAt (now (plan .entry)) at v part) × (r < 256) ⌝ }
 {
     byte_inside(plan, table_row_start(plan, words, at, v) + part)

@@ -1,4 +1,4 @@
--- The values of a variable of an accepted plan and the rows of its tables stand inside the plan.
+-- In an accepted plan the values of each variable and the rows of each table end inside the plan.
 use Prim.Native.Nat.{ℕ, suc, _+_, _*_, _-_, _<_, _≤_}
 use mathlib.Core.Bool.{true}
 use mathlib.Core.List.{List}
@@ -24,6 +24,7 @@ use Rattle.rows.proofs.Ends.{Ends, ends, over-ends}
 use Rattle.rows.specs.Permits.{over}
 
 module _ (b : List ℕ) (sound : planFault b ≡ none) where
+  -- the values of variable `x`
   pub values-inside : (x : ℕ) → x < variableCount b → valuesEnd (sectionStart b (suc x)) (sizeOf (planOf b) x) ≤ length b
   unfolding sectionStart
   values-inside x h =
@@ -39,6 +40,7 @@ module _ (b : List ℕ) (sound : planFault b ≡ none) where
     abbrev at : ℕ
     at = constraintStart b c
 
+    -- the rows of a table, one for each value of its first variable
     rows-inside : kindAt b at ≡ 0 → tableRowStart b at (numberedSize b (firstAt b at)) ≤ length b
     unfolding sectionStart constraintLength
     rows-inside k =
@@ -49,7 +51,7 @@ module _ (b : List ℕ) (sound : planFault b ≡ none) where
           cond-true (3 + rowBytes b * numberedSize b (firstAt b at)) 5 (eq-eqb (kindAt b at) 0 k),
         )
 
-    -- where the later variable comes to the earlier one, that one has a row for each of its values
+    -- of a table over `x` and `y`, `y` its first, they are one for each value of `y`
     pub column-inside : (x y : ℕ) → over b x y c ≡ true → y ≤ x → kindAt b at ≡ 0 → tableRowStart b at (sizeOf (planOf b) y) ≤ length b
     column-inside x y o l k =
         let e : Ends b c (firstAt b at - 1) (secondAt b at - 1) = ends b sound c h in

@@ -20,7 +20,7 @@ use Rattle.disac4.proofs.Outcome.{lists-length}
 use Rattle.disac4.specs.Need.{listNeed}
 use Rattle.disac4.specs.Report.{domainCells, rowFrom}
 use Rattle.disac4.specs.System.{networkAt}
-use Rattle.format.proofs.RowCells.{cells-each, cells-first}
+use Rattle.format.proofs.RowCells.{cells-each, firstRows, cells-first}
 use Rattle.format.specs.Limits.{wordBits, maxWords, maxVariables}
 use Rattle.format.specs.Lists.{rowCells, rowIn}
 use Rattle.format.specs.Version.{rowWords}
@@ -74,13 +74,9 @@ row-put words x row cells h =
     ∙ ap (λ (l : List ℕ). front ++ (digits wordBits words row ++ l)) (drop-drop words at cells)
 
 module _ (words : ℕ) where
-  -- the cells of the first `k` rows
-  abbrev firstRows : (ℕ → ℕ) → ℕ → List ℕ
-  firstRows row k = gatherBelow k (λ x. rowCells words (row x))
-
   -- the rows of the first `k` variables, in front of the cells that are not written yet
   unfoldable pub rowsBefore : (ℕ → ℕ) → ℕ → List ℕ → List ℕ
-  rowsBefore row k cells = firstRows row k ++ drop (words * k) cells
+  rowsBefore row k cells = firstRows words row k ++ drop (words * k) cells
 
   -- no row is written yet
   pub rows-none : (row : ℕ → ℕ) (cells : List ℕ) → cells ≡ rowsBefore row 0 cells
@@ -92,13 +88,13 @@ module _ (words : ℕ) where
     pub rows-length : k ≤ maxVariables → length (rowsBefore row k cells) ≡ length cells
     unfolding rowsBefore listNeed
     rows-length h =
-        written-length (firstRows row k) (words * k) (cells-first words row k) cells (omega (arith, mul-le-mul-right k few))
+        written-length (firstRows words row k) (words * k) (cells-first words row k) cells (omega (arith, mul-le-mul-right k few))
 
     -- one more row is written
     pub rows-next : k < maxVariables → putRow words k (row k) (rowsBefore row k cells) ≡ rowsBefore row (k + 1) cells
     unfolding putRow rowsBefore listNeed
     rows-next h =
-        let front = firstRows row k in
+        let front = firstRows words row k in
         let back = drop (words * k) cells in
         let own = rowCells words (row k) in
         let e : length front ≡ words * k = cells-first words row k in
@@ -110,15 +106,15 @@ module _ (words : ℕ) where
         ∙ drop-drop words (words * k) cells
         ∙ ap (λ (n : ℕ). drop n cells) more)
         ∙ sym (append-assoc front own (drop (words * (k + 1)) cells))
-        ∙ ap (λ (n : ℕ). firstRows row n ++ drop (words * (k + 1)) cells) (sym (add-one k))
+        ∙ ap (λ (n : ℕ). firstRows words row n ++ drop (words * (k + 1)) cells) (sym (add-one k))
 
   module _ (net : Network) (d : Domains) (cells : List ℕ) where
     -- all rows are written
     pub rows-all : (k : ℕ) → k ≡ net .variables → rowsBefore (rowFrom net d) k cells ≡ overwrite (domainCells words net d) cells
     unfolding rowsBefore domainCells
     rows-all k e =
-        written-all (firstRows (rowFrom net d) k) (words * k) (cells-first words (rowFrom net d) k) cells
-        ∙ ap (λ (n : ℕ). overwrite (firstRows (rowFrom net d) n) cells) e
+        written-all (firstRows words (rowFrom net d) k) (words * k) (cells-first words (rowFrom net d) k) cells
+        ∙ ap (λ (n : ℕ). overwrite (firstRows words (rowFrom net d) n) cells) e
 
     -- cells that are those of the domains hold them
     pub shows-cells : WideEnough words net

@@ -9,7 +9,7 @@ pub struct Reader<'a> {
     pub at: usize,
 }
 
-// The byte at the reader's place, which is inside.
+// The byte at the reader's place, which is inside its bytes.
 pub fn byte<'a>(reader: Reader<'a>) -> usize
     requires { ⌜ reader .at < length (now (reader .bytes)) ⌝ }
     ensures { λ r. ⌜ (r ≡ byteAt (now (reader .entry .bytes)) (reader .entry .at)) × (r < 256) ⌝ }
@@ -17,7 +17,7 @@ pub fn byte<'a>(reader: Reader<'a>) -> usize
     base::byte_inside(reader.bytes, reader.at)
 }
 
-// The byte at a place inside. A reader is made here, so that whoever calls this needs only bytes and a place.
+// The byte at a place inside the bytes. A reader is made here, so that whoever calls this needs only bytes and a place.
 pub fn byte_inside(b: &[u8], at: usize) -> usize
     requires { ⌜ at < length (now b) ⌝ }
     ensures { λ r. ⌜ (r ≡ byteAt (now (b .entry)) at) × (r < 256) ⌝ }

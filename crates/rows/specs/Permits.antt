@@ -1,14 +1,16 @@
--- What a constraint's bytes permit, which two variables it is over, which values can be asked for (`Loaded`), and where a
--- section starts (`Placed`).
-use Prim.Native.Nat.{ℕ, _<_, _≤_}
-use mathlib.Core.Bool.{Bool, cond}
+-- What a constraint's bytes permit, which two variables it is over, which values can be asked for (`Loaded`), where a section
+-- starts (`Placed`), and what a row is read from (`Readable`).
+use Prim.Native.Nat.{ℕ, suc, _<_, _≤_}
+use mathlib.Core.Bool.{Bool, false, cond}
 use mathlib.Core.List.{List}
 use mathlib.Core.Path.{_≡_}
 use lib.Dec.{eqb}
 use lib.ListN.{length}
 use Rattle.base.specs.Row.{bit}
 use Rattle.plan.specs.Decode.{planOf}
-use Rattle.format.specs.Format.{sectionStart, variableCount, kindAt, tableRowAt, limitAt, figureAt}
+use Rattle.format.specs.Format.{sectionStart, variableCount, kindAt, tableRowStart, tableRowAt, limitAt, figureAt, valuesEnd}
+use Rattle.format.specs.Limits.{maxValues}
+use Rattle.format.specs.Version.{maxSize}
 use Rattle.plan.specs.Network.{withinLimit, ties}
 use Rattle.plan.specs.Plan.{sizeOf, constraintOf}
 
@@ -36,6 +38,16 @@ permitsFrom b at leads here v there w = cond leads (permitsAt b at here v there 
 pub record Loaded (b : List ℕ) (x v : ℕ) : Type 0 where
   pub variable : x < variableCount b
   pub value : v < sizeOf (planOf b) x
+
+-- what the constraint's row for value `v` of the variable at `here`, its first where `leads`, is read from ends inside the plan: the
+-- value's figure, the `values` values of the variable at `there`, and for a table's second variable a row for each of them
+pub record Readable (b : List ℕ) (at : ℕ) (leads : Bool) (here v there values : ℕ) : Type 0 where
+  pub section : at ≤ length b
+  pub in-row : v < maxSize b
+  pub few : values ≤ maxValues
+  pub value-inside : valuesEnd here (suc v) ≤ length b
+  pub values-inside : valuesEnd there values ≤ length b
+  pub rows-inside : kindAt b at ≡ 0 → leads ≡ false → tableRowStart b at values ≤ length b
 
 -- constraint `c` of the plan is over `x` and `y`, either way round
 unfoldable pub over : List ℕ → ℕ → ℕ → ℕ → Bool

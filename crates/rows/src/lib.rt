@@ -8,15 +8,15 @@ use format::read;
 use format::version::row_words;
 ghost use mathlib.Core.Bool.{false, cond};
 ghost use mathlib.Core.Path.{_≡_};
-ghost use Prim.Native.Nat.{ℕ, suc, _<_, _≤_};
+ghost use Prim.Native.Nat.{ℕ, _<_, _≤_};
 ghost use lib.Dec.{ltb};
 ghost use lib.ListN.{length};
-ghost use Rattle.format.specs.Format.{valuesEnd, kindAt, tableRowStart, tableRowAt};
+ghost use Rattle.format.specs.Format.{valuesEnd, tableRowStart, tableRowAt};
 ghost use Rattle.format.specs.Limits.{maxValues};
 ghost use Rattle.format.specs.Version.{rowWords, maxSize};
 ghost use Rattle.base.specs.Row.{bit, rowOf};
 ghost use Rattle.plan.specs.Network.{withinLimit};
-ghost use Rattle.rows.specs.Permits.{permitsFrom, limited, inColumn};
+ghost use Rattle.rows.specs.Permits.{permitsFrom, limited, inColumn, Readable};
 
 // The sodium figure that means "not recorded".
 const UNRECORDED: usize = 65535;
@@ -59,7 +59,7 @@ fn limit_row(plan: &[u8], limit: usize, f: usize, place: usize, values: usize) -
 // The row of the values of a table's first variable whose rows hold value v of the second; it has `values` of them.
 // It is doubled in the same way. Value v stands in one byte of each row, so no other is read.
 fn table_column(plan: &[u8], words: usize, at: usize, v: usize, values: usize) -> usize
-    requires { ⌜ (words ≡ rowWords (now plan)) × (at ≤ length (now plan)) × (v < maxSize (now plan)) × (values ≤ maxValues) × (tableRowStart (now plan) at values ≤ length (now plan)) ⌝ }
+    requires { ⌜ (words ≡ rowWords (now plan)) × (v < maxSize (now plan)) × (values ≤ maxValues) × (tableRowStart (now plan) at values ≤ length (now plan)) ⌝ }
     ensures { λ r. ⌜ r ≡ rowOf values (inColumn (now (plan .entry)) at v) ⌝ }
 {
     let part = WORD_BYTES * words - 1 - v / 8;
@@ -102,7 +102,7 @@ pub fn constraint_row(
     there: usize,
     values: usize,
 ) -> usize
-    requires { ⌜ (at ≤ length (now plan)) × (v < maxSize (now plan)) × (valuesEnd here (suc v) ≤ length (now plan)) × (values ≤ maxValues) × (valuesEnd there values ≤ length (now plan)) × (kindAt (now plan) at ≡ 0 → leads ≡ false → tableRowStart (now plan) at values ≤ length (now plan)) ⌝ }
+    requires { ⌜ Readable (now plan) at leads here v there values ⌝ }
     ensures { λ r. ⌜ ((w : ℕ) → w < values → bit r w ≡ permitsFrom (now (plan .entry)) at leads here v there w) ⌝ }
 {
     if constraint::kind(plan, at) != 0 {

@@ -45,8 +45,8 @@ fn lose_values(cells: &mut [u16], i: usize, x: usize, losing: usize, row: usize)
     }
 }
 
-// Their counters against y. Which half of its cells a counter has hangs on the order of the two variables: the compiler makes
-// more of the loop where it knows it, so it is told.
+// The same, with the row of their counters against y looked up. Both branches say the same: which half of its cells that row has
+// hangs on the order of x and y, and the compiler makes more of the loop where it knows the half.
 fn lose_against(cells: &mut [u16], i: usize, x: usize, y: usize, losing: usize)
     requires { ⌜ (workNeed ≤ length (now cells)) × (i < maxWorkers) × (x < maxVariables) × (y < maxVariables) × Numbered (memOf (now cells)) x y × (losing < 2 ^ VALUEROOM) ⌝ }
     ensures { λ _. ⌜ ((n : ℕ) → losing < 2 ^ n → memOf (now (cells .exit)) ≡ loseRowM n i x y losing (memOf (now (cells .entry)))) ⌝ }

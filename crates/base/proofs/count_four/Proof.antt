@@ -1,5 +1,5 @@
 -- `base::count_four` looks up how many values a row of four has. Assumes nothing.
-use Prim.Native.Nat.{ℕ, _*_, _/_, _%_, _^_, _<_}
+use Prim.Native.Nat.{ℕ, _*_, _/_, _%_, _^_}
 use mathlib.Core.Bool.{true}
 use mathlib.Core.Path.{_≡_, refl}
 use native.Mathlib.Omega.{arith}
@@ -18,11 +18,11 @@ mul-result c = search needs
 shr-result : tie.Need-shr-result
 shr-result c = search needs
 
--- what the table has for a row of four
+-- what `OF_FOUR` (src/lib.rt) has for row `k`
 abbrev looked-up : ℕ → ℕ
 looked-up k = 0x4332322132212110 / 2 ^ (4 * k) % 16
 
--- it is the row's count
+-- it is that row's count
 looked-up-counts : allBelow 16 (λ k. eqb (looked-up k) (rowCount 4 k)) ≡ true
 unfolding rowCount rowCountIn withoutLowest
 looked-up-counts = refl

@@ -1,6 +1,6 @@
--- `base::row_count` counts the four lowest values of the rest of a row and takes them off, until none is left. Invariant: at any
--- width that the row fits, what is counted and the count of the rest make the row's count. The rest falls. Assumes nothing.
-use Prim.Native.Nat.{ℕ, _+_, _/_, _%_, _^_, _<_, _≤_}
+-- `base::row_count` counts the values 0 to 3 of the rest of a row and moves the others down by four, until none is left. Invariant:
+-- at any width that the row fits, what is counted and the count of the rest make the row's count. The rest falls. Assumes nothing.
+use Prim.Native.Nat.{ℕ, _+_, _/_, _^_, _<_, _≤_}
 use mathlib.Core.Path.{_≡_, ap}
 use native.Mathlib.Omega.{arith}
 use borrow.Author.Needs.{needs}
@@ -22,7 +22,7 @@ loop-holds c = (omega arith, λ width h. omega arith)
 count-four-requires : tie.Need-count-four-requires Inv-loop μ-loop
 count-four-requires c κs = search needs
 
--- the row before the loop, its rest, and what is counted of that
+-- when the values 0 to 3 of the rest are counted too: with the count of the others they make the row's count
 module _ (c : tie.After-count-four Inv-loop μ-loop) where
   abbrev loop-of : tie.At-loop Inv-loop μ-loop
   loop-of = c .before .before

@@ -24,12 +24,12 @@ limit-requires c κs = search needs
 figure-requires : tie.Need-figure-requires
 figure-requires c κs =
     let start : tie.Start = search in
-    start .pre .2
+    start .pre .value-inside
 
 limit-row-requires : tie.Need-limit-row-requires
 limit-row-requires c κs =
     let start : tie.Start = search in
-    (start .pre .4, start .pre .3, c .before .limit .ensures .1)
+    (start .pre .values-inside, start .pre .few, c .before .limit .ensures .1)
 
 returns : tie.Need-returns
 returns c w h =
@@ -52,11 +52,11 @@ module _ (c : tie.After-row-words) where
   abbrev plan-of : List ℕ
   plan-of = now (start-of .args .plan)
 
-  of-kind : kindAt plan-of (start-of .args .at) ≡ 0
-  of-kind = sym (c .before .before .kind .ensures .0) ∙ c .before .if1 .left
+  kind-zero : kindAt plan-of (start-of .args .at) ≡ 0
+  kind-zero = sym (c .before .before .kind .ensures .0) ∙ c .before .if1 .left
 
   is-table : eqb (kindAt plan-of (start-of .args .at)) 0 ≡ true
-  is-table = eq-eqb (kindAt plan-of (start-of .args .at)) 0 of-kind
+  is-table = eq-eqb (kindAt plan-of (start-of .args .at)) 0 kind-zero
 
   held : (r : ℕ)
       → ((w : ℕ) → w < start-of .args .values
@@ -71,7 +71,7 @@ module _ (c : tie.After-row-words) where
 table-values-requires : tie.Need-table-values-requires
 table-values-requires c κs =
     let start = start-of (c .before) in
-    (sym (c .if2 .taken) ∙ c .before .row-words .ensures .0, start .pre .0, start .pre .1, start .pre .3, start .pre .5 (of-kind (c .before)))
+    (sym (c .if2 .taken) ∙ c .before .row-words .ensures .0, start .pre .section, start .pre .in-row, start .pre .few, start .pre .rows-inside (kind-zero (c .before)))
 
 returns-2 : tie.Need-returns-2
 returns-2 c = held (c .before .before) (c .table-values .result) (c .table-values .ensures)
@@ -79,7 +79,7 @@ returns-2 c = held (c .before .before) (c .table-values .result) (c .table-value
 table-values-requires-2 : tie.Need-table-values-requires-2
 table-values-requires-2 c κs =
     let start = start-of (c .before) in
-    (omega (arith, c .if2 .left, c .before .row-words .ensures), start .pre .0, start .pre .1, start .pre .3, start .pre .5 (of-kind (c .before)))
+    (omega (arith, c .if2 .left, c .before .row-words .ensures), start .pre .section, start .pre .in-row, start .pre .few, start .pre .rows-inside (kind-zero (c .before)))
 
 returns-3 : tie.Need-returns-3
 returns-3 c = held (c .before .before) (c .table-values2 .result) (c .table-values2 .ensures)

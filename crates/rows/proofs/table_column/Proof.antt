@@ -50,7 +50,7 @@ mul-row : tie.Need-mul-row Inv-loop μ-loop
 mul-row c =
     let l = c .before in
     let s = l .before .before in
-    omega (arith, upper-small (permitted s) (s .args .values) (l .loop .row) (l .loop .w) (s .pre .3) (l .loop .inv))
+    omega (arith, upper-small (permitted s) (s .args .values) (l .loop .row) (l .loop .w) (s .pre .2) (l .loop .inv))
 
 table-byte-requires : tie.Need-table-byte-requires Inv-loop μ-loop
 table-byte-requires c κs =
@@ -59,10 +59,9 @@ table-byte-requires c κs =
     let rows : rowBytes plan * suc (c .before .loop .w - 1) ≤ rowBytes plan * start .args .values =
     mul-le-mul-left (rowBytes plan) (omega (arith, c .before .loop .inv .low, c .loop-test .taken)) in (
       start .pre .0,
-      start .pre .1,
-      omega (arith, start .pre .3, c .before .loop .inv .low),
-      omega (arith, start .pre .0, start .pre .2, words-range plan),
-      omega (arith, rows, start .pre .4),
+      omega (arith, start .pre .2, c .before .loop .inv .low),
+      omega (arith, start .pre .0, start .pre .1, words-range plan),
+      omega (arith, rows, start .pre .3),
     )
 
 row-holds-requires : tie.Need-row-holds-requires Inv-loop μ-loop
@@ -92,12 +91,12 @@ module _ (c : tie.After-row-if Inv-loop μ-loop) where
       ∙ ap (λ (r : ℕ). bit r (start-of .args .v % 8)) (c .before .before .table-byte .ensures .0)
       ∙ ap (λ (n : ℕ). bit (tableByteAt (now (start-of .args .plan)) (start-of .args .at) (loop-of .loop .w - 1) (wordBytes * n - 1 - start-of .args .v / 8)) (start-of .args .v % 8)) (start-of .pre .0)
       ∙ column-byte (now (start-of .args .plan)) (λ i. loop-of .before .shared-slice-known .given i .fits) (start-of .args .at) (start-of .args .v)
-      (start-of .pre .2) (loop-of .loop .w - 1)))
+      (start-of .pre .1) (loop-of .loop .w - 1)))
 
 add-row : tie.Need-add-row Inv-loop μ-loop
 add-row c =
     let s = start-of c in
-    omega (arith, upper-small (permitted s) (s .args .values) _ _ (s .pre .3) (more c))
+    omega (arith, upper-small (permitted s) (s .args .values) _ _ (s .pre .2) (more c))
 
 loop-less : tie.Need-loop-less Inv-loop μ-loop
 loop-less c = omega (arith, c .before .before .before .loop-test .taken)

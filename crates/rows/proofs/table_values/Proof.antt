@@ -2,7 +2,6 @@
 use Prim.Native.Nat.{ℕ}
 use mathlib.Core.Path.{ap}
 use native.Mathlib.Omega.{arith}
-use borrow.Author.Needs.{needs}
 use denote.Ref.{now}
 use Rattle.base.proofs.Row.{row-held}
 use Rattle.base.specs.Row.{bit}
@@ -22,7 +21,7 @@ returns c w h = rw (c .before .if1 .taken) (ap (λ (r : ℕ). bit r w) (c .table
 table-column-requires : tie.Need-table-column-requires
 table-column-requires c κs =
     let start : tie.Start = search in
-    (start .pre .0, start .pre .1, start .pre .2, start .pre .3, start .pre .4 (c .if1 .left))
+    (start .pre .0, start .pre .2, start .pre .3, start .pre .4 (c .if1 .left))
 
 returns-2 : tie.Need-returns-2
 returns-2 c w h =

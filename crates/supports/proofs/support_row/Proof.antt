@@ -168,21 +168,21 @@ constraint-row-requires c κs =
     let label = start-of (loop-of c) .pre .1 in
     let here = here-placed (loop-of c) in
     let there = there-placed (loop-of c) in
-    let size = sized (loop-of c) .size .ensures .0 in (
-      at-placed c .within,
-      label-in-row b sound (x c) (v c) label,
-      omega (arith, here .start, label .value, values-inside b sound (x c) (label .variable)),
-      sized (loop-of c) .size .ensures .1,
-      omega (arith, there .start, size, values-inside b sound (y c) (inside (start-of (loop-of c)))),
-      λ k l.
+    let size = sized (loop-of c) .size .ensures .0 in record {
+      section = at-placed c .within;
+      in-row = label-in-row b sound (x c) (v c) label;
+      few = sized (loop-of c) .size .ensures .1;
+      value-inside = omega (arith, here .start, label .value, values-inside b sound (x c) (label .variable));
+      values-inside = omega (arith, there .start, size, values-inside b sound (y c) (inside (start-of (loop-of c))));
+      rows-inside = λ k l.
           omega (
             arith,
             at-placed c .start,
             ap (λ (n : ℕ). rowBytes b * n) size,
             column-inside b sound (loop-of c .loop .next - 1) (left c .along .low) (x c) (y c) (at-over c) (ltb-false (x c) (y c) l)
                 (ap (kindAt b) (sym (at-placed c .start)) ∙ k),
-          ),
-    )
+          );
+    }
 
 sub-get : tie.Need-sub-get Inv-loop μ-loop
 sub-get c = omega (arith, left (c .before) .along)

@@ -37,6 +37,10 @@ row-if-requires c κs = omega arith
 abbrev test : tie.At-loop Inv-loop μ-loop → ℕ → Bool
 test l w = let a = l .before .before .args in eqb (memOf (now (a .cells)) (a .g .id) (a .i) w) (a .c)
 
+-- a row of so many values fits
+fits : (l : tie.At-loop Inv-loop μ-loop) (n : ℕ) → n ≤ VALUEROOM → rowOf n (test l) < 2 ^ VALUEROOM
+fits l n h = row-low VALUEROOM n (test l) h
+
 -- after a value: its place in the row
 module _ (c : tie.After-row-if Inv-loop μ-loop) where
   abbrev loop-of : tie.At-loop Inv-loop μ-loop
@@ -48,14 +52,14 @@ module _ (c : tie.After-row-if Inv-loop μ-loop) where
       (c .row-if .ensures
       ∙ ap (λ (k : ℕ). cond (eqb k (loop-of .before .before .args .c)) (2 ^ loop-of .loop .v) 0) (c .before .get .ensures .0))
 
-  fits : rowOf (loop-of .loop .v + 1) (test loop-of) < 2 ^ VALUEROOM
-  fits = row-low VALUEROOM (loop-of .loop .v + 1) (test loop-of) (omega arith)
+  short : loop-of .loop .row + c .row-if .result < 2 ^ VALUEROOM
+  short = omega (arith, longer, fits loop-of (loop-of .loop .v + 1) (omega arith))
 
 cast-row : tie.Need-cast-row Inv-loop μ-loop
-cast-row c = omega (arith, longer c, fits c)
+cast-row c = omega (arith, short c)
 
 add-row : tie.Need-add-row Inv-loop μ-loop
-add-row c = omega (arith, longer c, fits c)
+add-row c = omega (arith, short c)
 
 add-v : tie.Need-add-v Inv-loop μ-loop
 add-v c = omega arith
@@ -67,7 +71,7 @@ loop-again : tie.Need-loop-again Inv-loop μ-loop
 loop-again c = (omega arith, longer c)
 
 cast-result : tie.Need-cast-result Inv-loop μ-loop
-cast-result c = omega (arith, c .before .loop .inv .1, row-low VALUEROOM (c .before .loop .v) (test (c .before)) (omega arith))
+cast-result c = omega (arith, c .before .loop .inv .1, fits (c .before) (c .before .loop .v) (omega arith))
 
 returns : tie.Need-returns Inv-loop μ-loop
 returns c =

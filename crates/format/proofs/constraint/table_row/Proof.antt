@@ -1,5 +1,5 @@
 -- `format::constraint::table_row` reads a table's row word after word. Invariant: the row is the number of the words read, and has
--- their bits; the words left fall. Assumes the plan's own number of words, a place within the bytes and a dish below 256.
+-- their bits; the words left fall. Assumes nothing.
 use Prim.Native.Nat.{ℕ, _+_, _-_, _*_, _^_, _<_, _≤_}
 use denote.Ref.{now}
 use mathlib.Core.Path.{_≡_, refl, _∙_, ap₂}

@@ -1,5 +1,4 @@
--- `format::constraint::table_row_start`: a table's rows are short. Assumes the plan's own number of words, a place within the bytes and
--- a dish below 256.
+-- `format::constraint::table_row_start`: a table's rows are short. Assumes nothing.
 use Prim.Native.Nat.{ℕ, _+_, _*_, _≤_}
 use denote.Ref.{now}
 use mathlib.Core.Path.{ap}
@@ -8,7 +7,8 @@ use borrow.Author.Needs.{needs}
 use Rattle.format.proofs.Widths.{words-range, rows-short}
 use Rattle.format.proofs.constraint.table_row_start.Statement.{statement}
 use Rattle.format.proofs.constraint.table_row_start.Tie as tie
-use Rattle.format.specs.Limits.{wordBytes, rowsRoom}
+use Rattle.format.specs.Format.{rowsRoom}
+use Rattle.format.specs.Limits.{wordBytes}
 
 add-result : tie.Need-add-result
 add-result c = search needs

@@ -1,5 +1,5 @@
 -- `format::lists::row_at` reads a variable's row cell after cell. Invariant: the row is the number of the words read, and has their
--- bits; the words left fall. Assumes few words and a variable below 256.
+-- bits; the words left fall. Assumes nothing.
 use Prim.Native.Nat.{ℕ, _+_, _-_, _*_, _^_, _<_, _≤_}
 use denote.Ref.{now}
 use mathlib.Core.Path.{_≡_, refl, sym, _∙_, ap, ap₂}

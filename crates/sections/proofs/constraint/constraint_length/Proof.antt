@@ -3,7 +3,7 @@ use Prim.Native.Nat.{_*_, _≤_}
 use borrow.Author.Tests.{eq-eqb, ne-eqb}
 use native.Mathlib.Omega.{arith}
 use Rattle.format.proofs.Widths.{rows-short}
-use Rattle.format.specs.Limits.{rowsRoom}
+use Rattle.format.specs.Format.{rowsRoom}
 use Rattle.plan.proofs.InOrder.{ordered}
 use Rattle.plan.specs.Check.{constraintLength}
 use borrow.Author.Needs.{needs}
