@@ -13,7 +13,8 @@
  *
  * docs/FORMAT.md has the bytes of a plan and of a turn list, what each turn does, the round and the sweeps. A plan of
  * version 1 has up to 16 dishes in a slot, one of version 2 up to 32; both are taken by every call. A sodium rule allows a
- * pair exactly if both figures are recorded (65,535 is "not recorded") and their sum is at most the rule's limit.
+ * pair exactly if both figures are recorded (65,535 is "not recorded") and their sum is at most the rule's limit. A set
+ * rule, of version 2, acts so on every two of its two to eight slots.
  *
  * Every call ends, whatever the bytes are. The library allocates nothing and keeps nothing between calls, so
  * calls may run at the same time, if none writes a buffer of another. It calls nothing of its caller's, and of other
@@ -81,16 +82,19 @@ enum {
  * In each section 1 comes first, then
  *   head  3, 4
  *   slot  3 (length under 2), 4 (its own count), 4 (more than 512 dishes with it), 3, 5, 6
- *   rule  3 (length under 3), 7 (kind), 5, 3, 7 (bits)
+ *   rule  3 (length under 3), 7 (kind), 5 (its first two slots); then
+ *           table or sodium rule  3, 7 (bits)
+ *           set rule  3 (length under 6), 4 (number of further slots), 3, 5 (a further slot)
+ *         and last 4 (more than 128 different pairs of slots with its own)
  */
 enum {
     TINSHREW_TRUNCATED = 1,      /* plan empty (place 0), or a section or its length is cut off (section start) */
     TINSHREW_BAD_VERSION = 2,    /* version byte is neither 1 nor 2 (0) */
     TINSHREW_BAD_LENGTH = 3,     /* a section's length is not the one its content calls for (section start) */
-    TINSHREW_BAD_COUNT = 4,      /* kitchens, slots, rules or dishes, of a slot or in all, out of range (section start) */
-    TINSHREW_BAD_NUMBER = 5,     /* kitchen or slot number out of range, or first slot not below second (section start) */
+    TINSHREW_BAD_COUNT = 4,      /* kitchens, slots, rules, dishes, further slots or pairs out of range (section start) */
+    TINSHREW_BAD_NUMBER = 5,     /* kitchen or slot number out of range, or slots of a rule not ascending (section start) */
     TINSHREW_REPEATED_CODE = 6,  /* a code stands twice in a slot (section start) */
-    TINSHREW_BAD_RULE = 7,       /* kind above 1, or a table bit at or past the second slot's count (section start) */
+    TINSHREW_BAD_RULE = 7,       /* unknown kind, or a table bit at or past the second slot's count (section start) */
     TINSHREW_TRAILING_BYTES = 8, /* bytes after the last section (first such byte) */
     TINSHREW_SHORT_WORK = 9,     /* fewer than TINSHREW_WORK_CELLS work cells (0) */
     TINSHREW_SHORT_LISTS = 10,   /* fewer than TINSHREW_LIST_CELLS cells in a list buffer (0) */

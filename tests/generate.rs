@@ -1,7 +1,12 @@
 // Random plans and turn lists, shared by the test program and the benchmark.
 
+pub mod sets;
+
+use std::collections::BTreeSet;
+
 use crate::reference::plan::{Constraint, Plan, Relation, Value, Variable, NOT_RECORDED};
 use crate::reference::run::Run;
+use crate::reference::scope::MOST_PAIRS;
 use crate::reference::state::Turn;
 use crate::reference::version::{Version, MOST_LABELS, ONE, TWO};
 use crate::rng::Rng;
@@ -117,33 +122,77 @@ fn limit(rng: &mut Rng, one: &Variable, other: &Variable, scale: u16) -> u16 {
     }
 }
 
+/// How the constraints of a plan are drawn.
+#[derive(Clone, Copy)]
+struct Manner {
+    /// Of 16 pairs of values, how many a table allows.
+    part: usize,
+    tables_only: bool,
+    /// Of 8 constraints, how many are set rules.
+    sets: usize,
+    scale: u16,
+}
+
+/// Two variables of a constraint.
+fn two_of(rng: &mut Rng, constraint: &Constraint) -> (usize, usize) {
+    match constraint.scope()[..] {
+        [first, second] => (first, second),
+        ref scope => {
+            let (first, second) = pair(rng, scope.len());
+            (scope[first - 1], scope[second - 1])
+        }
+    }
+}
+
+/// A constraint, sometimes over variables of the last one before it.
+fn random_constraint(
+    rng: &mut Rng,
+    variables: &[Variable],
+    last: Option<&Constraint>,
+    manner: Manner,
+) -> Constraint {
+    if manner.sets > 0 && rng.chance(manner.sets, 8) {
+        return sets::random_set(rng, variables, last, manner.scale);
+    }
+    let (first, second) = match last {
+        Some(last) if rng.chance(1, 6) => two_of(rng, last),
+        _ => pair(rng, variables.len()),
+    };
+    let (one, other) = (&variables[first - 1], &variables[second - 1]);
+    let relation = if manner.tables_only || rng.chance(1, 2) {
+        Relation::Table(table(rng, one.values.len(), other.values.len(), manner.part))
+    } else {
+        Relation::Sodium(limit(rng, one, other, manner.scale))
+    };
+    Constraint { first, second, relation }
+}
+
 fn random_constraints(
     rng: &mut Rng,
     variables: &[Variable],
-    most: usize,
+    size: Size,
     exactly: bool,
     scale: u16,
 ) -> Vec<Constraint> {
     let part = rng.between(2, 14);
     let count = match variables.len() {
         1 => 0,
-        _ if exactly => most,
-        _ => rng.between(0, most),
+        _ if exactly => size.constraints,
+        _ => rng.between(0, size.constraints),
     };
     let tables_only = rng.chance(1, 3);
+    // Half of the plans of version 2 have no set rule.
+    let sets = if size.version == TWO { rng.pick(&[0, 0, 2, 6]) } else { 0 };
+    let manner = Manner { part, tables_only, sets, scale };
     let mut constraints: Vec<Constraint> = Vec::new();
-    for _ in 0..count {
-        let (first, second) = match constraints.last() {
-            Some(last) if rng.chance(1, 6) => (last.first, last.second),
-            _ => pair(rng, variables.len()),
-        };
-        let (one, other) = (&variables[first - 1], &variables[second - 1]);
-        let relation = if tables_only || rng.chance(1, 2) {
-            Relation::Table(table(rng, one.values.len(), other.values.len(), part))
-        } else {
-            Relation::Sodium(limit(rng, one, other, scale))
-        };
-        constraints.push(Constraint { first, second, relation });
+    let mut touched = BTreeSet::new();
+    while constraints.len() < count {
+        let one = random_constraint(rng, variables, constraints.last(), manner);
+        let with_it = &touched | &one.pairs();
+        if with_it.len() <= MOST_PAIRS {
+            touched = with_it;
+            constraints.push(one);
+        }
     }
     constraints
 }
@@ -179,7 +228,7 @@ pub fn plan_of_counts(rng: &mut Rng, size: Size, counts: &[usize], exactly: bool
             variable(rng, owner, count, figures)
         })
         .collect();
-    let constraints = random_constraints(rng, &variables, size.constraints, exactly, scale);
+    let constraints = random_constraints(rng, &variables, size, exactly, scale);
     Plan { version: size.version, workers, variables, constraints }
 }
 

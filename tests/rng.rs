@@ -50,6 +50,13 @@ impl Rng {
         items[self.below(items.len())]
     }
 
+    /// Puts them in a random order.
+    pub fn shuffle<T>(&mut self, items: &mut [T]) {
+        for end in (2..=items.len()).rev() {
+            items.swap(end - 1, self.below(end));
+        }
+    }
+
     /// The place of one of the weights, each drawn as often as it weighs;
     /// nothing when all are 0.
     pub fn weighted(&mut self, weights: impl Iterator<Item = usize> + Clone) -> Option<usize> {

@@ -1,5 +1,6 @@
-// Times the library against the fast plain Rust implementation, and its
-// sweeps against its round run.
+// Times the library against the fast plain Rust implementation, its sweeps
+// against its round run, and set rules against the sodium rules that they stand
+// for.
 //
 //   bench          the library
 //   bench --self   the reference in the library's place
@@ -16,6 +17,7 @@ use std::process::exit;
 use std::time::{Duration, Instant};
 
 use tinshrew_tests::fast::{self, Sound};
+use tinshrew_tests::generate::sets::eight_in_two_ways;
 use tinshrew_tests::generate::{
     full_plan, full_ring, random_turns, scattered_plan, Size, FULL, FULL_IN_TWO,
 };
@@ -219,6 +221,41 @@ fn measure_sweeps(subject: &Subject, what: &str, plan: &[u8]) {
     print_times(&["sweeps", "round run"], &times);
 }
 
+fn check(subject: &Subject, plan: &[u8]) -> [usize; 5] {
+    let mut out = [usize::MAX; 5];
+    subject.check_plan(plan, &mut out);
+    out
+}
+
+/// Times a call on a plan with set rules, and on one with sodium rules.
+fn time_both(what: &str, [sets, pairs]: [&[u8]; 2], call: impl Fn(&[u8], &mut Buffers)) {
+    let times = time(
+        &mut Buffers::new(),
+        &mut [&mut |lent| call(black_box(sets), lent), &mut |lent| call(black_box(pairs), lent)],
+    );
+    println!("{what}");
+    print_times(&["set rules", "sodium rules"], &times);
+}
+
+/// How long set rules take against the sodium rules that they come to.
+fn measure_sets(subject: &Subject, plans: [&[u8]; 2]) {
+    let [number, place, ..] = check(subject, plans[0]);
+    if number != 0 {
+        println!("the set rules are declined with {number} at {place}");
+        return;
+    }
+    time_both("plan check", plans, |plan, _| {
+        black_box(check(subject, plan));
+    });
+    for (what, turns) in [("no turns", Some(&[][..])), ("round", None)] {
+        let given = plans.map(|plan| agree(subject, what, plan, turns, &mut Buffers::new()));
+        same(what, given[0], given[1]);
+        time_both(what, plans, |plan, lent| {
+            black_box(call(subject, plan, turns, lent));
+        });
+    }
+}
+
 /// The turns of a list that change something, by the reference.
 fn changing(plan: &[u8], turns: &[u8]) -> Vec<u8> {
     let mut run = Run::load(decode(plan).expect("an accepted plan"));
@@ -330,4 +367,7 @@ fn main() {
         );
         Inputs::new(&mut rng, size, part).measure(&subject);
     }
+    println!("version 2, 8 slots of 32 dishes: 128 set rules over all, or 28 sodium rules");
+    let [sets, pairs] = eight_in_two_ways(&mut rng).map(|plan| plan.encode());
+    measure_sets(&subject, [&sets, &pairs]);
 }

@@ -4,7 +4,8 @@
 use std::fmt::Debug;
 
 use tinshrew_tests::reference::worked::sweeps::{swept, PARTS};
-use tinshrew_tests::reference::worked::wide::{checks, runs, Run};
+use tinshrew_tests::reference::worked::wide::Run;
+use tinshrew_tests::reference::worked::{checks, runs};
 use tinshrew_tests::reference::{LIST_CELLS, WORK_CELLS};
 use tinshrew_tests::subject::{write_answer, Subject};
 

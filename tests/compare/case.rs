@@ -2,6 +2,7 @@
 // the reference's, and the file that repeats it.
 
 mod sweeps;
+mod written_out;
 
 use std::fmt::Write as _;
 use std::hint::black_box;
@@ -13,6 +14,8 @@ use tinshrew_tests::reference::worked::hex;
 use tinshrew_tests::reference::LIST_CELLS;
 use tinshrew_tests::rng::Rng;
 use tinshrew_tests::subject::{reference_answer, reference_check, write_answer, Subject};
+
+use written_out::Given;
 
 /// Cells and bytes on either side of what is lent. A wrong variant may write
 /// all list cells behind those that it was lent.
@@ -58,6 +61,8 @@ pub struct Tally {
     pub swept: usize,
     pub sweeps: usize,
     pub most_sweeps: usize,
+    /// Plans with set rules that were put with them written out, too.
+    pub written_out: usize,
 }
 
 impl Tally {
@@ -79,6 +84,7 @@ impl Tally {
         self.swept += other.swept;
         self.sweeps += other.sweeps;
         self.most_sweeps = self.most_sweeps.max(other.most_sweeps);
+        self.written_out += other.written_out;
     }
 
     fn add_run(&mut self, run: &Run, samples: usize) {
@@ -203,8 +209,23 @@ impl Claims {
 }
 
 impl Case {
-    /// Puts the case to the subject; the first difference is the error.
+    /// Puts the case to the subject; the first difference is the error. A plan
+    /// with set rules is put to it a second time, with them written out.
     pub fn run(&self, subject: &Subject) -> Result<Tally, String> {
+        let (mut tally, given) = self.play(subject)?;
+        if let Some(copy) = self.written_out() {
+            let told = |text: String| format!("set rules written out: {text}");
+            let (of_copy, given_for_copy) = copy.play(subject).map_err(told)?;
+            written_out::same(&given, &given_for_copy).map_err(told)?;
+            tally.add(&of_copy);
+            tally.written_out += 1;
+        }
+        Ok(tally)
+    }
+
+    /// What the subject gives in each run and in the sweeps, once it is seen to
+    /// be what the reference gives.
+    fn play(&self, subject: &Subject) -> Result<(Tally, Vec<Given>), String> {
         let mut rng = Rng::new(self.fill);
         let plan = around(&mut rng, &self.plan, &self.plan_after);
         let turns = around(&mut rng, &self.turns, &self.turns_after);
@@ -221,6 +242,7 @@ impl Case {
             sweep_lists,
             rng,
             tally: Tally::default(),
+            given: Vec::new(),
         };
         layout.check_plan()?;
         layout.run(Some(self.turns.len()))?;
@@ -239,7 +261,7 @@ impl Case {
         if layout.turns != turns {
             return Err("the turn list's bytes were changed".to_string());
         }
-        Ok(layout.tally)
+        Ok((layout.tally, layout.given))
     }
 
     pub fn to_text(&self) -> String {
@@ -317,6 +339,7 @@ struct Layout<'a> {
     sweep_lists: [Vec<u16>; 2],
     rng: Rng,
     tally: Tally,
+    given: Vec<Given>,
 }
 
 /// What a run must give: the answer, and all cells of both arenas.
@@ -380,7 +403,10 @@ impl Layout<'_> {
         same_cells("list", case.lists, &expected.lists, &lists)
             .and_then(|()| same_cells("work", case.work, &expected.work, &work))
             .map_err(|text| format!("{what}: {text}"))?;
-        Ok((expected.out[0] == 0).then(|| lists[within(case.lists)].to_vec()))
+        let listed = (expected.out[0] == 0).then(|| lists[within(case.lists)].to_vec());
+        let cells = [("list", lists), ("work", work)];
+        self.given.push(Given { what, out: expected.out.to_vec(), cells });
+        Ok(listed)
     }
 
     /// The reference's run, on which the claims are checked too.

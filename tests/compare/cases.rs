@@ -2,8 +2,10 @@
 // ones are fixed, the others are drawn.
 
 mod fixed;
+mod sets;
 
 use tinshrew_tests::fast::{FORMER_LISTS, FORMER_WORK};
+use tinshrew_tests::generate::sets::{plan_with_sets, random_set};
 use tinshrew_tests::generate::{
     chain_plan, full_plan, full_ring, guided_turns, plan_of_counts, random_plan, random_turns,
     ring_plan, round_like_turns, scattered_plan, Size, FULL, FULL_IN_TWO, MEDIUM, SMALL,
@@ -16,7 +18,7 @@ use tinshrew_tests::reference::{LIST_CELLS, WORK_CELLS};
 use tinshrew_tests::rng::Rng;
 
 use crate::case::Case;
-use crate::competing::{is_table, Draft, FAULTS};
+use crate::competing::{fault, Draft, FAULTS};
 
 /// As many cells as needed, and sometimes more.
 fn enough(rng: &mut Rng, needed: usize) -> usize {
@@ -40,7 +42,7 @@ fn case(kind: &str, rng: &mut Rng, plan: Vec<u8>, turns: Vec<u8>) -> Case {
 }
 
 /// The ordered pairs of faults.
-const PAIRS: usize = FAULTS.len() * FAULTS.len();
+const PAIRS: usize = FAULTS * FAULTS;
 
 /// Counts that are together as many labels as a plan may have: full variables,
 /// and a few small ones, mostly behind them.
@@ -59,8 +61,8 @@ fn all_labels(rng: &mut Rng) -> Vec<usize> {
     counts
 }
 
-/// A plan to be made wrong: it has tables and limits, and a variable of more
-/// than one value.
+/// A plan to be made wrong: it has constraints of every kind, and a variable of
+/// more than one value.
 fn sound_plan(rng: &mut Rng, version: Version) -> Plan {
     let size = Size { version, workers: 3, variables: 4, values: 5, constraints: 4 };
     loop {
@@ -71,8 +73,12 @@ fn sound_plan(rng: &mut Rng, version: Version) -> Plan {
             random_plan(rng, size, false)
         };
         plan.workers = plan.workers.min(7);
-        let tables = plan.constraints.iter().filter(|&one| is_table(one)).count();
-        if tables > 0 && tables < plan.constraints.len() && plan.counts().max() >= Some(2) {
+        let has = |kind| plan.constraints.iter().any(|one| one.kind() == kind);
+        if has(0) && has(1) && plan.counts().max() >= Some(2) {
+            if version == TWO {
+                let set = random_set(rng, &plan.variables, plan.constraints.last(), 1_000);
+                plan.constraints.insert(rng.below(plan.constraints.len() + 1), set);
+            }
             return plan;
         }
     }
@@ -80,12 +86,12 @@ fn sound_plan(rng: &mut Rng, version: Version) -> Plan {
 
 fn competing(rng: &mut Rng, version: Version, pair: usize, other_section: bool) -> Case {
     let plan = sound_plan(rng, version);
-    let mut draft = Draft::new(&plan, rng);
-    FAULTS[pair / FAULTS.len()].1(&mut draft, rng);
+    let mut draft = Draft::new(plan, rng);
+    fault(pair / FAULTS)(&mut draft, rng);
     if other_section {
         draft.move_on(rng);
     }
-    FAULTS[pair % FAULTS.len()].1(&mut draft, rng);
+    fault(pair % FAULTS)(&mut draft, rng);
     let (bytes, plan_after) = draft.encode();
     Case {
         plan_after,
@@ -112,6 +118,10 @@ const KINDS: &[(&str, usize, Draw)] = &[
     ("chain, guided turns", 200, played),
     ("chain, starving turns", 80, played),
     ("ring, guided turns", 60, played),
+    ("sets, guided turns", 400, played),
+    ("sets, starving turns", 150, played),
+    ("sets, round-like turns", 100, played),
+    ("sets, random turns", 50, played),
     ("large, guided turns", 250, played),
     ("large, round-like turns", 80, played),
     ("full, guided turns", 6, played),
@@ -120,6 +130,8 @@ const KINDS: &[(&str, usize, Draw)] = &[
     ("full chain, starving turns", 4, played),
     ("longest list", 10, longest_list),
     ("one byte changed", 1_000, some_byte_changed),
+    ("a constraint's byte changed", 300, sets::byte_changed),
+    ("pairs touched", 80, sets::some_touched),
     ("cut", 500, some_cut),
     ("extended", 300, some_extended),
     ("two faults", 900, some_faults),
@@ -188,6 +200,12 @@ fn ring(rng: &mut Rng) -> Plan {
     ring_plan(rng, Size { workers, variables, values, ..most })
 }
 
+/// A plan with set rules, of enough variables for the largest sets.
+fn with_sets(rng: &mut Rng) -> Plan {
+    let values = rng.pick(&[2, 5, 18, TWO.values]);
+    plan_with_sets(rng, Size { variables: 12, values, constraints: 10, ..MEDIUM })
+}
+
 fn full_chain(rng: &mut Rng) -> Plan {
     let size = full_of_either(rng);
     match rng.below(4) {
@@ -236,6 +254,7 @@ fn sort_of_plan(sort: &str, rng: &mut Rng) -> Plan {
         "medium" => up_to(rng, MEDIUM),
         "chain" => chain(rng),
         "ring" => ring(rng),
+        "sets" => with_sets(rng),
         "large" => {
             let version = rng.pick(&VERSIONS);
             random_plan(rng, Size { version, values: version.values, ..FULL }, false)
@@ -253,6 +272,7 @@ fn sort_of_plan(sort: &str, rng: &mut Rng) -> Plan {
 fn sort_of_turns(sort: &str, manner: &str, plan: &Plan, rng: &mut Rng) -> Vec<u8> {
     let most = match sort {
         "small" | "plan P" | "plan Q" => rng.between(1, 160),
+        "sets" => rng.between(1, 500),
         "medium" | "chain" | "ring" | "large" => rng.between(1, 1_500),
         "full" | "full chain" => rng.between(500, 12_000),
         other => panic!("no number of turns for {other}"),
@@ -286,17 +306,21 @@ fn longest_list(kind: &str, rng: &mut Rng) -> Case {
     Case { turns_after, ..case(kind, rng, plan.encode(), turns) }
 }
 
+fn changed(rng: &mut Rng, byte: u8) -> u8 {
+    match rng.below(5) {
+        0 => byte.wrapping_add(1),
+        1 => byte.wrapping_sub(1),
+        2 => byte ^ 1 << rng.below(8),
+        3 => rng.pick(&[0, 1, 2, 3, 16, 17, 32, 33, 255]),
+        _ => rng.byte(),
+    }
+}
+
 fn some_byte_changed(kind: &str, rng: &mut Rng) -> Case {
     let (plan, turns) = plan_and_turns(rng, 20);
     let mut bytes = plan.encode();
     let at = if rng.chance(1, 4) { rng.below(6) } else { rng.below(bytes.len()) };
-    bytes[at] = match rng.below(5) {
-        0 => bytes[at].wrapping_add(1),
-        1 => bytes[at].wrapping_sub(1),
-        2 => bytes[at] ^ 1 << rng.below(8),
-        3 => rng.pick(&[0, 1, 2, 3, 16, 17, 32, 33, 255]),
-        _ => rng.byte(),
-    };
+    bytes[at] = changed(rng, bytes[at]);
     case(kind, rng, bytes, turns)
 }
 

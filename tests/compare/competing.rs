@@ -1,15 +1,13 @@
 // Plans and calls with two faults at once, to see which one is declined.
 
+mod sets;
+
 use tinshrew_tests::fast::{FORMER_LISTS, FORMER_WORK};
 use tinshrew_tests::generate::random_turns;
-use tinshrew_tests::reference::plan::{Constraint, Plan, Relation};
+use tinshrew_tests::reference::plan::Plan;
 use tinshrew_tests::reference::version::Version;
 use tinshrew_tests::reference::{LIST_CELLS, WORK_CELLS};
 use tinshrew_tests::rng::Rng;
-
-pub fn is_table(constraint: &Constraint) -> bool {
-    matches!(constraint.relation, Relation::Table(_))
-}
 
 /// A section as it will stand in the file.
 #[derive(Clone, Debug)]
@@ -20,6 +18,10 @@ struct Raw {
 }
 
 impl Raw {
+    fn new(content: Vec<u8>) -> Raw {
+        Raw { length: None, content }
+    }
+
     fn set(&mut self, at: usize, byte: u8) {
         if let Some(cell) = self.content.get_mut(at) {
             *cell = byte;
@@ -39,8 +41,8 @@ impl Raw {
 /// A call to be made wrong.
 #[derive(Clone, Debug)]
 pub struct Draft {
-    /// The version that it was drawn in.
-    version: Version,
+    /// The plan that it was drawn from, with what was put in since.
+    plan: Plan,
     version_byte: u8,
     head: Raw,
     variables: Vec<Raw>,
@@ -51,10 +53,6 @@ pub struct Draft {
     emptied: bool,
     variable: usize,
     constraint: usize,
-    tables: Vec<usize>,
-    limits: Vec<usize>,
-    /// By constraint: how many values its second variable has.
-    columns: Vec<usize>,
     pub turns: Vec<u8>,
     pub work: usize,
     pub lists: usize,
@@ -65,8 +63,19 @@ type Spoil = fn(&mut Draft, &mut Rng);
 
 const SHORT_LISTS: &[usize] = &[0, 1, FORMER_LISTS, LIST_CELLS - 1];
 
-/// Every single fault.
-pub const FAULTS: &[(&str, Spoil)] = &[
+/// How many single faults there are.
+pub const FAULTS: usize = WITHOUT_SETS.len() + sets::FAULTS.len();
+
+/// The single fault of that number.
+pub fn fault(number: usize) -> Spoil {
+    match number.checked_sub(WITHOUT_SETS.len()) {
+        None => WITHOUT_SETS[number].1,
+        Some(number) => sets::FAULTS[number].1,
+    }
+}
+
+/// The faults that need no set rule.
+const WITHOUT_SETS: &[(&str, Spoil)] = &[
     ("9 work", |d, r| d.work = r.pick(&[0, 1, FORMER_WORK, WORK_CELLS - 1])),
     ("10 lists", |d, r| d.lists = r.pick(SHORT_LISTS)),
     ("10 first", |d, r| d.sweep_lists[0] = r.pick(SHORT_LISTS)),
@@ -120,9 +129,10 @@ pub const FAULTS: &[(&str, Spoil)] = &[
         let more: Vec<u8> = (0..r.between(1, 2)).map(|_| r.byte()).collect();
         d.constraint().content.extend(more);
     }),
-    ("3 other kind", |d, _| {
-        let kind = d.constraint().get(2);
-        d.constraint().set(2, kind ^ 1);
+    ("3 other kind", |d, r| {
+        let (kind, highest) = (d.constraint().get(2), d.plan.version.highest_kind);
+        let more = r.between(1, usize::from(highest)) as u8;
+        d.constraint().set(2, kind.wrapping_add(more) % (highest + 1));
     }),
     ("4 workers", |d, r| d.head.set(0, r.pick(&[0, 9, 255]))),
     ("4 variables", |d, r| d.head.set(1, r.pick(&[0, 33, 255]))),
@@ -136,7 +146,7 @@ pub const FAULTS: &[(&str, Spoil)] = &[
         d.refill(count);
     }),
     // In a plan that has all labels that it may have.
-    ("4 sum", |d, _| d.refill(d.version.values)),
+    ("4 sum", |d, _| d.refill(d.plan.version.values)),
     ("4 sum by one", |d, _| {
         let count = usize::from(d.variable().get(1));
         d.refill(count + 1);
@@ -172,15 +182,15 @@ pub const FAULTS: &[(&str, Spoil)] = &[
         }
     }),
     ("7 kind", |d, r| {
-        let kind = r.pick(&[2, 3, 128, 255]);
+        let kind = r.pick(&[2, 3, 128, 255]).max(d.plan.version.highest_kind + 1);
         d.constraint().set(2, kind);
     }),
     ("7 bits", |d, r| {
-        if !d.tables.is_empty() && !d.tables.contains(&d.constraint) {
-            d.constraint = r.pick(&d.tables);
-        }
-        let Version { values, row_bytes, .. } = d.version;
-        let (columns, rows) = (d.columns[d.constraint], d.constraint().rows(row_bytes));
+        d.turn_to(r, 0);
+        let Version { values, row_bytes, .. } = d.plan.version;
+        let second = d.plan.constraints[d.constraint].second;
+        let columns = d.plan.variables[second - 1].values.len();
+        let rows = d.constraint().rows(row_bytes);
         if rows > 0 && columns < values {
             let between = r.between(columns, values - 1);
             let bit = r.pick(&[columns, between, values - 1]);
@@ -200,36 +210,24 @@ fn sections(plan: &[u8]) -> Vec<Raw> {
     let mut at = 1;
     while at < plan.len() {
         let end = at + 2 + usize::from(plan[at]) * 256 + usize::from(plan[at + 1]);
-        sections.push(Raw { length: None, content: plan[at + 2..end].to_vec() });
+        sections.push(Raw::new(plan[at + 2..end].to_vec()));
         at = end;
     }
     sections
 }
 
 impl Draft {
-    pub fn new(plan: &Plan, rng: &mut Rng) -> Draft {
+    pub fn new(plan: Plan, rng: &mut Rng) -> Draft {
         let mut sections = sections(&plan.encode());
         let constraints = sections.split_off(1 + plan.variables.len());
         let variables = sections.split_off(1);
-        let of_kind = |table: bool| -> Vec<usize> {
-            let numbered = plan.constraints.iter().enumerate();
-            numbered
-                .filter(|(_, constraint)| is_table(constraint) == table)
-                .map(|(number, _)| number)
-                .collect()
-        };
-        let columns = |one: &Constraint| plan.variables[one.second - 1].values.len();
         let count = rng.below(6);
         Draft {
-            version: plan.version,
             version_byte: plan.version.byte,
             head: sections.remove(0),
             // One of the last, at which the labels may come to their limit.
             variable: variables.len() - rng.between(1, variables.len().min(4)),
             constraint: rng.below(constraints.len()),
-            tables: of_kind(true),
-            limits: of_kind(false),
-            columns: plan.constraints.iter().map(columns).collect(),
             variables,
             constraints,
             tail: Vec::new(),
@@ -239,6 +237,7 @@ impl Draft {
             work: WORK_CELLS + rng.below(3),
             lists: LIST_CELLS + rng.below(3),
             sweep_lists: [LIST_CELLS + rng.below(3), LIST_CELLS + rng.below(3)],
+            plan,
         }
     }
 
@@ -252,7 +251,7 @@ impl Draft {
 
     /// A count that no variable of this version has.
     fn count_above(&self, rng: &mut Rng) -> usize {
-        let most = self.version.values;
+        let most = self.plan.version.values;
         rng.pick(&[most + 1, most + 2, 2 * most, 255])
     }
 
@@ -263,14 +262,21 @@ impl Draft {
         self.variable().content = [owner, count as u8].into_iter().chain(values).collect();
     }
 
+    /// Turns to a constraint that was of this kind, if there was one.
+    fn turn_to(&mut self, rng: &mut Rng, kind: u8) {
+        let was = |at: usize| self.plan.constraints[at].kind() == kind;
+        let all: Vec<usize> = (0..self.constraints.len()).filter(|&at| was(at)).collect();
+        if !all.is_empty() && !all.contains(&self.constraint) {
+            self.constraint = rng.pick(&all);
+        }
+    }
+
     /// Turns to other sections for the next fault.
     pub fn move_on(&mut self, rng: &mut Rng) {
         self.variable = rng.below(self.variables.len());
-        self.constraint = match rng.below(3) {
-            0 if !self.tables.is_empty() => rng.pick(&self.tables),
-            1 if !self.limits.is_empty() => rng.pick(&self.limits),
-            _ => rng.below(self.constraints.len()),
-        };
+        self.constraint = rng.below(self.constraints.len());
+        let kind = rng.below(4) as u8;
+        self.turn_to(rng, kind);
     }
 
     /// The file's bytes, and the bytes that were cut off.

@@ -1,5 +1,6 @@
-// Compares the library with the reference through the C interface, and some of
-// its answers with what was worked out by hand.
+// Compares the library with the reference through the C interface, plans with
+// set rules also with their copies that have them written out, and some of its
+// answers with what was worked out by hand.
 //
 //   compare [cases] [seed]     the library, 100,000 cases and seed 1 by default
 //   compare --self             the reference in the library's place
@@ -227,6 +228,7 @@ fn print_totals(totals: &Totals) {
         t.earlier_replies, t.late_replies, t.samples
     );
     println!("sweeps: {} on {} plans, at most {}", t.sweeps, t.swept, t.most_sweeps);
+    println!("plans that gave the same with their set rules written out: {}", t.written_out);
 }
 
 fn usage() -> ! {

@@ -49,7 +49,16 @@ faults! {
     Wraps LimitExcluded HighestLimitIsNone UnrecordedAllowed UnrecordedSummed
     FirstUnrecordedSummed SecondUnrecordedSummed UnrecordedIsZero ZeroUnrecorded
     UnrecordedAlwaysDeleted NoneRecordedUntied NothingAllowedUntied
-    EitherConstraint LastConstraintOnly OneWay
+    EitherConstraint LastConstraintOnly OneWay LatestLimit HighestLimit
+    // Set rules.
+    SetInOne SetUnknown KindThree SetLengthFirst FurtherAfterLength Further5
+    Further7 FurtherRepeats FurtherFromZero FurtherBeyond
+    SetNeighbours SetFromFirst SetFirstTwo SetLastUnjudged SetSkipsEmpty
+    SetSumsAll SetsCountedOut
+    // The pairs that constraints touch.
+    Pairs127 Pairs129 PairsUntested SinglePairsUntested PairsOfSetsUntested
+    PairsCountedTwice PairsAtHead PairsAtEnd PairsBeforeLength PairsBeforeBits
+    PairsWhileReading
     // Loading and deletions.
     CountAfterDeletions NoDeletionAtLoading AllAtLoading OwnDeletionUntreated
     UnlistedLoses DeletedAtOne Descending NewestFirst

@@ -5,8 +5,11 @@
 
 mod cells;
 pub mod fault;
+mod limit;
+mod pairs;
 mod plan;
 mod row;
+mod set;
 mod sweeps;
 
 use std::collections::VecDeque;

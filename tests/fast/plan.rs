@@ -1,7 +1,10 @@
 // A plan as rows of supports, each a bit mask.
 
 use super::fault::{Fault, Faults};
+use super::limit::{limit_on, sodium_rows};
+use super::pairs::Pairs;
 use super::row::{Row, HALF, LOW_HALF, WIDEST};
+use super::set::{decode_set, judged};
 use super::{below, Declined, MAX};
 
 /// The most labels of a plan.
@@ -41,13 +44,13 @@ pub struct Net<R> {
     pub own: [u32; 9],
     /// By label and other variable: the values that support it.
     pub rows: Vec<[R; MAX]>,
-    /// Each constraint by itself, for the wrong variant that looks at one
-    /// after the other.
+    /// Each table and each limit by itself, for the wrong variant that looks
+    /// at one after the other.
     pub single: Vec<(usize, usize, [R; WIDEST])>,
 }
 
 /// The sodium figure of each label.
-type Sodium = [u16; MAX * WIDEST];
+pub type Sodium = [u16; MAX * WIDEST];
 
 impl<R: Row> Net<R> {
     fn new(p: usize, n: usize, constraints: usize) -> Net<R> {
@@ -72,7 +75,7 @@ impl<R: Row> Net<R> {
         self.size[..self.n].iter().map(|&size| usize::from(size)).sum()
     }
 
-    fn size(&self, s: usize) -> usize {
+    pub fn size(&self, s: usize) -> usize {
         usize::from(self.size[s])
     }
 
@@ -121,6 +124,30 @@ impl<R: Row> Net<R> {
         }
     }
 
+    /// Ties two variables by what a constraint, or the limits on them, allow.
+    fn tie_by<F: Faults>(&mut self, f: F, a: usize, b: usize, rows: &[R; WIDEST]) {
+        if f.has(Fault::NothingAllowedUntied) && rows.iter().all(|&row| row.into() == 0) {
+            return;
+        }
+        self.tie(f, a, b, rows);
+        if f.has(Fault::SupportsByConstraint) {
+            self.single.push((a, b, *rows));
+        }
+    }
+
+    /// Ties the variables that have a limit.
+    fn tie_by_limits<F: Faults>(&mut self, f: F, pairs: &Pairs, sodium: &Sodium) {
+        for (a, b, limit) in pairs.limits() {
+            let none_recorded =
+                |s| (0..self.size(s)).all(|d| sodium[R::VALUES * s + d] == u16::MAX);
+            if f.has(Fault::NoneRecordedUntied) && (none_recorded(a) || none_recorded(b)) {
+                continue;
+            }
+            let rows = sodium_rows(f, limit, self, sodium, a, b);
+            self.tie_by(f, a, b, &rows);
+        }
+    }
+
     /// Ties variables to themselves, as no sound variant does: a value with a
     /// figure supports itself, one without has no support.
     fn tie_to_themselves(&mut self, sodium: &Sodium) {
@@ -146,7 +173,7 @@ fn both<F: Faults, R: Row>(f: F, earlier: R, later: R) -> R {
     }
 }
 
-fn word(bytes: &[u8], at: usize) -> u16 {
+pub fn word(bytes: &[u8], at: usize) -> u16 {
     u16::from(bytes[at]) << 8 | u16::from(bytes[at + 1])
 }
 
@@ -202,11 +229,16 @@ fn decode_sections<F: Faults, R: Row>(f: F, bytes: &[u8]) -> Result<Net<R>, Decl
         net.add_variable(f, s, body, &mut sodium);
         start += 2 + body.len();
     }
-    for _ in 0..constraints {
+    let mut pairs = Pairs::new();
+    for c in 0..constraints {
         let body = section(f, bytes, start)?;
-        decode_constraint(f, body, start, &mut net, &sodium)?;
+        decode_constraint(f, body, start, &mut net, &sodium, &mut pairs)?;
+        if f.has(Fault::PairsAtEnd) && c + 1 == constraints && pairs.too_many(f) {
+            return Err((4, start));
+        }
         start += 2 + body.len();
     }
+    net.tie_by_limits(f, &pairs, &sodium);
     if f.has(Fault::UnrecordedAlwaysDeleted) {
         net.tie_to_themselves(&sodium);
     }
@@ -318,35 +350,49 @@ fn repeats(body: &[u8], size: usize) -> bool {
     (1..size).any(|d| (0..d).any(|e| word(body, 2 + 4 * d) == word(body, 2 + 4 * e)))
 }
 
+/// Takes a constraint from its section. A table ties its variables at once; a
+/// limit is kept, since of those on a pair only the lowest acts.
 fn decode_constraint<F: Faults, R: Row>(
     f: F,
     body: &[u8],
     start: usize,
     net: &mut Net<R>,
     sodium: &Sodium,
+    pairs: &mut Pairs,
 ) -> Result<(), Declined> {
-    let (a, b) = decode_scope(f, body, start, net)?;
-    let rows = if body[2] == 0 {
-        table_rows(f, body, start, net, a, b)?
-    } else {
-        let none_recorded = |s| (0..net.size(s)).all(|d| sodium[R::VALUES * s + d] == u16::MAX);
-        if f.has(Fault::NoneRecordedUntied) && (none_recorded(a) || none_recorded(b)) {
-            return Ok(());
+    let (a, b) = decode_first_two(f, body, start, net)?;
+    let both = 1 << a | 1 << b;
+    match body[2] {
+        0 => {
+            let length = 3 + row_bytes::<F, R>(f) * net.size(a);
+            check_length(f, body, start, length, both, pairs)?;
+            let rows = table_rows(f, body, start, net, a, b)?;
+            pairs.touch(f, both, start)?;
+            net.tie_by(f, a, b, &rows);
         }
-        sodium_rows(f, word(body, 3), net, sodium, a, b)
-    };
-    if f.has(Fault::NothingAllowedUntied) && rows.iter().all(|&row| row.into() == 0) {
-        return Ok(());
-    }
-    net.tie(f, a, b, &rows);
-    if f.has(Fault::SupportsByConstraint) {
-        net.single.push((a, b, rows));
+        1 => {
+            check_length(f, body, start, 5, both, pairs)?;
+            pairs.touch(f, both, start)?;
+            pairs.limit(f, both, |_, _| word(body, 3));
+        }
+        _ => {
+            let scope = decode_set(f, body, start, net.n, pairs)?;
+            pairs.touch(f, scope, start)?;
+            let limit = |a: usize, b: usize| {
+                limit_on(f, word(body, 3), net, sodium, scope & !(1 << a | 1 << b))
+            };
+            pairs.limit(f, judged(f, net, scope), limit);
+            if f.has(Fault::SetsCountedOut) {
+                let count = scope.count_ones() as usize;
+                net.constraints += count * (count - 1) / 2 - 1;
+            }
+        }
     }
     Ok(())
 }
 
-/// The two variables of a constraint, once its kind and length are right.
-fn decode_scope<F: Faults, R: Row>(
+/// The first two variables of a constraint, once its kind is right.
+fn decode_first_two<F: Faults, R: Row>(
     f: F,
     body: &[u8],
     start: usize,
@@ -363,17 +409,50 @@ fn decode_scope<F: Faults, R: Row>(
     if f.has(Fault::VariablesBeforeKind) && outside {
         return Err((5, start));
     }
-    if kind > 1 {
+    if kind > highest_kind::<F, R>(f) {
         return Err((7, start));
+    }
+    if f.has(Fault::SetLengthFirst) && kind == 2 && body.len() < 6 {
+        return Err((3, start));
     }
     if outside {
         return Err((5, start));
     }
-    let (a, b) = (first - 1, second - 1);
-    if body.len() != if kind == 1 { 5 } else { 3 + row_bytes::<F, R>(f) * net.size(a) } {
+    Ok((first - 1, second - 1))
+}
+
+/// The highest kind of a constraint.
+fn highest_kind<F: Faults, R: Row>(f: F) -> u8 {
+    if f.has(Fault::SetInOne) {
+        u32::HIGHEST_KIND
+    } else if f.has(Fault::SetUnknown) {
+        u16::HIGHEST_KIND
+    } else {
+        let three = f.has(Fault::KindThree) && R::VERSION == u32::VERSION;
+        R::HIGHEST_KIND + u8::from(three)
+    }
+}
+
+/// Declines a constraint over these two variables that has not this length.
+fn check_length<F: Faults>(
+    f: F,
+    body: &[u8],
+    start: usize,
+    length: usize,
+    both: u32,
+    pairs: &Pairs,
+) -> Result<(), Declined> {
+    let too_many = || pairs.too_many_with(f, both);
+    if f.has(Fault::PairsBeforeLength) && too_many() {
+        return Err((4, start));
+    }
+    if body.len() != length {
         return Err((3, start));
     }
-    Ok((a, b))
+    if f.has(Fault::PairsBeforeBits) && too_many() {
+        return Err((4, start));
+    }
+    Ok(())
 }
 
 /// Bytes of a table's row.
@@ -425,59 +504,4 @@ fn table_rows<F: Faults, R: Row>(
         *row = R::cut(read & full);
     }
     Ok(rows)
-}
-
-/// The rows that a limit on two recorded figures together allows.
-fn sodium_rows<F: Faults, R: Row>(
-    f: F,
-    limit: u16,
-    net: &Net<R>,
-    sodium: &Sodium,
-    a: usize,
-    b: usize,
-) -> [R; WIDEST] {
-    let mut rows = [R::default(); WIDEST];
-    for (d, row) in rows.iter_mut().enumerate().take(net.size(a)) {
-        let mut allowed = 0;
-        for e in 0..net.size(b) {
-            if sodium_allows(f, sodium[R::VALUES * a + d], sodium[R::VALUES * b + e], limit) {
-                allowed |= 1 << e;
-            }
-        }
-        *row = R::cut(allowed);
-    }
-    rows
-}
-
-fn sodium_allows<F: Faults>(f: F, one: u16, other: u16, limit: u16) -> bool {
-    if unrecorded(f, one, Fault::FirstUnrecordedSummed)
-        || unrecorded(f, other, Fault::SecondUnrecordedSummed)
-    {
-        return f.has(Fault::UnrecordedAllowed);
-    }
-    if f.has(Fault::Wraps) {
-        return one.wrapping_add(other) <= limit;
-    }
-    let sum = summand(f, one) + summand(f, other);
-    if f.has(Fault::LimitExcluded) {
-        return sum < u32::from(limit);
-    }
-    sum <= u32::from(limit) || f.has(Fault::HighestLimitIsNone) && limit == u16::MAX
-}
-
-/// Whether a figure is taken for not recorded. With the fault `untested` none
-/// is.
-fn unrecorded<F: Faults>(f: F, figure: u16, untested: Fault) -> bool {
-    let tested = !f.has(Fault::UnrecordedSummed) && !f.has(Fault::UnrecordedIsZero);
-    tested
-        && !f.has(untested)
-        && (figure == u16::MAX || f.has(Fault::ZeroUnrecorded) && figure == 0)
-}
-
-/// What a figure adds to the sum.
-fn summand<F: Faults>(f: F, figure: u16) -> u32 {
-    if f.has(Fault::UnrecordedIsZero) && figure == u16::MAX {
-        return 0;
-    }
-    u32::from(figure)
 }

@@ -27,6 +27,8 @@ pub trait Row:
     const BYTES: usize = Self::VALUES / 8;
     /// List cells of a variable.
     const CELLS: usize = Self::VALUES / HALF;
+    /// The highest kind of a constraint.
+    const HIGHEST_KIND: u8;
 
     fn cut(row: u32) -> Self;
 }
@@ -34,6 +36,7 @@ pub trait Row:
 impl Row for u16 {
     const VERSION: u8 = 1;
     const VALUES: usize = 16;
+    const HIGHEST_KIND: u8 = 1;
 
     #[inline(always)]
     fn cut(row: u32) -> u16 {
@@ -44,6 +47,7 @@ impl Row for u16 {
 impl Row for u32 {
     const VERSION: u8 = 2;
     const VALUES: usize = WIDEST;
+    const HIGHEST_KIND: u8 = 2;
 
     #[inline(always)]
     fn cut(row: u32) -> u32 {

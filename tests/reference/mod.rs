@@ -7,6 +7,7 @@ pub mod largest;
 pub mod lists;
 pub mod plan;
 pub mod run;
+pub mod scope;
 pub mod state;
 pub mod sweep;
 pub mod trace;

@@ -1,6 +1,9 @@
 // The plan as bytes: every check in the document's order, and the relations
 // between variables (slots) that follow from the constraints (rules).
 
+use std::collections::BTreeSet;
+
+use super::scope::MOST_PAIRS;
 use super::version::{Version, MOST_LABELS};
 use super::{decline, Decline};
 
@@ -27,6 +30,9 @@ pub enum Relation {
     /// The limit of a sodium rule, which allows two recorded figures whose
     /// sum is at most that.
     Sodium(u16),
+    /// The limit of a set rule, which acts as a sodium rule on every two of
+    /// its variables; and those beside the first and the second, ascending.
+    Set { limit: u16, further: Vec<usize> },
 }
 
 /// Variables are numbered from 1, as in the document.
@@ -115,17 +121,17 @@ fn decode_constraint(
     let first = usize::from(content[0]);
     let second = usize::from(content[1]);
     let kind = content[2];
-    if kind > 1 {
+    if kind > version.highest_kind {
         return decline(7, start);
     }
     let in_range = 1..=variables.len();
     if !in_range.contains(&first) || !in_range.contains(&second) || first >= second {
         return decline(5, start);
     }
-    let relation = if kind == 1 {
-        decode_limit(content, start)?
-    } else {
-        decode_table(content, start, version, &variables[first - 1], &variables[second - 1])?
+    let relation = match kind {
+        0 => decode_table(content, start, version, &variables[first - 1], &variables[second - 1])?,
+        1 => decode_limit(content, start)?,
+        _ => decode_set(content, start, second, variables.len())?,
     };
     Ok(Constraint { first, second, relation })
 }
@@ -135,6 +141,35 @@ fn decode_limit(content: &[u8], start: usize) -> Result<Relation, Decline> {
         return decline(3, start);
     }
     Ok(Relation::Sodium(word(content, 3)))
+}
+
+/// `second` is its second variable, and the plan has so many variables.
+fn decode_set(
+    content: &[u8],
+    start: usize,
+    second: usize,
+    variables: usize,
+) -> Result<Relation, Decline> {
+    if content.len() < 6 {
+        return decline(3, start);
+    }
+    let limit = word(content, 3);
+    let count = usize::from(content[5]);
+    if count > 6 {
+        return decline(4, start);
+    }
+    if content.len() != 6 + count {
+        return decline(3, start);
+    }
+    let further: Vec<usize> = content[6..].iter().map(|&byte| usize::from(byte)).collect();
+    let mut before = second;
+    for &variable in &further {
+        if !(1..=variables).contains(&variable) || variable <= before {
+            return decline(5, start);
+        }
+        before = variable;
+    }
+    Ok(Relation::Set { limit, further })
 }
 
 fn decode_table(
@@ -195,9 +230,15 @@ pub fn decode(bytes: &[u8]) -> Result<Plan, Decline> {
     }
 
     let mut constraints = Vec::new();
+    let mut touched = BTreeSet::new();
     for _ in 0..constraint_count {
         let content = section(bytes, start)?;
-        constraints.push(decode_constraint(content, start, version, &variables)?);
+        let constraint = decode_constraint(content, start, version, &variables)?;
+        touched.extend(constraint.pairs());
+        if touched.len() > MOST_PAIRS {
+            return decline(4, start);
+        }
+        constraints.push(constraint);
         start += 2 + content.len();
     }
 
@@ -208,14 +249,14 @@ pub fn decode(bytes: &[u8]) -> Result<Plan, Decline> {
 }
 
 impl Constraint {
-    /// Whether this constraint allows value `a` of its first variable with
-    /// value `b` of its second.
-    fn allows(&self, plan: &Plan, a: usize, b: usize) -> bool {
+    /// Whether this constraint allows value `a` of one of its variables with
+    /// value `b` of another that comes after it.
+    fn allows(&self, plan: &Plan, (one, a): (usize, usize), (other, b): (usize, usize)) -> bool {
         match &self.relation {
             Relation::Table(rows) => rows[a] >> b & 1 == 1,
-            Relation::Sodium(limit) => {
-                let one = plan.variables[self.first - 1].values[a].sodium;
-                let other = plan.variables[self.second - 1].values[b].sodium;
+            Relation::Sodium(limit) | Relation::Set { limit, .. } => {
+                let one = plan.variables[one - 1].values[a].sodium;
+                let other = plan.variables[other - 1].values[b].sodium;
                 one != NOT_RECORDED
                     && other != NOT_RECORDED
                     && u32::from(one) + u32::from(other) <= u32::from(*limit)
@@ -280,9 +321,8 @@ impl Variable {
 
 impl Constraint {
     /// The content of its section.
-    fn encode(&self, version: Version) -> Vec<u8> {
-        let kind = u8::from(matches!(self.relation, Relation::Sodium(_)));
-        let mut content = vec![self.first as u8, self.second as u8, kind];
+    pub fn encode(&self, version: Version) -> Vec<u8> {
+        let mut content = vec![self.first as u8, self.second as u8, self.kind()];
         match &self.relation {
             Relation::Table(rows) => {
                 for row in rows {
@@ -291,8 +331,21 @@ impl Constraint {
                 }
             }
             Relation::Sodium(limit) => content.extend_from_slice(&limit.to_be_bytes()),
+            Relation::Set { limit, further } => {
+                content.extend_from_slice(&limit.to_be_bytes());
+                content.push(further.len() as u8);
+                content.extend(further.iter().map(|&variable| variable as u8));
+            }
         }
         content
+    }
+
+    pub fn kind(&self) -> u8 {
+        match self.relation {
+            Relation::Table(_) => 0,
+            Relation::Sodium(_) => 1,
+            Relation::Set { .. } => 2,
+        }
     }
 }
 
@@ -314,7 +367,7 @@ impl Network {
                 let constraints: Vec<&Constraint> = plan
                     .constraints
                     .iter()
-                    .filter(|constraint| constraint.first == first && constraint.second == second)
+                    .filter(|constraint| constraint.is_over(first) && constraint.is_over(second))
                     .collect();
                 if constraints.is_empty() {
                     continue;
@@ -325,7 +378,8 @@ impl Network {
                 let mut backward = vec![vec![false; rows]; columns];
                 for a in 0..rows {
                     for b in 0..columns {
-                        let allowed = constraints.iter().all(|one| one.allows(plan, a, b));
+                        let allowed =
+                            constraints.iter().all(|one| one.allows(plan, (first, a), (second, b)));
                         forward[a][b] = allowed;
                         backward[b][a] = allowed;
                     }

@@ -13,10 +13,12 @@ pub struct Version {
     pub row_bytes: usize,
     /// List cells of a variable.
     pub cells: usize,
+    /// The highest kind of a constraint.
+    pub highest_kind: u8,
 }
 
-pub const ONE: Version = Version { byte: 1, values: 16, row_bytes: 2, cells: 1 };
-pub const TWO: Version = Version { byte: 2, values: 32, row_bytes: 4, cells: 2 };
+pub const ONE: Version = Version { byte: 1, values: 16, row_bytes: 2, cells: 1, highest_kind: 1 };
+pub const TWO: Version = Version { byte: 2, values: 32, row_bytes: 4, cells: 2, highest_kind: 2 };
 pub const VERSIONS: [Version; 2] = [ONE, TWO];
 
 impl Version {

@@ -1,6 +1,7 @@
 // The plans worked by hand, for the test program, and the reference's own
 // tests on them.
 
+pub mod sets;
 pub mod sweeps;
 pub mod wide;
 
@@ -167,6 +168,16 @@ fn same_constraints(count: usize) -> Vec<u8> {
     plan(1, vec![variable(1, &[(1, 1)]); 2], vec![sodium(1, 2, 2); count]).encode()
 }
 
+/// The runs worked by hand, without set rules and with them.
+pub fn runs() -> Vec<wide::Run> {
+    [wide::runs(), sets::runs()].concat()
+}
+
+/// The plan checks worked by hand, without set rules and with them.
+pub fn checks() -> Vec<(Vec<u8>, wide::Checked)> {
+    [wide::checks(), sets::checks()].concat()
+}
+
 /// The worked plans, each with a turn list: the documents' and more of their
 /// kind.
 pub fn worked() -> Vec<(Vec<u8>, Vec<u8>)> {
@@ -193,10 +204,10 @@ pub fn worked() -> Vec<(Vec<u8>, Vec<u8>)> {
     cases.push((half_supports(), vec![]));
     cases.push((three_differ(), vec![]));
     cases.extend(sweeps::swept().into_iter().map(|(plan, _)| (plan, vec![])));
-    for (plan, turns, _, _) in wide::runs() {
+    for (plan, turns, _, _) in runs() {
         cases.push((plan, turns.unwrap_or_default()));
     }
-    cases.extend(wide::checks().into_iter().map(|(plan, _)| (plan, t.clone())));
+    cases.extend(checks().into_iter().map(|(plan, _)| (plan, t.clone())));
     for count in [128, 129] {
         cases.push((same_constraints(count), vec![]));
     }
@@ -283,11 +294,19 @@ mod tests {
     }
 
     #[test]
-    fn wide_runs() {
-        for (plan, turns, [status, numbers @ ..], cells) in wide::runs() {
+    fn runs_are_as_worked() {
+        for (plan, turns, [status, numbers @ ..], cells) in runs() {
             let status = [Status::Open, Status::Closed, Status::Bare][status];
             let found = turns.map_or_else(|| round(&plan), |turns| play(&plan, &turns));
             assert_eq!(found, Ok((report(status, numbers), cells.to_vec())));
+        }
+    }
+
+    #[test]
+    fn checks_are_as_worked() {
+        for (plan, expected) in checks() {
+            let expected = expected.map_err(|(number, place)| declined(number, place));
+            assert_eq!(check_plan(&plan), expected, "{plan:02X?}");
         }
     }
 

@@ -34,8 +34,36 @@ static void put_wide(unsigned number) {
     put(number & 255);
 }
 
-/* As many kitchens, dishes and rules as there may be. A table allows a dish only those after it, so that dishes are struck
- * one after the other until no list has one. */
+/* A table over a slot and the next one, which allows a dish only those after it. */
+static void put_table(Shape shape, unsigned first) {
+    put_wide(3 + 2 * shape.version * shape.dishes);
+    put(first);
+    put(first + 1);
+    put(0);
+    for (unsigned d = 0; d < shape.dishes; d++) {
+        uint32_t row = (uint32_t)0xFFFFFFFE << d;
+        if (shape.version == 2) {
+            put_wide(row >> 16);
+        }
+        put_wide(row & 0xFFFF);
+    }
+}
+
+/* A set rule over a slot and the next seven, which allows every two dishes. */
+static void put_set(unsigned first) {
+    put_wide(12);
+    put(first);
+    put(first + 1);
+    put(2);
+    put_wide(65535);
+    put(6);
+    for (unsigned s = 2; s < 8; s++) {
+        put(first + s);
+    }
+}
+
+/* As many kitchens, dishes and rules as there may be. By the tables dishes are struck one after the other until no list has
+ * one. In version 2 every other rule is a set rule. */
 static void make_plan(Shape shape) {
     plan_len = 0;
     put(shape.version);
@@ -53,17 +81,10 @@ static void make_plan(Shape shape) {
         }
     }
     for (unsigned r = 0; r < RULES; r++) {
-        unsigned first = 1 + r % (shape.slots - 1);
-        put_wide(3 + 2 * shape.version * shape.dishes);
-        put(first);
-        put(first + 1);
-        put(0);
-        for (unsigned d = 0; d < shape.dishes; d++) {
-            uint32_t row = (uint32_t)0xFFFFFFFE << d;
-            if (shape.version == 2) {
-                put_wide(row >> 16);
-            }
-            put_wide(row & 0xFFFF);
+        if (shape.version == 2 && r % 2 == 1) {
+            put_set(1 + r % (shape.slots - 7));
+        } else {
+            put_table(shape, 1 + r % (shape.slots - 1));
         }
     }
 }

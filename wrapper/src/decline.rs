@@ -25,7 +25,7 @@ use std::fmt;
 /// assert_eq!(decline.section(&plan), Some(Section::Slot(2)));
 /// assert_eq!(
 ///     decline.to_string(),
-///     "declined 5: kitchen or slot number out of range, or first slot not below second, in the section at byte 10"
+///     "declined 5: kitchen or slot number out of range, or slots of a rule not ascending, in the section at byte 10"
 /// );
 /// ```
 #[derive(Clone, Copy, Debug, PartialEq, Eq)]
@@ -43,13 +43,14 @@ pub enum Decline {
         /// Byte at which the section starts.
         section_start: usize,
     },
-    /// 4: the number of kitchens, of slots, of rules or of a slot's dishes is out of range, or there are more than 512
-    /// dishes with this slot's.
+    /// 4: the number of kitchens, of slots, of rules, of a slot's dishes or of a set rule's further slots is out of
+    /// range; or there are more than 512 dishes with this slot's, or more than 128 different pairs of slots with this
+    /// rule's.
     BadCount {
         /// Byte at which the section starts.
         section_start: usize,
     },
-    /// 5: the number of a kitchen or of a slot is out of range, or a rule's first slot is not below its second.
+    /// 5: the number of a kitchen or of a slot is out of range, or a rule's slots are not strictly ascending.
     BadNumber {
         /// Byte at which the section starts.
         section_start: usize,
@@ -59,7 +60,8 @@ pub enum Decline {
         /// Byte at which the section starts.
         section_start: usize,
     },
-    /// 7: a rule's kind is above 1, or its table has a bit at or past the second slot's count of dishes.
+    /// 7: a rule's kind is above 1, in version 2 above 2, or its table has a bit at or past the second slot's count of
+    /// dishes.
     BadRule {
         /// Byte at which the section starts.
         section_start: usize,
@@ -180,17 +182,19 @@ impl fmt::Display for Decline {
             Decline::BadLength { section_start } => {
                 in_section(f, section_start, "length is not the one that the content calls for")
             }
-            Decline::BadCount { section_start } => {
-                in_section(f, section_start, "number of kitchens, slots, rules or dishes out of range")
-            }
+            Decline::BadCount { section_start } => in_section(
+                f,
+                section_start,
+                "number of kitchens, slots, rules, dishes, further slots or pairs of slots out of range",
+            ),
             Decline::BadNumber { section_start } => {
-                in_section(f, section_start, "kitchen or slot number out of range, or first slot not below second")
+                in_section(f, section_start, "kitchen or slot number out of range, or slots of a rule not ascending")
             }
             Decline::RepeatedCode { section_start } => in_section(f, section_start, "a code stands twice in a slot"),
             Decline::BadRule { section_start } => in_section(
                 f,
                 section_start,
-                "kind above 1, or a table bit at or past the second slot's count of dishes",
+                "kind not of the plan's version, or a table bit at or past the second slot's count of dishes",
             ),
             Decline::TrailingBytes { byte } => write!(f, "bytes after the last section, from byte {byte} on"),
             Decline::ShortWork => write!(f, "fewer than {WORK_CELLS} work cells"),

@@ -5,8 +5,8 @@
 //! [`run_round`] plays rounds until it is closed. [`run_sweeps`] gives the lists of the closed plan by a slower method,
 //! which can be followed on paper, and [`last_sweep`] finds them in its buffers. `docs/FORMAT.md` has the bytes of a
 //! plan and of a turn list, what each turn does, the sweeps, and the declines with their order; `include/tinshrew.h` is
-//! the same interface for C. A plan of version 1 has up to 16 dishes in a slot, one of version 2 up to 32; every call
-//! takes both.
+//! the same interface for C. A plan of version 1 has up to 16 dishes in a slot. One of version 2 has up to 32, and may
+//! have set rules, which put one sodium limit on every two of up to eight slots. Every call takes both.
 //!
 //! From the bytes of a plan to its lists:
 //!

@@ -5,6 +5,7 @@ use super::*;
 mod declines;
 mod header;
 mod places;
+mod sets;
 mod sweeps;
 mod version_2;
 
@@ -88,6 +89,17 @@ impl SweepBuffers {
     fn unchanged(&self) -> bool {
         self.first.iter().chain(&self.second).all(|&c| c == HELD)
     }
+}
+
+/// Rounds, and sweeps of which there are so many, end with these cells.
+fn ends_with(plan: &[u8], sweeps: usize, cells: &[u16]) {
+    let mut b = Buffers::ample();
+    assert_eq!(b.round(plan).map(|r| r.status), Ok(Status::Closed));
+    assert_eq!(b.cells(cells.len()), cells);
+    let mut s = SweepBuffers::ample();
+    assert_eq!(s.sweeps(plan), Ok(sweeps));
+    assert_eq!(s.cells(cells.len()), [cells; 2]);
+    assert_eq!(last_sweep(&s.first, &s.second, sweeps, cells.len()), cells);
 }
 
 #[test]

@@ -11,7 +11,7 @@ use native.Mathlib.Numerals.{add-one}
 use native.Mathlib.Omega.{arith}
 use lib.ListN.{length, getD, length-append, List·getD-append}
 use lib.Seq.{getD-at, getD-append-add}
-use Rattle.base.proofs.Bools.{clash, refuted, and-left, and-right, and-intro, and-false, or-cases, or-left, or-right, or-false}
+use Rattle.base.proofs.Bools.{clash, refuted, and-left, and-right, and-intro, and-false, or-cases, or-left, or-right, or-false, and-swap}
 use Rattle.base.proofs.Choice.{none≢some}
 use Rattle.base.specs.Below.{sumBelow, anyBelow, allBelow, gatherBelow, listBelow, firstBelow}
 use Rattle.base.specs.Choice.{firstOf}
@@ -69,6 +69,17 @@ every-below (suc n) t f = and-intro (every-below n t (λ i h. f i (le-step h))) 
 pub all-ext : (n : ℕ) (t u : ℕ → Bool) → ((i : ℕ) → i < n → t i ≡ u i) → allBelow n t ≡ allBelow n u
 all-ext zero t u h = refl
 all-ext (suc n) t u h = ap₂ _&&_ (all-ext n t u (λ i l. h i (le-step l))) (h n (le-refl (suc n)))
+
+-- and one holds alike
+pub any-below-ext : (n : ℕ) (t u : ℕ → Bool) → ((i : ℕ) → i < n → t i ≡ u i) → anyBelow n t ≡ anyBelow n u
+any-below-ext zero t u h = refl
+any-below-ext (suc n) t u h = ap₂ _||_ (any-below-ext n t u (λ i l. h i (le-step l))) (h n (le-refl (suc n)))
+
+-- two tests that all pass
+pub all-both : (n : ℕ) (t u : ℕ → Bool) → allBelow n (λ i. t i && u i) ≡ allBelow n t && allBelow n u
+all-both zero t u = refl
+all-both (suc n) t u =
+    ap (λ (b : Bool). b && (t n && u n)) (all-both n t u) ∙ and-swap (allBelow n t) (allBelow n u) (t n) (u n)
 
 -- all fail where none passes
 pub all-not : (n : ℕ) (t : ℕ → Bool) → allBelow n (λ i. not (t i)) ≡ not (anyBelow n t)

@@ -1,10 +1,11 @@
--- What holds of each member of a list.
-use Prim.Native.Nat.{ℕ, zero, suc, _<_}
+-- The members of a list: where they stand, and what holds of each of them.
+use Prim.Native.Nat.{ℕ, zero, suc, _<_, zero-le, suc-le-suc}
 use mathlib.Core.Bool.{Bool, true}
-use mathlib.Core.List.{List, [], _∷_, _++_, map, List·Memᴰ, List·Memᴰ·not-nil, List·Memᴰ·cases-cons, Memᴰ·append-left, Memᴰ·append-right}
+use mathlib.Core.List.{List, [], _∷_, _++_, map, List·Memᴰ, List·Memᴰ·head, List·Memᴰ·tail, List·Memᴰ·not-nil, List·Memᴰ·cases-cons, List·Memᴰ·append-cases, Memᴰ·append-left, Memᴰ·append-right}
 use mathlib.Core.Logic.{⊎-elim}
 use mathlib.Core.Path.{_≡_, refl, sym, subst}
-use native.Mathlib.Nat.{not-suc-le-zero, le-step, le-refl}
+use native.Mathlib.Nat.{not-suc-le-zero, le-of-suc-le-suc, le-step, le-refl}
+use lib.ListN.{length, getD}
 use Rattle.base.proofs.Below.{below-cases}
 use Rattle.base.proofs.Bools.{and-intro}
 use Rattle.base.specs.Below.{gatherBelow}
@@ -19,6 +20,26 @@ module _ {ℓ} {A : Type ℓ} where
       (λ e. Memᴰ·append-right (gatherBelow n f) (subst (λ (j : ℕ). List·Memᴰ a (f j)) e m))
       (λ l. Memᴰ·append-left (f n) (member-gather n f i l m))
       (below-cases h)
+
+  -- and a member of all of them joined is one of theirs
+  pub gather-member : (n : ℕ) (f : ℕ → List A) {a : A} → List·Memᴰ a (gatherBelow n f) → (i : ℕ) × (i < n) × List·Memᴰ a (f i)
+  gather-member zero f m = absurd (List·Memᴰ·not-nil m)
+  gather-member (suc n) f m =
+      ⊎-elim (λ l. let r = gather-member n f l in (r .0, le-step (r .1), r .2)) (λ r. (n, le-refl (suc n), r))
+      (List·Memᴰ·append-cases (gatherBelow n f) m)
+
+  -- what stands at a place of a list is a member
+  pub at-member : (l : List A) (d : A) (i : ℕ) → i < length l → List·Memᴰ (getD l i d) l
+  at-member [] d i h = absurd (not-suc-le-zero h)
+  at-member (a ∷ l) d zero h = List·Memᴰ·head refl
+  at-member (a ∷ l) d (suc i) h = List·Memᴰ·tail (at-member l d i (le-of-suc-le-suc h))
+
+  -- and a member stands at some place
+  pub member-at : (l : List A) (d : A) {a : A} → List·Memᴰ a l → (i : ℕ) × (i < length l) × (getD l i d ≡ a)
+  member-at [] d m = absurd (List·Memᴰ·not-nil m)
+  member-at (b ∷ l) d m =
+      ⊎-elim (λ e. (zero, suc-le-suc zero-le, sym e))
+      (λ t. let r = member-at l d t in (suc (r .0), suc-le-suc (r .1), r .2)) (List·Memᴰ·cases-cons m)
 
   -- the statement holds of each member of the list
   abbrev pub Each : (A → Type 0) → List A → Type 0

@@ -35,7 +35,7 @@ module _ {ℓ} {A : Type ℓ} where
       (or-cases (t a) (anyOf t l) e)
 
   -- a test that is passed at some place is passed by some member
-  at-any : (t : A → Bool) (l : List A) (d : A) (i : ℕ) → i < length l → t (getD l i d) ≡ true → anyOf t l ≡ true
+  pub at-any : (t : A → Bool) (l : List A) (d : A) (i : ℕ) → i < length l → t (getD l i d) ≡ true → anyOf t l ≡ true
   at-any t [] d i h e = absurd (not-suc-le-zero h)
   at-any t (a ∷ l) d zero h e = or-left (anyOf t l) e
   at-any t (a ∷ l) d (suc i) h e = or-right (t a) (at-any t l d i (le-of-suc-le-suc h) e)

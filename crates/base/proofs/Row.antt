@@ -1,16 +1,17 @@
 -- Laws of rows of bits, at any width: which values a row holds, and how many.
 use Prim.Native.Nat.{ℕ, zero, suc, _+_, _-_, _*_, _/_, _%_, _^_, _<_, _≤_, min}
-use mathlib.Core.Bool.{Bool, true, false, cond, _&&_, not}
+use mathlib.Core.Bool.{Bool, true, false, cond, _&&_, _||_, not}
 use mathlib.Core.Logic.{⊎-elim}
 use mathlib.Core.Path.{_≡_, refl, sym, _∙_, ap, ap₂}
+use native.Mathlib.Decide.{ℕ-discrete, decLt}
 use native.Mathlib.Nat.{not-suc-le-zero, le-of-suc-le-suc, two-pow-succ, pow-succ', div-one, div-div-eq-div-mul, div-eq-of-lt}
 use native.Mathlib.Omega.{arith}
 use borrow.Author.Tests.{eqb-true, eqb-false, eq-eqb, ne-eqb}
 use lib.Dec.{eqb}
-use lib.Bits.{bitAnd, and-step, and-le-l}
+use lib.Bits.{bitAnd, bitOr, and-step, and-le-l, or-step, or-shr}
 use lib.Pow.{pow-mono, pow-pos, shr-shr, high}
 use Rattle.base.proofs.Below.{some-below, any-below}
-use Rattle.base.proofs.Bools.{decided, refuted}
+use Rattle.base.proofs.Bools.{decided, refuted, or-left}
 use Rattle.base.proofs.Choice.{cond-true, cond-false}
 use Rattle.base.proofs.Sums.{sum-ext, sum-more, sum-times, sum-first, sum-none, sum-some, count-ext, count-le}
 use Rattle.base.specs.Below.{anyBelow, countBelow, one}
@@ -237,6 +238,38 @@ row-both n t u =
     sym (row-of-bits n (bitAnd (rowOf n t) (rowOf n u)) (omega (arith, and-le-l (rowOf n t) (rowOf n u), row-small n t)))
     ∙ row-ext n (bit (bitAnd (rowOf n t) (rowOf n u))) (λ w. t w && u w)
     (λ w h. bit-and (rowOf n t) (rowOf n u) w ∙ ap₂ _&&_ (row-bit n t w h) (row-bit n u w h))
+
+odd-or : (p q : ℕ) → isOdd (bitOr p q) ≡ isOdd p || isOdd q
+odd-or p q =
+    ⊎-elim
+    (λ e.
+    let odd : p % 2 ≡ 1 = eqb-true (p % 2) 1 e in
+    eq-eqb (bitOr p q % 2) 1 (omega (arith, or-step p q)) ∙ sym (or-left (isOdd q) e))
+    (λ e.
+    let even : p % 2 ≡ 0 = omega (arith, eqb-false (p % 2) 1 e) in
+    let same : bitOr p q % 2 ≡ q % 2 = omega (arith, or-step p q) in
+    ap (λ (k : ℕ). eqb k 1) same ∙ sym (ap (λ (a : Bool). a || isOdd q) e))
+    (decided (isOdd p))
+
+-- `r | q` holds the values that either row holds
+pub bit-or : (r q w : ℕ) → bit (bitOr r q) w ≡ bit r w || bit q w
+unfolding bit
+bit-or r q w = ap isOdd (or-shr r q w) ∙ odd-or (r / 2 ^ w) (q / 2 ^ w)
+
+-- a power of 2 holds one value
+pub bit-power : (x w : ℕ) → bit (2 ^ x) w ≡ eqb w x
+unfolding bit
+bit-power x w =
+    let whole : 2 ^ x ≡ 1 * 2 ^ x + 0 = omega arith in
+    elim (decLt w x) [
+      | yes l ↦ ap (λ (k : ℕ). bit k w) whole ∙ bit-low x 1 0 w l ∙ bit-past 0 0 w (omega arith) (omega arith) ∙ sym (ne-eqb w x (λ e. omega arith))
+      | no l ↦ elim (ℕ-discrete w x) [
+        | yes e ↦
+            let here : w ≡ x + 0 = omega arith in
+            ap (λ (k : ℕ). bit k w) whole ∙ ap (bit (1 * 2 ^ x + 0)) here ∙ bit-high x 1 0 0 (pow-pos x) ∙ sym (eq-eqb w x e)
+        | no d ↦ bit-past (suc x) (2 ^ x) w (omega (arith, two-pow-succ x, pow-pos x)) (omega arith) ∙ sym (ne-eqb w x d)
+      ]
+    ]
 
 -- ---- how many values a row holds
 

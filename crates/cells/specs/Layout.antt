@@ -47,15 +47,15 @@ DOMAIN = 7
 abbrev pub COUNTERS : ℕ
 COUNTERS = 8
 
--- one more than the last constraint over two variables, 0 for none
-abbrev pub HEADS : ℕ
-HEADS = 9
+-- the number of the pair that two linked variables are, 0 where they share no constraint
+abbrev pub PAIRS : ℕ
+PAIRS = 9
 
 -- where each section of the plan starts
 abbrev pub PLACES : ℕ
 PLACES = 10
 
--- one more than the constraint before over the same two variables, 0 for none
+-- one more than the table before a table over the same two variables, 0 for none
 abbrev pub NEXT : ℕ
 NEXT = 11
 
@@ -67,9 +67,21 @@ FIRST = 12
 abbrev pub FOLLOW : ℕ
 FOLLOW = 13
 
+-- one more than the last table over the two variables of a pair (column), 0 for none
+abbrev pub LASTS : ℕ
+LASTS = 14
+
+-- the lowest limit over the two variables of a pair (row): the columns below
+abbrev pub LIMITS : ℕ
+LIMITS = 15
+
+-- the highest number of a pair, 0 where there is none
+abbrev pub PAIREND : ℕ
+PAIREND = 16
+
 -- the cells behind the needed ones, which no run touches
 abbrev pub BEHIND : ℕ
-BEHIND = 14
+BEHIND = 17
 
 -- ---- the columns of a worker's row
 
@@ -108,6 +120,16 @@ OUTEND = 7
 -- those of them that it has read
 abbrev pub OUTREAD : ℕ
 OUTREAD = 8
+
+-- ---- the columns of a pair's row of LIMITS
+
+-- 1 where some limit is over its variables
+abbrev pub LIMITED : ℕ
+LIMITED = 0
+
+-- the lowest of them
+abbrev pub LOWEST : ℕ
+LOWEST = 1
 
 -- ---- sizes and limits
 
@@ -180,11 +202,14 @@ sizes =
     ∷ (1, POLLROOM + 1, false)  -- WANTED
     ∷ (maxVariables, VALUEROOM, false)  -- DOMAIN
     ∷ (COUNTERMAX + 1, VALUEROOM, true)  -- COUNTERS
-    ∷ (maxVariables, maxVariables, false)  -- HEADS
+    ∷ (maxVariables, maxVariables, false)  -- PAIRS
     ∷ (1, PLACEROOM, false)  -- PLACES
     ∷ (1, maxConstraints, false)  -- NEXT
     ∷ (maxWorkers, maxVariables, false)  -- FIRST
     ∷ (maxVariables, maxVariables, false)  -- FOLLOW
+    ∷ (1, maxPairs + 1, false)  -- LASTS
+    ∷ (maxPairs + 1, 2, false)  -- LIMITS
+    ∷ (1, 1, false)  -- PAIREND
     ∷ []
 
 -- where a region ends; the last of an odd number of rows has its cells alone

@@ -13,7 +13,7 @@ use Rattle.disac4.specs.System.{System}
 use Rattle.disac4.specs.declared.Poll.{Poll}
 use Rattle.disac4.specs.declared.Tally.{Tally}
 use Rattle.network.specs.Network.{Label, label, loaded}
-use Rattle.cells.specs.Layout.{WORKERS, CURSORS, BOUNDS, LOG, WORK, OUT, WANTED, DOMAIN, COUNTERS, HEADS, HEAD, TAIL, LOGEND, SENDS, LISTS, HELD, POLLS, OUTEND, OUTREAD, VALUEROOM, LISTED, LISTMARK}
+use Rattle.cells.specs.Layout.{WORKERS, CURSORS, BOUNDS, LOG, WORK, OUT, WANTED, DOMAIN, COUNTERS, PAIRS, HEAD, TAIL, LOGEND, SENDS, LISTS, HELD, POLLS, OUTEND, OUTREAD, VALUEROOM, LISTED, LISTMARK}
 use Rattle.cells.specs.Memory.{Mem}
 
 -- ---- single cells
@@ -32,12 +32,12 @@ inDomain m x v = eqb (m DOMAIN x v) LISTED
 
 -- the row of the counters of `x` against `y`
 unfoldable pub counterRow : Mem → ℕ → ℕ → ℕ
-counterRow m x y = 2 * m HEADS x y - 1 + one (ltb y x)
+counterRow m x y = 2 * m PAIRS x y - 1 + one (ltb y x)
 
 -- the two variables have a row of counters
 pub record Numbered (m : Mem) (x y : ℕ) : Type 0 where
-  pub low : 0 < m HEADS x y
-  pub high : m HEADS x y ≤ maxPairs
+  pub low : 0 < m PAIRS x y
+  pub high : m PAIRS x y ≤ maxPairs
 
 -- ---- queues in a row
 

@@ -131,17 +131,17 @@ pub const COUNTERS: Region = Region {
     halved: true,
 };
 
-const HEADS_AT: usize = COUNTERS_AT + (COUNTERMAX + 2) / 2 * VALUEROOM;
+const PAIRS_AT: usize = COUNTERS_AT + (COUNTERMAX + 2) / 2 * VALUEROOM;
 
-pub const HEADS: Region = Region {
+pub const PAIRS: Region = Region {
     id: 9,
-    base: HEADS_AT,
+    base: PAIRS_AT,
     rows: MAX_VARIABLES,
     cols: MAX_VARIABLES,
     halved: false,
 };
 
-const PLACES_AT: usize = HEADS_AT + MAX_VARIABLES * MAX_VARIABLES;
+const PLACES_AT: usize = PAIRS_AT + MAX_VARIABLES * MAX_VARIABLES;
 
 pub const PLACES: Region = Region {
     id: 10,
@@ -180,6 +180,41 @@ pub const FOLLOW: Region = Region {
     cols: MAX_VARIABLES,
     halved: false,
 };
+
+const LASTS_AT: usize = FOLLOW_AT + MAX_VARIABLES * MAX_VARIABLES;
+
+pub const LASTS: Region = Region {
+    id: 14,
+    base: LASTS_AT,
+    rows: 1,
+    cols: MAX_PAIRS + 1,
+    halved: false,
+};
+
+const LIMITS_AT: usize = LASTS_AT + MAX_PAIRS + 1;
+
+pub const LIMITS: Region = Region {
+    id: 15,
+    base: LIMITS_AT,
+    rows: MAX_PAIRS + 1,
+    cols: 2,
+    halved: false,
+};
+
+const PAIREND_AT: usize = LIMITS_AT + (MAX_PAIRS + 1) * 2;
+
+pub const PAIREND: Region = Region {
+    id: 16,
+    base: PAIREND_AT,
+    rows: 1,
+    cols: 1,
+    halved: false,
+};
+
+// The columns of a pair's row of LIMITS.
+pub const LIMITED: usize = 0;
+
+pub const LOWEST: usize = 1;
 
 // The columns of a worker's row.
 pub const HEAD: usize = 0;

@@ -59,5 +59,6 @@ pub mod Idle
 pub mod Order
 pub mod Outcome
 pub mod Tested
+pub mod SamePlans
 -- ---- The starred table
 pub mod Worked

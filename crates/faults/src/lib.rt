@@ -10,13 +10,14 @@ pub enum Fault {
     BadVersion,
     // 3: a section's length is not the one its content calls for.
     BadLength,
-    // 4: p, n, number of rules or a dish count out of range, or more than 512 dishes with this slot's.
+    // 4: p, n, number of rules, a dish count or a set rule's count out of range, more than 512 dishes with this slot's, or more than
+    // 128 pairs of slots with this rule's.
     BadCount,
-    // 5: kitchen or slot number out of range, or first slot not below second.
+    // 5: kitchen or slot number out of range, or a rule's slots not ascending.
     BadNumber,
     // 6: a code stands twice in a slot.
     RepeatedCode,
-    // 7: kind above 1, or a table bit past the second slot's count.
+    // 7: kind above the version's, or a table bit past the second slot's count.
     BadConstraint,
     // 8: bytes after the last rule.
     TrailingBytes,

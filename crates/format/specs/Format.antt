@@ -1,6 +1,9 @@
 -- Where the parts of a plan's bytes stand: "The plan as bytes". Reads are total; the checks say which of them mean something.
 use Prim.Native.Nat.{ℕ, zero, suc, _+_, _*_}
+use mathlib.Core.Bool.{Bool, cond}
 use mathlib.Core.List.{List}
+use lib.Dec.{ltb, eqb}
+use Rattle.base.specs.Below.{listBelow}
 use Rattle.base.specs.Bytes.{byteAt, wordAt}
 use Rattle.base.specs.Digits.{numberAt}
 use Rattle.format.specs.Limits.{wordBytes, maxWords}
@@ -50,7 +53,8 @@ valuesEnd at n = at + 4 + 4 * n
 abbrev pub constraintStart : List ℕ → ℕ → ℕ
 constraintStart b c = sectionStart b (suc (variableCount b + c))
 
--- a rule's section at `at`: first slot, second slot, kind, then a row for each dish of the first slot, or a limit
+-- a rule's section at `at`: first slot, second slot, kind, then a row for each dish of the first slot, or a limit, and in a set rule
+-- behind the limit a count of further slots and their numbers
 abbrev pub firstAt : List ℕ → ℕ → ℕ
 firstAt b at = byteAt b (at + 2)
 
@@ -78,6 +82,27 @@ tableByteAt b at v part = byteAt b (tableRowStart b at v + part)
 
 abbrev pub limitAt : List ℕ → ℕ → ℕ
 limitAt b at = wordAt b (at + 5)
+
+-- kind 2 is a set rule: one sodium limit over a set of slots
+abbrev pub isSet : List ℕ → ℕ → Bool
+isSet b at = eqb (kindAt b at) 2
+
+-- how many further slots a rule has: only a set rule has any
+unfoldable pub furtherCount : List ℕ → ℕ → ℕ
+furtherCount b at = cond (isSet b at) (byteAt b (at + 7)) 0
+
+-- how many slots a rule is over
+abbrev pub scopeSize : List ℕ → ℕ → ℕ
+scopeSize b at = 2 + furtherCount b at
+
+-- the number of the slot at place `i` of a rule's scope, places counted from 0: the first two stand before the kind, the further ones
+-- behind the count
+unfoldable pub scopeAt : List ℕ → ℕ → ℕ → ℕ
+scopeAt b at i = cond (ltb i 2) (byteAt b (at + 2 + i)) (byteAt b (at + 6 + i))
+
+-- the rule's scope: the numbers of all its slots
+unfoldable pub scopeOf : List ℕ → ℕ → List ℕ
+scopeOf b at = listBelow (scopeSize b at) (scopeAt b at)
 
 -- the number of dishes of the slot with number s, from 1: slot s is section s
 abbrev pub numberedSize : List ℕ → ℕ → ℕ

@@ -1,4 +1,4 @@
--- The limits of "What the words mean" and "The plan as bytes", as job 4 has them. The constants of `src/limits.rt` are the same numbers.
+-- The limits of "What the words mean" and "The plan as bytes", as jobs 4 and 5 have them. The constants of `src/limits.rt` are the same numbers.
 use Prim.Native.Nat.{ℕ, _*_}
 
 -- the highest version; the lowest is 1
@@ -36,6 +36,10 @@ maxLabels = 512
 abbrev pub maxConstraints : ℕ
 maxConstraints = 128
 
--- two slots that share a rule: no more than there are rules
+-- different pairs of slots that the rules of a plan touch
 abbrev pub maxPairs : ℕ
-maxPairs = maxConstraints
+maxPairs = 128
+
+-- slots of a set rule behind its first two
+abbrev pub maxFurther : ℕ
+maxFurther = 6

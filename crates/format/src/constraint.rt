@@ -7,7 +7,7 @@ ghost use mathlib.Core.Path.{_≡_};
 ghost use Prim.Native.Nat.{suc, _+_, _<_, _≤_};
 ghost use lib.ListN.{length};
 ghost use Rattle.format.specs.Version.{rowWords, rowBytes};
-ghost use Rattle.format.specs.Format.{firstAt, secondAt, kindAt, tableRowStart, rowsRoom, tableRowAt, tableByteAt, limitAt};
+ghost use Rattle.format.specs.Format.{firstAt, secondAt, kindAt, tableRowStart, rowsRoom, tableRowAt, tableByteAt, limitAt, furtherCount, scopeAt};
 
 // A rule's first slot.
 pub fn first(plan: &[u8], at: usize) -> usize
@@ -64,10 +64,34 @@ pub fn table_byte(plan: &[u8], words: usize, at: usize, v: usize, part: usize) -
     byte_inside(plan, table_row_start(plan, words, at, v) + part)
 }
 
-// A sodium rule's limit.
+// The limit of a sodium rule or a set rule.
 pub fn limit(plan: &[u8], at: usize) -> usize
     requires { ⌜ at ≤ length (now plan) ⌝ }
     ensures { λ r. ⌜ (r ≡ limitAt (now (plan .entry)) at) × (r < 65536) ⌝ }
 {
     word_at(plan, at + 5)
+}
+
+// How many slots a rule has behind its first two: only a set rule has any.
+pub fn further_count(plan: &[u8], at: usize) -> usize
+    requires { ⌜ at ≤ length (now plan) ⌝ }
+    ensures { λ r. ⌜ (r ≡ furtherCount (now (plan .entry)) at) × (r < 256) ⌝ }
+{
+    if kind(plan, at) == 2 {
+        byte_at(plan, at + 7)
+    } else {
+        0
+    }
+}
+
+// Slot i of a rule's scope, from 0: the first two stand before the kind, the further ones behind their count.
+pub fn scope_at(plan: &[u8], at: usize, i: usize) -> usize
+    requires { ⌜ (at ≤ length (now plan)) × (i < 256) ⌝ }
+    ensures { λ r. ⌜ (r ≡ scopeAt (now (plan .entry)) at i) × (r < 256) ⌝ }
+{
+    if i < 2 {
+        byte_at(plan, at + 2 + i)
+    } else {
+        byte_at(plan, at + 6 + i)
+    }
 }

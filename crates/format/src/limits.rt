@@ -26,5 +26,11 @@ pub const MAX_LABELS: usize = 512;
 // Rules.
 pub const MAX_CONSTRAINTS: usize = 128;
 
-// Two slots that share a rule.
-pub const MAX_PAIRS: usize = MAX_CONSTRAINTS;
+// Different pairs of slots that the rules of a plan touch.
+pub const MAX_PAIRS: usize = 128;
+
+// Slots of a set rule behind its first two.
+pub const MAX_FURTHER: usize = 6;
+
+// Slots of a rule.
+pub const MAX_SCOPE: usize = 2 + MAX_FURTHER;

@@ -10,17 +10,16 @@ use Rattle.disac4.specs.System.{systemOf, systemAt}
 use Rattle.disac4.specs.Need.{workNeed}
 use Rattle.plan.proofs.Parts.{variables-read, variable-read, size-read}
 use Rattle.plan.specs.Decode.{planFault, planOf, variableAt}
-use Rattle.format.specs.Format.{sectionStart, variableCount, constraintCount, ownerAt}
+use Rattle.format.specs.Format.{sectionStart, variableCount, ownerAt}
 use Rattle.format.specs.Limits.{maxWorkers, maxVariables}
 use Rattle.format.specs.Version.{maxSize}
 use Rattle.plan.specs.Network.{shareConstraint, networkOf}
 use Rattle.plan.specs.Plan.{Variable, sizeOf}
-use Rattle.index.proofs.Nearest.{last-any}
 use Rattle.index.proofs.Owners.{owner-range}
 use Rattle.index.proofs.Pairing.{paired}
-use Rattle.index.proofs.Linked.{linked-chain, linked-inside}
+use Rattle.index.proofs.Linked.{linked-over, linked-inside}
 use Rattle.index.proofs.Places.{few-sections, row-values, few-values}
-use Rattle.rows.specs.Permits.{Loaded, over}
+use Rattle.rows.specs.Permits.{Loaded}
 use Rattle.index.specs.Index.{owns, ownLinked, Indexed, Located, Ready}
 use Rattle.cells.specs.Memory.{Mem, memOf}
 use Rattle.cells.specs.Layout.{VALUEROOM}
@@ -39,7 +38,7 @@ size-is b x = refl
 pub own-linked : (b : List ℕ) (i y x : ℕ) → ownLinked b i y x ≡ owns b i x && shareConstraint (planOf b) x y
 unfolding ownLinked
 own-linked b i y x =
-    ap (λ (t : Bool). owns b i x && t) (last-any (over b x y) (constraintCount b) ∙ sym (linked-chain b x y))
+    ap (λ (t : Bool). owns b i x && t) (sym (linked-over b x y))
 
 -- a plan that is indexed has its sections' places in the cells
 pub located : (b cells : List ℕ) → Ready b cells → Located b cells
@@ -74,7 +73,7 @@ module _ (b : List ℕ) (sound : planFault b ≡ none) where
   unfolding systemOf networkOf
   numbered m index x y e =
       let i = linked-inside b sound x y e in
-      let p = paired b sound m index in
+      let p = paired b m index in
       (i .0, i .1, record { low = p .low x y e; high = p .high x y e })
 
 -- so the row can be read

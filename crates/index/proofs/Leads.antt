@@ -11,7 +11,7 @@ use Rattle.base.proofs.Loops.{loop-same, loop-from}
 use Rattle.base.specs.Below.{loop}
 use Rattle.index.specs.Index.{leadM}
 use Rattle.cells.proofs.Stores.{store-same, store-other, store-apart}
-use Rattle.cells.specs.Layout.{HEADS, FIRST, FOLLOW}
+use Rattle.cells.specs.Layout.{PAIRS, FIRST, FOLLOW}
 use Rattle.cells.specs.Memory.{Mem, store}
 
 module _ (i x : ℕ) where
@@ -19,7 +19,7 @@ module _ (i x : ℕ) where
   lead-same : (y : ℕ) (m : Mem) (r k j : ℕ) → (r ≡ FIRST → k ≡ i → j ≡ y → ⊥) → (r ≡ FOLLOW → k ≡ x → j ≡ y → ⊥)
       → leadM i x y m r k j ≡ m r k j
   unfolding leadM
-  lead-same y m r k j h l = go (eqb (m HEADS x y) 0)
+  lead-same y m r k j h l = go (eqb (m PAIRS x y) 0)
     where
       go : (t : Bool) → cond t m (store (store m FOLLOW x y (m FIRST i y)) FIRST i y (x + 1)) r k j ≡ m r k j
       go true = refl
@@ -28,12 +28,12 @@ module _ (i x : ℕ) where
           ∙ store-other m FOLLOW x y (m FIRST i y) r k j l
 
   -- nothing changes for one that is not linked
-  lead-none : (y : ℕ) (m : Mem) → eqb (m HEADS x y) 0 ≡ true → leadM i x y m ≡ m
+  lead-none : (y : ℕ) (m : Mem) → eqb (m PAIRS x y) 0 ≡ true → leadM i x y m ≡ m
   unfolding leadM
   lead-none y m e = cond-true m (store (store m FOLLOW x y (m FIRST i y)) FIRST i y (x + 1)) e
 
   -- two stores for one that is
-  lead-made : (y : ℕ) (m : Mem) → eqb (m HEADS x y) 0 ≡ false
+  lead-made : (y : ℕ) (m : Mem) → eqb (m PAIRS x y) 0 ≡ false
       → leadM i x y m ≡ store (store m FOLLOW x y (m FIRST i y)) FIRST i y (x + 1)
   unfolding leadM
   lead-made y m e = cond-false m (store (store m FOLLOW x y (m FIRST i y)) FIRST i y (x + 1)) e
@@ -49,8 +49,8 @@ module _ (i x : ℕ) where
   lead-column : (y : ℕ) (m n : Mem) → ((r k : ℕ) → n r k y ≡ m r k y) → (r k : ℕ) → leadM i x y n r k y ≡ leadM i x y m r k y
   unfolding leadM
   lead-column y m n same r k =
-      ap (λ (h : ℕ). cond (eqb h 0) n (store (store n FOLLOW x y (n FIRST i y)) FIRST i y (x + 1)) r k y) (same HEADS x)
-      ∙ go (eqb (m HEADS x y) 0)
+      ap (λ (h : ℕ). cond (eqb h 0) n (store (store n FOLLOW x y (n FIRST i y)) FIRST i y (x + 1)) r k y) (same PAIRS x)
+      ∙ go (eqb (m PAIRS x y) 0)
     where
       go : (t : Bool)
           → cond t n (store (store n FOLLOW x y (n FIRST i y)) FIRST i y (x + 1)) r k y
@@ -69,17 +69,17 @@ module _ (i x : ℕ) where
       (λ z after inside o e. lead-same z o r k y (λ p q e. omega arith) (λ p q e. omega arith) ∙ e)
 
   -- the column of a variable that is not linked is as it was
-  pub leads-none : (n : ℕ) (m : Mem) (r k y : ℕ) → y < n → eqb (m HEADS x y) 0 ≡ true → loop n (leadM i x) m r k y ≡ m r k y
+  pub leads-none : (n : ℕ) (m : Mem) (r k y : ℕ) → y < n → eqb (m PAIRS x y) 0 ≡ true → loop n (leadM i x) m r k y ≡ m r k y
   leads-none n m r k y h e = leads-column n m r k y h ∙ ap (λ (o : Mem). o r k y) (lead-none y m e)
 
   -- in that of a linked one, the variable comes first
-  pub leads-first : (n : ℕ) (m : Mem) (y : ℕ) → y < n → eqb (m HEADS x y) 0 ≡ false → loop n (leadM i x) m FIRST i y ≡ suc x
+  pub leads-first : (n : ℕ) (m : Mem) (y : ℕ) → y < n → eqb (m PAIRS x y) 0 ≡ false → loop n (leadM i x) m FIRST i y ≡ suc x
   leads-first n m y h e =
       leads-column n m FIRST i y h ∙ ap (λ (o : Mem). o FIRST i y) (lead-made y m e)
       ∙ store-same (store m FOLLOW x y (m FIRST i y)) FIRST i y (x + 1) ∙ add-one x
 
   -- and what came first follows it
-  pub leads-follow : (n : ℕ) (m : Mem) (y : ℕ) → y < n → eqb (m HEADS x y) 0 ≡ false
+  pub leads-follow : (n : ℕ) (m : Mem) (y : ℕ) → y < n → eqb (m PAIRS x y) 0 ≡ false
       → loop n (leadM i x) m FOLLOW x y ≡ m FIRST i y
   leads-follow n m y h e =
       leads-column n m FOLLOW x y h ∙ ap (λ (o : Mem). o FOLLOW x y) (lead-made y m e)
@@ -90,12 +90,12 @@ module _ (i x : ℕ) where
 
 module _ (i x y : ℕ) (m : Mem) where
   -- without a chain of constraints, nothing
-  pub lead-passed : (h : ℕ) → h ≡ m HEADS x y → h ≡ 0 → m ≡ leadM i x y m
-  lead-passed h e z = sym (lead-none i x y m (eq-eqb (m HEADS x y) 0 (sym e ∙ z)))
+  pub lead-passed : (h : ℕ) → h ≡ m PAIRS x y → h ≡ 0 → m ≡ leadM i x y m
+  lead-passed h e z = sym (lead-none i x y m (eq-eqb (m PAIRS x y) 0 (sym e ∙ z)))
 
   -- with one, the two stores
-  pub lead-put : (h f : ℕ) (n p : Mem) → h ≡ m HEADS x y → (h ≡ 0 → ⊥) → f ≡ m FIRST i y → n ≡ store m FOLLOW x y f
+  pub lead-put : (h f : ℕ) (n p : Mem) → h ≡ m PAIRS x y → (h ≡ 0 → ⊥) → f ≡ m FIRST i y → n ≡ store m FOLLOW x y f
       → p ≡ store n FIRST i y (x + 1) → p ≡ leadM i x y m
   lead-put h f n p e z q r s =
       s ∙ ap (λ (n : Mem). store n FIRST i y (x + 1)) (r ∙ ap (store m FOLLOW x y) q)
-      ∙ sym (lead-made i x y m (ne-eqb (m HEADS x y) 0 (λ d. z (e ∙ d))))
+      ∙ sym (lead-made i x y m (ne-eqb (m PAIRS x y) 0 (λ d. z (e ∙ d))))

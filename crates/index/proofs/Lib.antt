@@ -1,6 +1,6 @@
 pub mod Along
 pub mod Chains
-pub mod ConstraintChains
+pub mod ConstraintIndex
 pub mod Counted
 pub mod CounterRows
 pub mod Inside
@@ -14,4 +14,6 @@ pub mod OwnChains
 pub mod Owners
 pub mod Pairing
 pub mod Places
+pub mod SamePairs
+pub mod Stages
 pub mod Zeroed

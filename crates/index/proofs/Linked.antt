@@ -1,37 +1,30 @@
 -- Linked variables of a plan, and the supports between them.
 use Prim.Native.Nat.{ℕ, _^_, _<_, _≤_}
-use mathlib.Core.Bool.{Bool, true, _&&_, not}
+use mathlib.Core.Bool.{Bool, true, _&&_}
 use mathlib.Core.List.{List}
 use mathlib.Core.Option.{none}
 use mathlib.Core.Path.{_≡_, _∙_, ap}
 use native.Mathlib.Omega.{arith}
-use lib.Dec.{eqb}
-use Rattle.base.proofs.Members.{any-places}
 use Rattle.base.proofs.Row.{row-ext, row-small, rowCount-small}
-use Rattle.base.specs.Below.{anyBelow}
 use Rattle.base.specs.Row.{rowOf, rowCount}
-use Rattle.index.proofs.Nearest.{last-any}
 use Rattle.index.proofs.Places.{few-values}
 use Rattle.rows.specs.Permits.{over}
-use Rattle.index.specs.Index.{chainBelow}
+use Rattle.index.specs.Index.{anyOver}
 use Rattle.network.specs.Network.{supports, supportCount}
 use Rattle.plan.proofs.Links.{linked-in-range}
-use Rattle.plan.proofs.Parts.{variables-read, constraints-read, size-read}
+use Rattle.plan.proofs.Parts.{variables-read, size-read}
+use Rattle.plan.proofs.PlanCounts.{linked-any}
 use Rattle.plan.proofs.WellFormed.{read-well-formed}
 use Rattle.plan.specs.Decode.{planFault, planOf}
-use Rattle.format.specs.Format.{variableCount, constraintCount}
+use Rattle.format.specs.Format.{variableCount}
 use Rattle.format.specs.Limits.{maxValues}
-use Rattle.plan.specs.Network.{ties, pairAllowed, shareConstraint, networkOf}
-use Rattle.plan.specs.Plan.{sizeOf, noConstraint, constraintOf}
+use Rattle.plan.specs.Network.{pairAllowed, shareConstraint, networkOf}
+use Rattle.plan.specs.Plan.{sizeOf}
 
--- two variables are linked where there is a chain for them
-pub linked-chain : (b : List ℕ) (x y : ℕ)
-    → shareConstraint (planOf b) x y ≡ not (eqb (chainBelow b x y (constraintCount b)) 0)
-unfolding shareConstraint over constraintOf
-linked-chain b x y =
-    any-places (λ c. ties c x y) (planOf b .constraints) noConstraint
-    ∙ ap (λ (n : ℕ). anyBelow n (over b x y)) (constraints-read b)
-    ∙ last-any (over b x y) (constraintCount b)
+-- two variables are linked where a constraint is over both
+pub linked-over : (b : List ℕ) (x y : ℕ) → shareConstraint (planOf b) x y ≡ anyOver b x y
+unfolding over
+linked-over b x y = linked-any b x y
 
 -- linked variables are the plan's own
 pub linked-inside : (b : List ℕ) → planFault b ≡ none → (x y : ℕ) → shareConstraint (planOf b) x y ≡ true

@@ -11,17 +11,16 @@ use native.Mathlib.Omega.{arith}
 use lib.Dec.{eqb}
 use Rattle.base.proofs.Bools.{decided, and-left, and-right, and-intro, and-false-left, and-false-right}
 use Rattle.base.proofs.Loops.{loop-carries, loop-same, loop-from}
-use Rattle.base.specs.Below.{anyBelow, loop}
+use Rattle.base.specs.Below.{loop}
 use Rattle.disac4.specs.System.{systemAt}
-use Rattle.format.specs.Format.{variableCount, constraintCount}
+use Rattle.format.specs.Format.{variableCount}
 use Rattle.format.specs.Limits.{maxWorkers}
 use Rattle.plan.specs.Decode.{planFault}
 use Rattle.index.proofs.Leads.{leads-same, leads-none, leads-first, leads-follow}
 use Rattle.index.proofs.Own.{next-here, next-past, next-none}
 use Rattle.index.proofs.Owners.{owner-range, owns-it, owns-alone}
-use Rattle.rows.specs.Permits.{over}
-use Rattle.index.specs.Index.{owns, ownLinked, nextOwn, leadM, leadsM, lastLeadsM, ownM}
-use Rattle.cells.specs.Layout.{HEADS, FIRST, FOLLOW}
+use Rattle.index.specs.Index.{anyOver, owns, ownLinked, nextOwn, leadM, leadsM, lastLeadsM, ownM}
+use Rattle.cells.specs.Layout.{PAIRS, FIRST, FOLLOW}
 use Rattle.cells.specs.Memory.{Mem}
 
 -- with the chains of the last `n` variables, the other regions are as they were
@@ -35,9 +34,9 @@ pub own-keeps : (b : List ℕ) (m : Mem) (r k j : ℕ) → (r ≡ FIRST → ⊥)
 unfolding ownM
 own-keeps b m = own-below-keeps b m (variableCount b)
 
--- from a memory that holds the chains of constraints, and none of own variables
+-- from a memory that holds the constraints, and no chains of own variables
 module _ (b : List ℕ) (sound : planFault b ≡ none) (m : Mem)
-    (heads : (x y : ℕ) → eqb (m HEADS x y) 0 ≡ not (anyBelow (constraintCount b) (over b x y)))
+    (numbered : (x y : ℕ) → eqb (m PAIRS x y) 0 ≡ not (anyOver b x y))
     (empty : (i y : ℕ) → m FIRST i y ≡ 0) where
   abbrev row : ℕ → ℕ
   row x = systemAt b .owner x - 1
@@ -49,9 +48,9 @@ module _ (b : List ℕ) (sound : planFault b ≡ none) (m : Mem)
   abbrev chained : ℕ → Mem
   chained n = loop n (lastLeadsM b) m
 
-  own-heads : (n x y : ℕ) → eqb (chained n HEADS x y) 0 ≡ not (anyBelow (constraintCount b) (over b x y))
-  own-heads n x y =
-      ap (λ (h : ℕ). eqb h 0) (own-below-keeps b m n HEADS x y (λ e. omega arith) (λ e. omega arith)) ∙ heads x y
+  own-numbered : (n x y : ℕ) → eqb (chained n PAIRS x y) 0 ≡ not (anyOver b x y)
+  own-numbered n x y =
+      ap (λ (h : ℕ). eqb h 0) (own-below-keeps b m n PAIRS x y (λ e. omega arith) (λ e. omega arith)) ∙ numbered x y
 
   -- each chain begins with the first of them that its row owns and that is linked
   chained-first : (n : ℕ) → n ≤ variableCount b → (i : ℕ) → i < maxWorkers → (y : ℕ) → y < variableCount b
@@ -69,20 +68,20 @@ module _ (b : List ℕ) (sound : planFault b ≡ none) (m : Mem)
             | yes e ↦ ⊎-elim
                 (λ p.
                 ap (λ (j : ℕ). leadsM b x (chained n) FIRST j y) e
-                ∙ leads-first (row x) x (variableCount b) (chained n) y k (own-heads n x y ∙ ap not p)
+                ∙ leads-first (row x) x (variableCount b) (chained n) y k (own-numbered n x y ∙ ap not p)
                 ∙ sym
                 (next-here b i y n
                 (and-intro
                 (ap (λ (j : ℕ). owns b j x) e ∙ owns-it b x (omega (arith, owner-range b sound x (omega arith)))) p)))
                 (λ p.
-                leads-none (row x) x (variableCount b) (chained n) FIRST i y k (own-heads n x y ∙ ap not p) ∙ before
+                leads-none (row x) x (variableCount b) (chained n) FIRST i y k (own-numbered n x y ∙ ap not p) ∙ before
                 ∙ sym (next-past b i y n (and-false-right (owns b i x) p)))
-                (decided (anyBelow (constraintCount b) (over b x y)))
+                (decided (anyOver b x y))
             | no q ↦ leads-same (row x) x (variableCount b) (chained n) FIRST i y (λ a e c. q e) (λ a e c. omega arith)
                 ∙ before
                 ∙ sym
                 (next-past b i y n
-                (and-false-left (anyBelow (constraintCount b) (over b x y))
+                (and-false-left (anyOver b x y)
                 (⊎-elim (λ p. absurd (q (owns-alone b x i p))) (λ p. p) (decided (owns b i x)))))
           ]
 
@@ -108,10 +107,10 @@ module _ (b : List ℕ) (sound : planFault b ≡ none) (m : Mem)
           let back : variableCount b - suc n ≡ x = omega arith in
           ap (λ (z : ℕ). leadsM b z (chained n) FOLLOW x y) back
           ∙ leads-follow (row x) x (variableCount b) (chained n) y k
-          (own-heads n x y ∙ ap not (and-right (owns b i x) (anyBelow (constraintCount b) (over b x y)) p))
+          (own-numbered n x y ∙ ap not (and-right (owns b i x) (anyOver b x y) p))
           ∙ chained-first n (omega arith) (row x) (row-low x h) y k
           ∙ ap (λ (j : ℕ). nextOwn b j y n)
-          (sym (owns-alone b x i (and-left (owns b i x) (anyBelow (constraintCount b) (over b x y)) p)))
+          (sym (owns-alone b x i (and-left (owns b i x) (anyOver b x y) p)))
 
 -- ---- what the code puts
 

@@ -1,5 +1,6 @@
 -- Where the sections of an accepted plan start: within the plan, low enough for a cell, and kept in the cells.
 use Prim.Native.Nat.{ℕ, zero, suc, _+_, _*_, _-_, _<_, _≤_}
+use mathlib.Core.Bool.{cond}
 use mathlib.Core.List.{List}
 use mathlib.Core.Logic.{⊎-elim}
 use mathlib.Core.Option.{none}
@@ -23,8 +24,8 @@ use Rattle.plan.proofs.WellFormed.{read-well-formed}
 use Rattle.faults.specs.CheckList.{firstFault}
 use Rattle.plan.specs.Check.{constraintLength}
 use Rattle.plan.specs.Decode.{planFault, planOf}
-use Rattle.format.specs.Format.{sectionStart, variableCount, constraintCount, sectionCount, sizeAt, firstAt, kindAt, numberedSize}
-use Rattle.format.specs.Limits.{wordBytes, maxWords, maxVariables, maxValues, maxConstraints}
+use Rattle.format.specs.Format.{sectionStart, variableCount, constraintCount, sectionCount, sizeAt, firstAt, kindAt, isSet, furtherCount, numberedSize}
+use Rattle.format.specs.Limits.{wordBytes, maxWords, maxVariables, maxValues, maxConstraints, maxFurther}
 use Rattle.format.specs.Version.{maxSize, rowBytes}
 use Rattle.format.proofs.Widths.{words-range, size-range}
 use Rattle.plan.specs.WellFormed.{WellFormed, VariableFits}
@@ -61,20 +62,24 @@ module _ (b : List ℕ) (none-found : planFault b ≡ none) where
   start-inside (suc k) h = section-complete b k (sound-section b none-found k h)
 
   -- no constraint's section is longer
-  constraint-short : (at : ℕ) → InOrder b at → constraintLength b at ≤ maxSection
+  constraint-short : (at : ℕ) → InOrder b at → furtherCount b at ≤ maxFurther → constraintLength b at ≤ maxSection
   unfolding constraintLength
-  constraint-short at order =
+  constraint-short at order few =
       let size = numberedSize b (firstAt b at) in
       let e : suc (firstAt b at - 1) ≡ firstAt b at = omega arith in
       let small : numberedSize b (suc (firstAt b at - 1)) ≤ maxValues = few-values (firstAt b at - 1) (omega arith) in
       let short : rowBytes b * size ≤ wordBytes * maxWords * size = mul-le-mul-right size (omega (arith, words-range b)) in
-      ⊎-elim (λ p. omega (arith, cond-true (3 + rowBytes b * size) 5 p, ap (numberedSize b) e))
-      (λ p. omega (arith, cond-false (3 + rowBytes b * size) 5 p))
+      let other : ℕ = cond (isSet b at) (6 + furtherCount b at) 5 in
+      ⊎-elim (λ p. omega (arith, cond-true (3 + rowBytes b * size) other p, ap (numberedSize b) e))
+      (λ p.
+      ⊎-elim (λ q. omega (arith, cond-false (3 + rowBytes b * size) other p, cond-true (6 + furtherCount b at) 5 q))
+      (λ q. omega (arith, cond-false (3 + rowBytes b * size) other p, cond-false (6 + furtherCount b at) 5 q)) (decided (isSet b at)))
       (decided (eqb (kindAt b at) 0))
 
   section-short : (k : ℕ) → k < sectionCount b → wordAt b (sectionStart b k) ≤ maxSection
   section-short k h =
       let at = sectionStart b k in
+      let r = k - variableCount b in
       each-section (λ cs. firstFault cs ≡ none → wordAt b (sectionStart b k) ≤ maxSection) b k
       (λ e. omega (arith, eqb-true (wordAt b at) 3 (head-says b at e .exact)))
       (λ e.
@@ -87,8 +92,9 @@ module _ (b : List ℕ) (none-found : planFault b ≡ none) where
       (λ e.
       omega (
         arith,
-        eqb-true (wordAt b at) (constraintLength b at) (constraint-says b at e .exact),
-        constraint-short at (ordered b at (constraint-says b at e .in-order)),
+        eqb-true (wordAt b at) (constraintLength b at) (constraint-says b r at e .exact),
+        constraint-short at (ordered b at (constraint-says b r at e .in-order))
+            (leb-true (furtherCount b at) maxFurther (constraint-says b r at e .few-further)),
       ))
       (sound-section b none-found k h)
 

@@ -42,6 +42,6 @@ pub zeroed-ready : (b cells : List ℕ) (n : ℕ) → planFault b ≡ none → m
     → workNeed ≤ length cells → Ready b cells
 zeroed-ready b cells n sound made long = record {
   sound = sound;
-  index = subst (Indexed b) (sym made) (indexed b sound (memOf (zeros n)) (zero-memory n _) (zero-memory n _));
+  index = subst (Indexed b) (sym made) (indexed b sound (memOf (zeros n)) (λ r i j h l. zero-memory n r i j));
   long = long;
 }

@@ -39,7 +39,7 @@ pub fn counter_row(cells: &[u16], x: usize, y: usize) -> usize
     requires { ⌜ (workNeed ≤ length (now cells)) × (x < maxVariables) × (y < maxVariables) × Numbered (memOf (now cells)) x y ⌝ }
     ensures { λ r. ⌜ (r ≡ counterRow (memOf (now (cells .entry))) x y) × (r ≤ COUNTERMAX) ⌝ }
 {
-    let head = layout::get(cells, layout::HEADS, x, y);
+    let head = layout::get(cells, layout::PAIRS, x, y);
     if y < x { 2 * head } else { 2 * head - 1 }
 }
 
@@ -48,7 +48,7 @@ pub fn linked(cells: &[u16], x: usize, y: usize) -> bool
     requires { ⌜ (x < maxVariables) × (y < maxVariables) × (workNeed ≤ length (now cells)) ⌝ }
     ensures { λ r. ⌜ ((b : List ℕ) → Indexed b (memOf (now (cells .entry))) → r ≡ shareConstraint (planOf b) x y) ⌝ }
 {
-    layout::get(cells, layout::HEADS, x, y) != 0
+    layout::get(cells, layout::PAIRS, x, y) != 0
 }
 
 // How many values a variable has.

@@ -17,6 +17,14 @@ module _ {A L : Type 0} (c : Call A L) (l : L) where
   unfolding outcomeOf
   call-refused d e = rw e (record { answer = refl; cells = refl })
 
+-- calls that need the same buffers, have the same fault in their other inputs, and do and decline alike give the same
+pub same-outcome : {A L : Type 0} (c d : Call A L) → c .buffers ≡ d .buffers → c .fault ≡ d .fault
+    → ((l : L) → c .does l ≡ d .does l) → ((e : Decline) → c .declines e ≡ d .declines e)
+    → (l : L) → outcomeOf c l ≡ outcomeOf d l
+same-outcome {A} {L} c d buffers fault does declines l =
+    ap (λ (k : Call A L). outcomeOf k l)
+    (λ i. record { buffers = buffers i; fault = fault i; does = λ m. does m i; declines = λ e. declines e i })
+
 -- a call's answers: each is a success or a decline and not both, each decline is an answer of its own, and where nothing is at fault
 -- it succeeds
 pub record Answers {A L S : Type 0} (c : Call A L) (success : S → A) : Type 0 where

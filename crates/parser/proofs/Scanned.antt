@@ -4,8 +4,8 @@ use mathlib.Core.Bool.{true, false}
 use mathlib.Core.Logic.{⊎-elim}
 use mathlib.Core.List.{List}
 use mathlib.Core.Option.{none, some}
-use mathlib.Core.Path.{_≡_, sym, _∙_, ap}
-use borrow.Author.Tests.{leb-true, le-leb, ne-eqb}
+use mathlib.Core.Path.{_≡_, sym, _∙_, ap, subst}
+use borrow.Author.Tests.{leb-true, le-leb, lt-leb, ne-eqb}
 use native.Mathlib.Decide.{ℕ-discrete, decLt}
 use native.Mathlib.Numerals.{add-one}
 use native.Mathlib.Omega.{arith}
@@ -16,7 +16,7 @@ use Rattle.base.proofs.Bools.{clash}
 use Rattle.base.proofs.Choice.{between-intro, between-low, between-high}
 use Rattle.base.specs.Below.{firstBelow}
 use Rattle.base.specs.Choice.{between}
-use Rattle.format.specs.Format.{behind, sectionStart, variableCount, sectionCount, sizeAt, numberedSize}
+use Rattle.format.specs.Format.{behind, sectionStart, constraintStart, variableCount, sectionCount, sizeAt, numberedSize}
 use Rattle.format.specs.Limits.{maxVariables, maxValues, maxLabels}
 use Rattle.format.specs.Version.{maxSize}
 use Rattle.format.proofs.Widths.{size-range}
@@ -24,14 +24,15 @@ use Rattle.plan.proofs.SectionSays.{VariableSays, variable-says}
 use Rattle.plan.proofs.Head.{head-fits}
 use Rattle.plan.proofs.Sections.{passed-before, start-within}
 use Rattle.faults.specs.CheckList.{firstFault, faultAt}
-use Rattle.plan.specs.Check.{labelsTo, sectionChecks, sectionFault}
+use Rattle.plan.specs.Check.{labelsTo, constraintChecks, sectionChecks, sectionFault}
 use Rattle.network.specs.Network.{labelCount}
 use Rattle.plan.proofs.PlanCounts.{labels-read}
 use Rattle.plan.specs.Decode.{trailingFault, sectionsFault, planOf}
 use Rattle.plan.specs.Network.{networkOf}
 use Rattle.faults.specs.Fault.{decline}
 use Rattle.sections.specs.Known.{VariablesKnown, startCount}
-use Rattle.parser.specs.Known.{PassedBefore, labelsBefore}
+use Rattle.touching.specs.Touching.{Touching}
+use Rattle.parser.specs.Known.{PassedBefore, labelsBefore, constraintsBefore}
 use Rattle.plan.specs.Answer.{checkOf}
 use Rattle.plan.specs.declared.Checked.the-variants.{Declined}
 use Rattle.faults.specs.declared.Fault.{Fault}
@@ -84,6 +85,30 @@ labels-to b k r h = ap (labelsTo b) same
   where
     same : min (k + 1 - 1) (variableCount b) ≡ k
     same = omega arith
+
+-- before the first section no constraint touches a pair
+pub touching-none : (b : List ℕ) {rows : List ℕ} → Touching b 0 rows 0 → Touching b (constraintsBefore b 0) rows 0
+touching-none b {rows} = subst (λ (c : ℕ). Touching b c rows 0) (omega arith)
+
+-- up to the last variable there is no constraint
+module _ (b : List ℕ) (k : ℕ) {n : ℕ} (r : n ≡ variableCount b) where
+  pub touching-same : {rows : List ℕ} {pairs : ℕ} → k ≤ n → Touching b (constraintsBefore b k) rows pairs
+      → Touching b (constraintsBefore b (k + 1)) rows pairs
+  touching-same {rows} {pairs} h = subst (λ (c : ℕ). Touching b c rows pairs) (omega arith)
+
+  -- behind it section k is that of one constraint more
+  module _ (h : n < k) where
+    pub constraint-at : (at : ℕ) → at ≡ sectionStart b k → at ≡ constraintStart b (constraintsBefore b k)
+    constraint-at at e = e ∙ ap (sectionStart b) (omega arith)
+
+    pub constraint-more : suc (constraintsBefore b k) ≡ constraintsBefore b (k + 1)
+    constraint-more = omega arith
+
+    pub constraint-checks : (at : ℕ) → at ≡ sectionStart b k → constraintChecks b (suc (constraintsBefore b k)) at ≡ sectionChecks b k
+    unfolding sectionChecks
+    constraint-checks at e =
+        let number : suc (constraintsBefore b k) ≡ k - variableCount b = omega arith in
+        rw (ne-eqb k 0 (omega arith), lt-leb k (variableCount b) (omega arith), ← e, number)
 
 -- behind the last section all labels are counted
 pub labels-all : (b : List ℕ) (k labels : ℕ) → labels ≡ labelsBefore b k → k ≡ sectionCount b → labels ≡ labelCount (networkOf (planOf b))

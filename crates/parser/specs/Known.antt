@@ -1,4 +1,4 @@
--- What the scan of a plan's sections knows: the sections that passed, where they start, and how many labels they have.
+-- What the scan of a plan's sections knows: the sections that passed, where they start, and how many labels and constraints they have.
 use Prim.Native.Nat.{ℕ, _-_, _<_, min}
 use mathlib.Core.List.{List}
 use mathlib.Core.Option.{none}
@@ -17,3 +17,7 @@ pub record PassedBefore (b starts : List ℕ) (k : ℕ) : Type 0 where
 -- the labels of the variables among the first `k` sections: the head is not one of them, nor are the constraints
 abbrev pub labelsBefore : List ℕ → ℕ → ℕ
 labelsBefore b k = labelsTo b (min (k - 1) (variableCount b))
+
+-- the constraints among the first `k` sections: they stand behind the head and the variables
+abbrev pub constraintsBefore : List ℕ → ℕ → ℕ
+constraintsBefore b k = k - 1 - variableCount b

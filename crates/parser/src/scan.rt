@@ -11,16 +11,19 @@ use sections::section;
 use sections::section::STARTS;
 use sections::section::Starts;
 use sections::variable;
+use touching::Touched;
+use touching::none_touched;
 ghost use mathlib.Core.Path.{_≡_};
 ghost use Prim.Native.Nat.{_+_, _≤_};
 ghost use lib.ListN.{length, set};
 ghost use Rattle.format.specs.Format.{sectionStart};
 ghost use Rattle.network.specs.Network.{labelCount};
 ghost use Rattle.plan.specs.Check.{sectionChecks};
-ghost use Rattle.faults.specs.CheckList.{firstFault, verdictOf};
 ghost use Rattle.plan.specs.Decode.{planOf, planEnd, trailingFault, sectionsFault};
+ghost use Rattle.touching.specs.Touching.{Touching};
+ghost use Rattle.sections.specs.Judged.{Judged};
 ghost use Rattle.sections.specs.Known.{startCount};
-ghost use Rattle.parser.specs.Known.{PassedBefore, labelsBefore};
+ghost use Rattle.parser.specs.Known.{PassedBefore, labelsBefore, constraintsBefore};
 ghost use Rattle.format.specs.Limits.{maxLabels};
 ghost use Rattle.plan.specs.Network.{networkOf};
 ghost use Rattle.plan.specs.Answer.{checkOf};
@@ -54,10 +57,19 @@ fn labels_with(plan: &[u8], k: usize, at: usize, labels: usize) -> usize
     }
 }
 
-// The checks of section k: of the head, a variable or a constraint. `labels` are those up to it.
-fn check_section(plan: &[u8], k: usize, at: usize, labels: usize, starts: &Starts) -> Verdict
-    requires { ⌜ PassedBefore (now plan) (now starts) k × (at ≡ sectionStart (now plan) k) × (at ≤ length (now plan)) × (1 ≤ length (now plan)) × (labels ≡ labelsBefore (now plan) (k + 1)) ⌝ }
-    ensures { λ r. ⌜ r ≡ verdictOf (firstFault (sectionChecks (now (plan .entry)) k)) ⌝ }
+// The checks of section k: of the head, a variable or a constraint. `labels` are those up to it; `touched` and `pairs` come as the
+// constraints before it left them.
+fn check_section(
+    plan: &[u8],
+    k: usize,
+    at: usize,
+    labels: usize,
+    starts: &Starts,
+    touched: &mut Touched,
+    pairs: &mut usize,
+) -> Verdict
+    requires { ⌜ PassedBefore (now plan) (now starts) k × (at ≡ sectionStart (now plan) k) × (at ≤ length (now plan)) × (1 ≤ length (now plan)) × (labels ≡ labelsBefore (now plan) (k + 1)) × Touching (now plan) (constraintsBefore (now plan) k) (now touched) (now pairs) ⌝ }
+    ensures { λ v. ⌜ Judged (now (plan .entry)) (constraintsBefore (now (plan .entry)) (k + 1)) (sectionChecks (now (plan .entry)) k) v (now (touched .exit)) (now (pairs .exit)) ⌝ }
 {
     if k == 0 {
         return section::check_head(plan, at);
@@ -65,7 +77,7 @@ fn check_section(plan: &[u8], k: usize, at: usize, labels: usize, starts: &Start
     if k <= read::variable_count(plan) {
         return variable::check_variable(plan, at, labels);
     }
-    constraint::check_constraint(plan, at, starts)
+    constraint::check_constraint(plan, at, starts, touched, pairs)
 }
 
 // What is left to check behind the last section, which ends at `at`.
@@ -91,12 +103,14 @@ pub fn check_sections(plan: &[u8]) -> Checked
 {
     let count = read::section_count(plan);
     let mut starts = no_starts();
+    let mut touched = none_touched();
+    let mut pairs = 0;
     let mut labels = 0;
     let mut at = 1;
     let mut k = 0;
     while k < count {
         labels = labels_with(plan, k, at, labels);
-        let verdict = check_section(plan, k, at, labels, &starts);
+        let verdict = check_section(plan, k, at, labels, &starts, &mut touched, &mut pairs);
         if let Verdict::Fails(fault) = verdict {
             return declined(fault, at);
         }

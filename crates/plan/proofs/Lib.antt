@@ -1,5 +1,6 @@
 pub mod Answer
 pub mod Constraints
+pub mod Covers
 pub mod Faults
 pub mod Head
 pub mod InOrder
@@ -9,7 +10,10 @@ pub mod Pairs
 pub mod Parts
 pub mod Passed
 pub mod PlanCounts
+pub mod SamePlans
 pub mod SectionSays
 pub mod Sections
 pub mod Variables
 pub mod WellFormed
+pub mod WorkedCopy
+pub mod WrittenOut

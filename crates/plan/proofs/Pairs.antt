@@ -6,7 +6,7 @@ use mathlib.Core.Path.{_≡_}
 use lib.ListN.{length}
 use Rattle.base.proofs.Bools.{decided, and-left, and-right, and-intro, or-left, or-right, or-second, not-of, not-of-true, bool-ext}
 use Rattle.base.proofs.Members.{all-at, at-all}
-use Rattle.plan.proofs.Links.{Over, over, of-joins}
+use Rattle.plan.proofs.Links.{Over}
 use Rattle.plan.specs.Network.{permits, joins, spares, accepts, pairAllowed}
 use Rattle.plan.specs.Plan.{Plan, noConstraint, constraintOf}
 
@@ -20,15 +20,15 @@ module _ (plan : Plan) (x v y w : ℕ) where
   unfolding spares
   spares-each f c o =
       or-second (permits plan (constraintOf plan c .relation) x v y w)
-      (not-of-true (of-joins (constraintOf plan c) x y (o .first-is) (o .second-is))) (f c (o .listed))
+      (not-of-true (o .joined)) (f c (o .listed))
 
   each-spares : EachPermits plan x v y w → (c : ℕ) → c < length (plan .constraints)
       → spares plan (constraintOf plan c) x v y w ≡ true
   unfolding spares
   each-spares f c h =
-      ⊎-elim (λ e. or-right (not (joins (constraintOf plan c) x y)) (f c (over plan c x y h e)))
+      ⊎-elim (λ e. or-right (not (joins (constraintOf plan c .scope) x y)) (f c (record { listed = h; joined = e })))
       (λ e. or-left (permits plan (constraintOf plan c .relation) x v y w) (not-of e))
-      (decided (joins (constraintOf plan c) x y))
+      (decided (joins (constraintOf plan c .scope) x y))
 
 module _ (plan : Plan) (x v y w : ℕ) where
   -- an allowed pair is permitted by each constraint over its two variables, whichever comes first

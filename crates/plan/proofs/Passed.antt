@@ -1,8 +1,8 @@
 -- The checks that a plan without fault has passed, kind by kind.
-use Prim.Native.Nat.{ℕ, suc, _+_, _<_}
+use Prim.Native.Nat.{ℕ, suc, _+_, _-_, _<_}
 use mathlib.Core.List.{List}
 use mathlib.Core.Option.{none}
-use mathlib.Core.Path.{_≡_}
+use mathlib.Core.Path.{_≡_, sym, ap, _∙_}
 use native.Mathlib.Omega.{arith}
 use borrow.Author.Tests.{le-leb, lt-leb, ne-eqb}
 use Rattle.format.specs.Format.{sectionStart, constraintStart, variableCount, constraintCount}
@@ -25,8 +25,10 @@ module _ (b : List ℕ) (none-found : planFault b ≡ none) where
       (sound-section b none-found (suc x) (omega arith))
 
   -- each constraint's section has passed its checks
-  pub constraint-passed : (c : ℕ) → c < constraintCount b → firstFault (constraintChecks b (constraintStart b c)) ≡ none
+  pub constraint-passed : (c : ℕ) → c < constraintCount b → firstFault (constraintChecks b (suc c) (constraintStart b c)) ≡ none
   unfolding sectionChecks
   constraint-passed c h =
-      rw (ne-eqb (suc (variableCount b + c)) 0 (omega arith), lt-leb (suc (variableCount b + c)) (variableCount b) (omega arith)) at
+      let number : suc (variableCount b + c) - variableCount b ≡ suc c = omega arith in
+      ap (λ (r : ℕ). firstFault (constraintChecks b r (constraintStart b c))) (sym number)
+      ∙ rw (ne-eqb (suc (variableCount b + c)) 0 (omega arith), lt-leb (suc (variableCount b + c)) (variableCount b) (omega arith)) at
       (sound-section b none-found (suc (variableCount b + c)) (omega arith))

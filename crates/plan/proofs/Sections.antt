@@ -1,5 +1,5 @@
 -- What a section's checks say: that it is complete, which number it gives, and where.
-use Prim.Native.Nat.{ℕ, zero, suc, _<_, _≤_}
+use Prim.Native.Nat.{ℕ, zero, suc, _-_, _<_, _≤_}
 use mathlib.Core.Bool.{Bool, true, false, cond}
 use mathlib.Core.List.{List}
 use mathlib.Core.Option.{Option, none, some}
@@ -23,13 +23,13 @@ use Rattle.faults.specs.declared.Fault.{Fault}
 
 -- what holds of the checks of each kind of section holds of every section's
 pub each-section : (P : List Check → Type 0) (b : List ℕ) (k : ℕ) → P (headChecks b (sectionStart b k))
-    → P (variableChecks b k (sectionStart b k)) → P (constraintChecks b (sectionStart b k)) → P (sectionChecks b k)
+    → P (variableChecks b k (sectionStart b k)) → P (constraintChecks b (k - variableCount b) (sectionStart b k)) → P (sectionChecks b k)
 unfolding sectionChecks
 each-section P b k head variable constraint = go (eqb k 0) (leb k (variableCount b))
   where
     go : (s t : Bool)
         → P (cond s (headChecks b (sectionStart b k))
-        (cond t (variableChecks b k (sectionStart b k)) (constraintChecks b (sectionStart b k))))
+        (cond t (variableChecks b k (sectionStart b k)) (constraintChecks b (k - variableCount b) (sectionStart b k))))
     go true t = head
     go false true = variable
     go false false = constraint
@@ -41,7 +41,7 @@ section-complete b k =
     each-section (λ cs. firstFault cs ≡ none → sectionStart b (suc k) ≤ length b) b k
     (λ e. leb-true (sectionStart b (suc k)) (length b) (head-says b (sectionStart b k) e .whole))
     (λ e. leb-true (sectionStart b (suc k)) (length b) (variable-says b k (sectionStart b k) e .whole))
-    (λ e. leb-true (sectionStart b (suc k)) (length b) (constraint-says b (sectionStart b k) e .whole))
+    (λ e. leb-true (sectionStart b (suc k)) (length b) (constraint-says b (k - variableCount b) (sectionStart b k) e .whole))
 
 -- a section's checks give the numbers 1 to 7 alone
 pub section-number : (b : List ℕ) (k : ℕ) (f : Fault) → firstFault (sectionChecks b k) ≡ some f → between 1 7 (numberOf f) ≡ true

@@ -7,7 +7,7 @@ use lib.Dec.{ltb, eqb}
 use lib.ListN.{length}
 use Rattle.base.specs.Below.{firstBelow, listBelow}
 use Rattle.base.specs.Choice.{between, firstOf}
-use Rattle.format.specs.Format.{sectionStart, constraintStart, workerCount, variableCount, constraintCount, sectionCount, ownerAt, sizeAt, codeAt, figureAt, firstAt, secondAt, kindAt, tableRowAt, limitAt, numberedSize}
+use Rattle.format.specs.Format.{sectionStart, constraintStart, workerCount, variableCount, constraintCount, sectionCount, ownerAt, sizeAt, codeAt, figureAt, firstAt, kindAt, tableRowAt, limitAt, scopeOf, numberedSize}
 use Rattle.format.specs.Limits.{maxVersion}
 use Rattle.format.specs.Version.{version}
 use Rattle.plan.specs.Check.{sectionFault}
@@ -45,14 +45,14 @@ variableAt b at = record {
   values = listBelow (sizeAt b at) (valueAt b at);
 }
 
--- what the rule says whose section starts at `at`: kind 0 is a table, kind 1 a sodium rule
+-- what the rule says whose section starts at `at`: kind 0 is a table, the others have a limit
 unfoldable pub relationAt : List ℕ → ℕ → Relation
 relationAt b at =
     cond (eqb (kindAt b at) 0) (table (listBelow (numberedSize b (firstAt b at)) (tableRowAt b at))) (sumLimit (limitAt b at))
 
 -- the rule whose section starts at `at`
 unfoldable pub constraintAt : List ℕ → ℕ → Constraint
-constraintAt b at = record { first = firstAt b at; second = secondAt b at; relation = relationAt b at }
+constraintAt b at = record { scope = scopeOf b at; relation = relationAt b at }
 
 -- the plan that the bytes hold, where no check fails
 unfoldable pub planOf : List ℕ → Plan

@@ -4,4 +4,6 @@ pub mod Computes
 pub mod Decode
 pub mod Network
 pub mod Plan
+pub mod SamePlans
 pub mod WellFormed
+pub mod WrittenOut

@@ -13,19 +13,19 @@ pub record Variable : Type 0 where
   pub owner : ℕ
   pub values : List Value
 
--- what a pair rule says: a table has a row for each dish of the first slot, lowest bit for the second slot's first
--- dish; a sodium rule has a limit
+-- what a rule says of two of its slots: a table has a row for each dish of the first slot, lowest bit for the second slot's first
+-- dish; a sodium rule, over two slots or a set of them, has a limit
 pub data Relation : Type 0 where
   table : List ℕ → Relation
   sumLimit : ℕ → Relation
 
--- a pair rule; its two slots by their numbers, from 1
+-- a rule: its slots by their numbers from 1, ascending, and what it says of two of them; a pair rule has two slots, a set rule two or
+-- more
 pub record Constraint : Type 0 where
-  pub first : ℕ
-  pub second : ℕ
+  pub scope : List ℕ
   pub relation : Relation
 
--- what a plan's bytes hold: kitchens, slots and pair rules
+-- what a plan's bytes hold: kitchens, slots and rules
 pub record Plan : Type 0 where
   -- p
   pub workers : ℕ
@@ -42,7 +42,7 @@ noValue = record { code = 0; figure = 0 }
 
 -- past the end of the constraints: one over no variables
 abbrev pub noConstraint : Constraint
-noConstraint = record { first = 0; second = 0; relation = sumLimit 0 }
+noConstraint = record { scope = []; relation = sumLimit 0 }
 
 -- the variable at an index
 unfoldable pub variableOf : Plan → ℕ → Variable

@@ -11,14 +11,14 @@ use Rattle.base.specs.Below.{loop}
 use Rattle.disac4.specs.System.{System}
 use Rattle.network.specs.Network.{supportCount}
 use Rattle.cells.proofs.Stores.{store-same, store-other}
-use Rattle.cells.specs.Layout.{COUNTERS, HEADS}
+use Rattle.cells.specs.Layout.{COUNTERS, PAIRS}
 use Rattle.cells.specs.Memory.{Mem}
 use Rattle.cells.specs.View.{counterRow}
 use Rattle.counting.proofs.Kept.{SameElse, against-else, both-else, variable-else}
 use Rattle.counting.specs.Count.{countValueM, countPairM, countAgainstM, countBothM, countVariableM, countSupportsM}
-use Rattle.index.proofs.Kept.{row-heads}
+use Rattle.index.proofs.Kept.{row-pairs}
 use Rattle.index.specs.Index.{Paired}
-use Rattle.refinement.proofs.InvKept.{SameHeads}
+use Rattle.refinement.proofs.InvKept.{SameNumbers}
 use Rattle.refinement.proofs.Labelwise.{own-row}
 use Rattle.refinement.specs.Inv.{Small}
 
@@ -48,16 +48,16 @@ module _ (sys : System) (small : Small sys) (z : Mem) (paired : Paired sys z) (x
     (l : sys .net .linked x y ≡ true) where
   -- the counter stands
   abbrev Stands : Mem → Type 0
-  Stands m = SameHeads z m × (m COUNTERS (counterRow z x y) v ≡ supportCount (sys .net) x v y)
+  Stands m = SameNumbers z m × (m COUNTERS (counterRow z x y) v ≡ supportCount (sys .net) x v y)
 
-  heads-after : (m m′ : Mem) → SameElse m m′ → SameHeads z m → SameHeads z m′
-  heads-after m m′ e s a b = e .kept HEADS a b (omega arith) ∙ s a b
+  pairs-after : (m m′ : Mem) → SameElse m m′ → SameNumbers z m → SameNumbers z m′
+  pairs-after m m′ e s a b = e .kept PAIRS a b (omega arith) ∙ s a b
 
   -- no other two variables' counters disturb it
   others : (x′ y′ : ℕ) → (x′ ≡ x → y′ ≡ y → ⊥) → (m : Mem) → Stands m → Stands (countAgainstM sys x′ y′ m)
   unfolding countAgainstM
   others x′ y′ d m s =
-      (heads-after m (countAgainstM sys x′ y′ m) (against-else sys x′ y′ m) (s .0), go (sys .net .linked x′ y′) refl ∙ s .1)
+      (pairs-after m (countAgainstM sys x′ y′ m) (against-else sys x′ y′ m) (s .0), go (sys .net .linked x′ y′) refl ∙ s .1)
     where
       go : (t : Bool) → sys .net .linked x′ y′ ≡ t
           → countAgainstM sys x′ y′ m COUNTERS (counterRow z x y) v ≡ m COUNTERS (counterRow z x y) v
@@ -65,15 +65,15 @@ module _ (sys : System) (small : Small sys) (z : Mem) (paired : Paired sys z) (x
           ap (λ (o : Mem). o COUNTERS (counterRow z x y) v) (cond-true (countPairM sys x′ y′ m) m e)
           ∙ pair-apart sys x′ y′ m (counterRow z x y) v
           (λ p.
-          let q = own-row sys small z paired x y x′ y′ l e (p ∙ row-heads z m x′ y′ (s .0 x′ y′)) in d (sym (q .0)) (sym (q .1)))
+          let q = own-row sys small z paired x y x′ y′ l e (p ∙ row-pairs z m x′ y′ (s .0 x′ y′)) in d (sym (q .0)) (sym (q .1)))
       go false e = ap (λ (o : Mem). o COUNTERS (counterRow z x y) v) (cond-false (countPairM sys x′ y′ m) m e)
 
-  own : (m : Mem) → SameHeads z m → Stands (countAgainstM sys x y m)
+  own : (m : Mem) → SameNumbers z m → Stands (countAgainstM sys x y m)
   unfolding countAgainstM
   own m s = (
-    heads-after m (countAgainstM sys x y m) (against-else sys x y m) s,
+    pairs-after m (countAgainstM sys x y m) (against-else sys x y m) s,
     ap (λ (o : Mem). o COUNTERS (counterRow z x y) v) (cond-true (countPairM sys x y m) m l)
-        ∙ ap (λ (k : ℕ). countPairM sys x y m COUNTERS k v) (sym (row-heads z m x y (s x y)))
+        ∙ ap (λ (k : ℕ). countPairM sys x y m COUNTERS k v) (sym (row-pairs z m x y (s x y)))
         ∙ pair-at sys x y m v h,
   )
 
@@ -86,7 +86,7 @@ module _ (sys : System) (small : Small sys) (z : Mem) (paired : Paired sys z) (x
         others y′ x′ (λ e f. ⊎-elim (λ p. omega arith) (λ p. d (omega arith) (omega arith)) these) (countAgainstM sys x′ y′ m)
         (others x′ y′ (λ e f. ⊎-elim (λ p. d (omega arith) (omega arith)) (λ p. omega arith) these) m s)
 
-    own-two : (m : Mem) → SameHeads z m → Stands (countBothM sys low high m)
+    own-two : (m : Mem) → SameNumbers z m → Stands (countBothM sys low high m)
     unfolding countBothM
     own-two m s = go these
       where
@@ -94,16 +94,16 @@ module _ (sys : System) (small : Small sys) (z : Mem) (paired : Paired sys z) (x
         go (inl p) = rw (p .0, p .1) (others y x (λ e f. omega arith) (countAgainstM sys x y m) (own m s))
         go (inr p) =
             rw (p .0, p .1)
-            (own (countAgainstM sys y x m) (heads-after m (countAgainstM sys y x m) (against-else sys y x m) s))
+            (own (countAgainstM sys y x m) (pairs-after m (countAgainstM sys y x m) (against-else sys y x m) s))
 
     counted-once : countSupportsM sys z COUNTERS (counterRow z x y) v ≡ supportCount (sys .net) x v y
     unfolding countSupportsM countVariableM
     counted-once =
-        loop-at (SameHeads z) Stands (sys .net .variables) (countVariableM sys) high inside
-        (λ j k d m. heads-after m (countVariableM sys j m) (variable-else sys j m))
+        loop-at (SameNumbers z) Stands (sys .net .variables) (countVariableM sys) high inside
+        (λ j k d m. pairs-after m (countVariableM sys j m) (variable-else sys j m))
         (λ j k d. loop-keeps Stands j (λ i. countBothM sys i j) (λ i b. other-two i j b (λ e f. d f)))
-        (loop-at (SameHeads z) Stands high (λ i. countBothM sys i high) low below
-        (λ i b d m. heads-after m (countBothM sys i high m) (both-else sys i high m))
+        (loop-at (SameNumbers z) Stands high (λ i. countBothM sys i high) low below
+        (λ i b d m. pairs-after m (countBothM sys i high m) (both-else sys i high m))
         (λ i b d. other-two i high b (λ e f. d e)) own-two)
         z (λ a b. refl) .1
 

@@ -12,7 +12,7 @@ use Rattle.base.specs.Below.{sumBelow, one}
 use Rattle.disac4.specs.System.{System}
 use Rattle.disac4.specs.declared.Tally.{Tally}
 use Rattle.cells.proofs.Stores.{store-other, store-apart}
-use Rattle.cells.specs.Layout.{WORKERS, CURSORS, BOUNDS, LOG, WORK, OUT, WANTED, DOMAIN, HEADS, HEAD, TAIL, LOGEND, SENDS, LISTS, HELD, POLLS, OUTEND, OUTREAD, LISTED, LISTMARK}
+use Rattle.cells.specs.Layout.{WORKERS, CURSORS, BOUNDS, LOG, WORK, OUT, WANTED, DOMAIN, PAIRS, HEAD, TAIL, LOGEND, SENDS, LISTS, HELD, POLLS, OUTEND, OUTREAD, LISTED, LISTMARK}
 use Rattle.cells.specs.Memory.{Mem, store}
 use Rattle.controller.specs.Controller.{Machine}
 use Rattle.cells.specs.View.{inDomain}
@@ -43,8 +43,8 @@ abbrev pub SameWanted : Mem → Mem → Type 0
 SameWanted m m′ = (n : ℕ) → m′ WANTED 0 n ≡ m WANTED 0 n
 
 -- the index of the counters
-abbrev pub SameHeads : Mem → Mem → Type 0
-SameHeads m m′ = (x y : ℕ) → m′ HEADS x y ≡ m HEADS x y
+abbrev pub SameNumbers : Mem → Mem → Type 0
+SameNumbers m m′ = (x y : ℕ) → m′ PAIRS x y ≡ m PAIRS x y
 
 module _ (m m′ : Mem) where
   -- a worker's row depends on its cells and on how many polls there were; its lists may grow
@@ -116,7 +116,7 @@ module _ (m m′ : Mem) where
       held = workers HELD (omega arith)
 
   -- the rows of counters depend on the index
-  pub paired-kept : (sys : System) → SameHeads m m′ → Paired sys m → Paired sys m′
+  pub paired-kept : (sys : System) → SameNumbers m m′ → Paired sys m → Paired sys m′
   paired-kept sys s p = record {
     low = λ x y e. rw (s x y) (p .low x y e);
     high = λ x y e. rw (s x y) (p .high x y e);
@@ -199,7 +199,7 @@ totals-kept sys m m′ t t′ s e u = record {
 pub record OnlyRow (m m′ : Mem) (i : ℕ) : Type 0 where
   pub others : (k : ℕ) → (k ≡ i → ⊥) → SameRow m m′ k
   pub wanted : SameWanted m m′
-  pub heads : SameHeads m m′
+  pub pairs : SameNumbers m m′
   pub listed : (x v : ℕ) → inDomain m′ x v ≡ true → inDomain m x v ≡ true
 
 module _ {m m′ : Mem} {i : ℕ} where
@@ -216,7 +216,7 @@ module _ {m m′ : Mem} {i : ℕ} where
           out = λ d. beside OUT k d n ∙ o .out d;
         };
     wanted = λ n. above WANTED 0 n (omega arith) ∙ only .wanted n;
-    heads = λ x y. above HEADS x y (omega arith) ∙ only .heads x y;
+    pairs = λ x y. above PAIRS x y (omega arith) ∙ only .pairs x y;
     listed = λ x v e. only .listed x v (subst (λ (c : ℕ). eqb c LISTED ≡ true) (above DOMAIN x v (omega arith)) e);
   }
     where
@@ -261,7 +261,7 @@ row-action sys s s′ i inv only next row totals outs marks = record {
       (only .wanted) (next .replied k r)))
       (inv .replied k h));
   listed = λ x v e. inv .listed x v (only .listed x v e);
-  paired = paired-kept (s .mem) (s′ .mem) sys (only .heads) (inv .paired);
+  paired = paired-kept (s .mem) (s′ .mem) sys (only .pairs) (inv .paired);
   marks = marks;
 }
 

@@ -12,7 +12,7 @@ use Rattle.disac4.specs.Loading.{unsupported}
 use Rattle.disac4.specs.System.{System}
 use Rattle.network.specs.Network.{Label, label}
 use Rattle.cells.proofs.Stores.{store-same, store-other, store-apart}
-use Rattle.cells.specs.Layout.{WORKERS, LOG, WORK, DOMAIN, COUNTERS, HEADS, TAIL, LOGEND, LISTED}
+use Rattle.cells.specs.Layout.{WORKERS, LOG, WORK, DOMAIN, COUNTERS, PAIRS, TAIL, LOGEND, LISTED}
 use Rattle.cells.specs.Memory.{Mem, store}
 use Rattle.cells.specs.View.{counterRow}
 use Rattle.refinement.proofs.DeleteApart.{Apart, deleteIf, delete-if-apart}
@@ -37,7 +37,7 @@ module _ (sys : System) (x v : ℕ) where
   list-shows m₀ d c m s =
       shows-if sys m₀ (sys .owner x - 1) x v LISTED c (unsupported (sys .net) x v) (store m DOMAIN x v LISTED)
       (record {
-        heads = λ a b. store-apart m DOMAIN x v LISTED HEADS a b (omega arith) ∙ s .heads a b;
+        pairs = λ a b. store-apart m DOMAIN x v LISTED PAIRS a b (omega arith) ∙ s .pairs a b;
         domain = store-same m DOMAIN x v LISTED;
         counter = λ y k. store-apart m DOMAIN x v LISTED COUNTERS (counterRow m₀ x y) v (omega arith) ∙ s .counter y k;
       })

@@ -16,11 +16,11 @@ use Rattle.base.specs.Below.{one}
 use Rattle.disac4.specs.System.{System}
 use Rattle.network.proofs.Loaded.{loaded-intro}
 use Rattle.network.specs.Network.{Label, loaded}
-use Rattle.cells.specs.Layout.{WORKERS, LOG, WORK, DOMAIN, COUNTERS, HEADS, TAIL, LOGEND}
+use Rattle.cells.specs.Layout.{WORKERS, LOG, WORK, DOMAIN, COUNTERS, PAIRS, TAIL, LOGEND}
 use Rattle.cells.specs.Memory.{Mem}
 use Rattle.cells.specs.View.{counterRow}
-use Rattle.index.proofs.Kept.{row-heads}
-use Rattle.refinement.proofs.InvKept.{SameHeads}
+use Rattle.index.proofs.Kept.{row-pairs}
+use Rattle.refinement.proofs.InvKept.{SameNumbers}
 use Rattle.refinement.proofs.DeleteApart.{Apart, domain-apart, deleteIf, delete-apart, delete-domain, delete-counter}
 use Rattle.refinement.proofs.LongerLists.{Both, both-none, both-more, Appends}
 use Rattle.refinement.specs.Inv.{Small}
@@ -63,7 +63,7 @@ own-row sys small m paired x y x′ y′ l l′ e =
 
 -- label `v` of `x` has the domain cell `d` and the counters `c`; the index is that of `m₀`
 pub record Shows (sys : System) (m₀ : Mem) (x v d : ℕ) (c : ℕ → ℕ) (m : Mem) : Type 0 where
-  pub heads : (a b : ℕ) → m HEADS a b ≡ m₀ HEADS a b
+  pub pairs : (a b : ℕ) → m PAIRS a b ≡ m₀ PAIRS a b
   pub domain : m DOMAIN x v ≡ d
   pub counter : (y : ℕ) → sys .net .linked x y ≡ true → m COUNTERS (counterRow m₀ x y) v ≡ c y
 
@@ -73,13 +73,13 @@ As sys m₀ x v m = Shows sys m₀ x v (m₀ DOMAIN x v) (λ y. m₀ COUNTERS (c
 
 -- so it is at the start
 as-start : (sys : System) (m : Mem) (x v : ℕ) → As sys m x v m
-as-start sys m x v = record { heads = λ a b. refl; domain = refl; counter = λ y l. refl }
+as-start sys m x v = record { pairs = λ a b. refl; domain = refl; counter = λ y l. refl }
 
 -- a label that is deleted if a test holds
 pub shows-if : (sys : System) (m₀ : Mem) (i x v d : ℕ) (c : ℕ → ℕ) (z : Bool) (m : Mem) → Shows sys m₀ x v d c m
     → Shows sys m₀ x v (cond z 0 d) c (deleteIf z i x v m)
 shows-if sys m₀ i x v d c true m s = record {
-  heads = λ a b. delete-apart sys i x v m m HEADS a b (omega arith) ∙ s .heads a b;
+  pairs = λ a b. delete-apart sys i x v m m PAIRS a b (omega arith) ∙ s .pairs a b;
   domain = delete-domain sys i x v m;
   counter = λ y k. delete-counter sys i x v m (counterRow m₀ x y) v ∙ s .counter y k;
 }
@@ -94,14 +94,14 @@ module _ (sys : System) (small : Small sys) (f : ℕ → ℕ → Mem → Mem) (r
   -- the walk from `m₀` ends in `m₁`
   module _ (local : Local) (m₀ : Mem) (paired : Paired sys m₀) (m₁ : Mem)
       (walked : m₁ ≡ walk (sys .net) f m₀) where
-    keeps-heads : (x v : ℕ) → x < sys .net .variables → v < sys .net .size x → (m : Mem) → SameHeads m₀ m
-        → SameHeads m₀ (f x v m)
-    keeps-heads x v h l m s a b = local x v h l m HEADS a b (omega arith) ∙ s a b
+    keeps-pairs : (x v : ℕ) → x < sys .net .variables → v < sys .net .size x → (m : Mem) → SameNumbers m₀ m
+        → SameNumbers m₀ (f x v m)
+    keeps-pairs x v h l m s a b = local x v h l m PAIRS a b (omega arith) ∙ s a b
 
-    moved : (i x v r a b : ℕ) (m : Mem) → SameHeads m₀ m → Apart sys m₀ i x v r a b → Apart sys m i x v r a b
+    moved : (i x v r a b : ℕ) (m : Mem) → SameNumbers m₀ m → Apart sys m₀ i x v r a b → Apart sys m i x v r a b
     moved i x v r a b m s p = record {
       domain = p .domain;
-      counter = λ y l e q. p .counter y l e (q ∙ row-heads m₀ m x y (s x y));
+      counter = λ y l e q. p .counter y l e (q ∙ row-pairs m₀ m x y (s x y));
       log = p .log;
       work = p .work;
       log-end = p .log-end;
@@ -114,21 +114,21 @@ module _ (sys : System) (small : Small sys) (f : ℕ → ℕ → Mem → Mem) (r
         → m₁ r a b ≡ m₀ r a b
     walk-apart r a b p =
         ap (λ (m : Mem). m r a b) walked
-        ∙ walk-keeps (sys .net) f (λ m. SameHeads m₀ m × (m r a b ≡ m₀ r a b))
+        ∙ walk-keeps (sys .net) f (λ m. SameNumbers m₀ m × (m r a b ≡ m₀ r a b))
         (λ x v h l m s.
-        (keeps-heads x v h l m (s .0), local x v h l m r a b (moved (row x) x v r a b m (s .0) (p x v h l)) ∙ s .1))
+        (keeps-pairs x v h l m (s .0), local x v h l m r a b (moved (row x) x v r a b m (s .0) (p x v h l)) ∙ s .1))
         m₀ ((λ a b. refl), refl) .1
 
     -- what is a label's own is left alone by the others
     shows-others : (x v d : ℕ) (c : ℕ → ℕ) → Others (sys .net) f (Shows sys m₀ x v d c) x v
     shows-others x v d c x′ v′ n h l m s = record {
-      heads = keeps-heads x′ v′ h l m (s .heads);
+      pairs = keeps-pairs x′ v′ h l m (s .pairs);
       domain = local x′ v′ h l m DOMAIN x v (domain-apart sys m (row x′) x v x′ v′ (λ p q. n (sym p) (sym q))) ∙ s .domain;
       counter = λ y k. local x′ v′ h l m COUNTERS (counterRow m₀ x y) v (record {
         domain = λ e. omega arith;
         counter = λ y′ k′ e p q.
             n
-            (sym (own-row sys small m₀ paired x y x′ y′ k k′ (p ∙ row-heads m₀ m x′ y′ (s .heads x′ y′)) .0))
+            (sym (own-row sys small m₀ paired x y x′ y′ k k′ (p ∙ row-pairs m₀ m x′ y′ (s .pairs x′ y′)) .0))
             (sym q);
         log = λ e. omega arith;
         work = λ e. omega arith;

@@ -14,7 +14,7 @@ use Rattle.disac4.specs.System.{System}
 use Rattle.disac4.specs.declared.Tally.{Tally}
 use Rattle.cells.proofs.Queue.{labels-length}
 use Rattle.cells.proofs.Stores.{store-same, store-other, store-apart, OffList, copy-other}
-use Rattle.cells.specs.Layout.{WORKERS, CURSORS, BOUNDS, LOG, WORK, OUT, WANTED, DOMAIN, HEADS, HEAD, TAIL, LOGEND, SENDS, LISTS, OUTEND, OUTREAD, LISTED}
+use Rattle.cells.specs.Layout.{WORKERS, CURSORS, BOUNDS, LOG, WORK, OUT, WANTED, DOMAIN, PAIRS, HEAD, TAIL, LOGEND, SENDS, LISTS, OUTEND, OUTREAD, LISTED}
 use Rattle.cells.specs.Queues.{copyM}
 use Rattle.cells.specs.Memory.{Mem, store}
 use Rattle.cells.specs.View.{labelsBetween, listAt}
@@ -88,7 +88,7 @@ module _ (j i : ℕ) (m : Mem) where
       out = region OUT (omega arith) k;
     };
     wanted = region WANTED (omega arith) 0;
-    heads = region HEADS (omega arith);
+    pairs = region PAIRS (omega arith);
     listed = λ x v. subst (λ (c : ℕ). eqb c LISTED ≡ true) (region DOMAIN (omega arith) x v);
   }
 

@@ -11,13 +11,13 @@ use Rattle.disac4.specs.System.{System}
 use Rattle.disac4.specs.declared.Tally.{Tally}
 use Rattle.network.specs.Network.{Label, loaded}
 use Rattle.cells.proofs.Queue.{labels-same, read-queue}
-use Rattle.cells.specs.Layout.{WORKERS, CURSORS, BOUNDS, LOG, WORK, OUT, WANTED, DOMAIN, COUNTERS, HEADS, HEAD, TAIL, LOGEND, SENDS, LISTS, HELD, POLLS, OUTEND, OUTREAD, LISTED}
+use Rattle.cells.specs.Layout.{WORKERS, CURSORS, BOUNDS, LOG, WORK, OUT, WANTED, DOMAIN, COUNTERS, PAIRS, HEAD, TAIL, LOGEND, SENDS, LISTS, HELD, POLLS, OUTEND, OUTREAD, LISTED}
 use Rattle.cells.specs.Memory.{Mem}
 use Rattle.reads.proofs.ReadLaws.{HasList, list-goes, list-idle}
 use Rattle.reads.specs.Reads.{takenM, readListM}
 use Rattle.controller.specs.Controller.{Machine}
 use Rattle.cells.specs.View.{labelsBetween, listAt, counterRow, viewCounter, viewLists, view, contents, workOf, sendOf, heldOf, listMessagesQueue, rowsOf}
-use Rattle.index.proofs.Kept.{row-heads}
+use Rattle.index.proofs.Kept.{row-pairs}
 use Rattle.refinement.proofs.Actors.{at-worker, actors-update, counters-more, actors-same}
 use Rattle.refinement.proofs.Capacity.{bound-logged, logend-small, sends-few, lists-few}
 use Rattle.refinement.proofs.ChannelRows.{at-list-messages, Stays, Beside, channels-update}
@@ -65,7 +65,7 @@ module _ (sys : System) (small : Small sys) (s : Machine) (inv : Inv sys s) (j i
   counter-kept x v y =
       ap (λ (c : ℕ). cond (loaded (sys .net) x v && sys .net .linked x y) c 0)
       (region j i m COUNTERS (omega arith) (counterRow m′ x y) v
-      ∙ ap (λ (r : ℕ). m COUNTERS r v) (row-heads m m′ x y (region j i m HEADS (omega arith) x y)))
+      ∙ ap (λ (r : ℕ). m COUNTERS r v) (row-pairs m m′ x y (region j i m PAIRS (omega arith) x y)))
 
   module _ (l : m CURSORS j i < m WORKERS j SENDS) where
     work-here : workOf m′ i ≡ workOf m i ++ listAt m j (m CURSORS j i)

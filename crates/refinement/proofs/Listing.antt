@@ -13,12 +13,12 @@ use Rattle.disac4.specs.Loading.{loadedCounter, unsupported}
 use Rattle.disac4.specs.System.{System}
 use Rattle.network.proofs.Loaded.{loaded-intro}
 use Rattle.network.specs.Network.{Network, loaded, supportCount}
-use Rattle.cells.specs.Layout.{DOMAIN, COUNTERS, HEADS, LISTED}
+use Rattle.cells.specs.Layout.{DOMAIN, COUNTERS, PAIRS, LISTED}
 use Rattle.cells.specs.Memory.{Mem, store}
 use Rattle.cells.specs.View.{counterRow}
 use Rattle.counting.proofs.Kept.{count-else}
 use Rattle.counting.specs.Count.{countSupportsM}
-use Rattle.index.proofs.Kept.{row-heads}
+use Rattle.index.proofs.Kept.{row-pairs}
 use Rattle.index.specs.Index.{Paired}
 use Rattle.loading.proofs.Kept.{CountersKept, list-variables-kept}
 use Rattle.loading.specs.Load.{suits, suitedRow, listLabelM, listValueM, listValuesM, listVariableM, listM, loadM}
@@ -87,7 +87,7 @@ module _ (sys : System) where
       sym
       (variable-walk x h m
       (λ v y k l.
-      ap (λ (a : ℕ). m COUNTERS a v) (row-heads z m x y (same .kept HEADS x y (omega arith)))
+      ap (λ (a : ℕ). m COUNTERS a v) (row-pairs z m x y (same .kept PAIRS x y (omega arith)))
       ∙ same .kept COUNTERS (counterRow z x y) v (omega arith)
       ∙ counted x v y k l))))
 
@@ -98,5 +98,5 @@ module _ (sys : System) where
       list-walk (countSupportsM sys z)
       (λ x v y h l.
       ap (λ (a : ℕ). countSupportsM sys z COUNTERS a v)
-      (row-heads z (countSupportsM sys z) x y (count-else sys z .kept HEADS x y (omega arith)))
+      (row-pairs z (countSupportsM sys z) x y (count-else sys z .kept PAIRS x y (omega arith)))
       ∙ counted-at sys small z paired x v y h l)

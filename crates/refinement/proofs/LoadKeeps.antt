@@ -20,7 +20,7 @@ use Rattle.refinement.specs.Inv.{Small, Row, Totals, Inv, listsOut}
 use Rattle.refinement.specs.Run.{freshTally}
 use Rattle.index.specs.Index.{Paired}
 use Rattle.refinement.proofs.InvKept.{paired-kept}
-use Rattle.refinement.proofs.LoadRefines.{Blank, loaded-both, loaded-unmoved, column-loaded, domain-loaded, heads-loaded}
+use Rattle.refinement.proofs.LoadRefines.{Blank, loaded-both, loaded-unmoved, column-loaded, domain-loaded, pairs-loaded}
 use Rattle.refinement.proofs.Unmoved.{row-longer}
 
 module _ (sys : System) (small : Small sys) (z : Mem) (paired : Paired sys z) (blank : Blank z) where
@@ -110,7 +110,7 @@ module _ (sys : System) (small : Small sys) (z : Mem) (paired : Paired sys z) (b
       wanted-ended = λ e p. absurd (not-suc-le-zero p);
     };
     replied = λ i h. inl (omega (arith, column i OUTEND (omega arith)));
-    paired = paired-kept z n sys (heads-loaded sys small z paired blank) paired;
+    paired = paired-kept z n sys (pairs-loaded sys small z paired blank) paired;
     listed = λ x v e.
         and-left (loaded (sys .net) x v) (not (unsupported (sys .net) x v))
         (sym (domain-loaded sys small z paired blank x v) ∙ e);

@@ -20,10 +20,10 @@ use Rattle.network.proofs.Loaded.{loaded-variable, loaded-value}
 use Rattle.network.proofs.Supports.{support-count}
 use Rattle.network.specs.Network.{Label, label, loaded, labelsWhere, supports, supportCount}
 use Rattle.cells.proofs.Queue.{labels-none, queue-none}
-use Rattle.cells.specs.Layout.{WORKERS, CURSORS, BOUNDS, LOG, WORK, OUT, WANTED, DOMAIN, COUNTERS, HEADS, HEAD, TAIL, LOGEND, SENDS, LISTS, HELD, OUTEND, LABELROOM, LISTED}
+use Rattle.cells.specs.Layout.{WORKERS, CURSORS, BOUNDS, LOG, WORK, OUT, WANTED, DOMAIN, COUNTERS, PAIRS, HEAD, TAIL, LOGEND, SENDS, LISTS, HELD, OUTEND, LABELROOM, LISTED}
 use Rattle.counting.proofs.Kept.{count-else}
 use Rattle.counting.specs.Count.{countSupportsM}
-use Rattle.index.proofs.Kept.{row-heads}
+use Rattle.index.proofs.Kept.{row-pairs}
 use Rattle.loading.specs.Load.{loadM}
 use Rattle.cells.specs.Memory.{Mem}
 use Rattle.refinement.specs.Run.{freshTally}
@@ -43,7 +43,7 @@ use Rattle.refinement.proofs.ViewParts.{same-state}
 
 -- the regions before the index are 0
 abbrev pub Blank : Mem → Type 0
-Blank z = (r a b : ℕ) → r < HEADS → z r a b ≡ 0
+Blank z = (r a b : ℕ) → r < PAIRS → z r a b ≡ 0
 
 -- no label is deleted by an actor that owns none
 no-deletions : (sys : System) (k : ℕ) → ((x : ℕ) → x < sys .net .variables → eqb (sys .owner x) k ≡ false)
@@ -63,11 +63,11 @@ module _ (sys : System) (small : Small sys) (z : Mem) (paired : Paired sys z) (b
   abbrev z₁ : Mem
   z₁ = countSupportsM sys z
 
-  counted-heads : (a b : ℕ) → z₁ HEADS a b ≡ z HEADS a b
-  counted-heads a b = count-else sys z .kept HEADS a b (omega arith)
+  counted-pairs : (a b : ℕ) → z₁ PAIRS a b ≡ z PAIRS a b
+  counted-pairs a b = count-else sys z .kept PAIRS a b (omega arith)
 
   paired₁ : Paired sys z₁
-  paired₁ = paired-kept z z₁ sys counted-heads paired
+  paired₁ = paired-kept z z₁ sys counted-pairs paired
 
   local : Local sys small (listStep sys) (λ x. sys .owner x - 1)
   local x v h l = list-apart sys x v
@@ -88,11 +88,11 @@ module _ (sys : System) (small : Small sys) (z : Mem) (paired : Paired sys z) (b
       walk-shows sys small (listStep sys) (λ x. sys .owner x - 1) local z₁ paired₁ n (load-walk sys small z paired) x v _ _ h l
       (list-shows sys x v z₁ (z₁ DOMAIN x v) (λ y. z₁ COUNTERS (counterRow z₁ x y) v)) in
       record {
-        heads = s .heads;
+        pairs = s .pairs;
         domain = s .domain;
         counter = λ y k.
             s .counter y k
-            ∙ ap (λ (a : ℕ). z₁ COUNTERS a v) (row-heads z z₁ x y (counted-heads x y))
+            ∙ ap (λ (a : ℕ). z₁ COUNTERS a v) (row-pairs z z₁ x y (counted-pairs x y))
             ∙ counted-at sys small z paired x v y l k;
       }
 
@@ -156,8 +156,8 @@ module _ (sys : System) (small : Small sys) (z : Mem) (paired : Paired sys z) (b
           ∙ blank DOMAIN x v (omega arith))
 
   -- the index stays
-  pub heads-loaded : (a b : ℕ) → loadM sys z HEADS a b ≡ z HEADS a b
-  heads-loaded a b = loaded-apart HEADS a b (omega arith) (λ x v k l. omega arith)
+  pub pairs-loaded : (a b : ℕ) → loadM sys z PAIRS a b ≡ z PAIRS a b
+  pairs-loaded a b = loaded-apart PAIRS a b (omega arith) (λ x v k l. omega arith)
 
   unlinked : (x v y : ℕ) → sys .net .linked x y ≡ false → supportCount (sys .net) x v y ≡ 0
   unfolding supports
@@ -173,7 +173,7 @@ module _ (sys : System) (small : Small sys) (z : Mem) (paired : Paired sys z) (b
       go : (a : Bool) → loaded (sys .net) x v ≡ a → (b : Bool) → sys .net .linked x y ≡ b
           → cond (a && b) (n COUNTERS (counterRow n x y) v) 0 ≡ cond a (supportCount (sys .net) x v y) 0
       go true e true f =
-          ap (λ (k : ℕ). n COUNTERS k v) (row-heads z₁ n x y (heads-loaded x y ∙ sym (counted-heads x y)))
+          ap (λ (k : ℕ). n COUNTERS k v) (row-pairs z₁ n x y (pairs-loaded x y ∙ sym (counted-pairs x y)))
           ∙ loaded-shows x v (loaded-variable (sys .net) x v e) (loaded-value (sys .net) x v e) .counter y f
       go true e false f = sym (unlinked x v y f)
       go false e b f = refl

@@ -18,7 +18,7 @@ use Rattle.index.proofs.Pairing.{paired}
 use Rattle.refinement.proofs.LoadRefines.{Blank, load-refines}
 use Rattle.index.specs.Index.{Indexed, indexM}
 use Rattle.refinement.specs.Inv.{Small, Inv}
-use Rattle.cells.specs.Layout.{HEADS, FIRST, BEHIND}
+use Rattle.cells.specs.Layout.{BEHIND}
 use Rattle.loading.proofs.Kept.{load-kept}
 use Rattle.cells.specs.Memory.{clearedM, Mem}
 use Rattle.loading.specs.Load.{loadM}
@@ -51,20 +51,19 @@ module _ (b : List ℕ) (sound : planFault b ≡ none) where
     unfolding clearedM
     cleared-low r i j h = cond-true 0 (m r i j) (lt-ltb r BEHIND h)
 
-    ground-indexed : Indexed b ground
-    ground-indexed =
-        indexed b sound (clearedM m) (λ x y. cleared-low HEADS x y (omega arith)) (λ i y. cleared-low FIRST i y (omega arith))
+    pub ground-indexed : Indexed b ground
+    ground-indexed = indexed b sound (clearedM m) (λ r i j h l. cleared-low r i j l)
 
     blank : Blank ground
     blank r i j h = index-keeps b (clearedM m) r (inl h) i j ∙ cleared-low r i j (omega arith)
 
     pub start-inv : Inv (systemAt b) (startM b m)
     unfolding startM
-    start-inv = load-starts (systemAt b) fits-regions ground (paired b sound ground ground-indexed) blank
+    start-inv = load-starts (systemAt b) fits-regions ground (paired b ground ground-indexed) blank
 
     pub start-view : viewOf (systemAt b) (startM b m) ≡ load (systemAt b)
     unfolding startM
-    start-view = load-refines (systemAt b) fits-regions ground (paired b sound ground ground-indexed) blank
+    start-view = load-refines (systemAt b) fits-regions ground (paired b ground ground-indexed) blank
 
     -- the loaded memory holds the plan's index
     pub start-indexed : Indexed b (startM b m .mem)

@@ -20,7 +20,7 @@ use Rattle.network.specs.Network.{label, supports, Label}
 use Rattle.cells.proofs.Stores.{store-same, store-other}
 use Rattle.cells.specs.Layout.{DOMAIN, COUNTERS, LISTED}
 use Rattle.cells.specs.Memory.{Mem, store}
-use Rattle.index.proofs.Kept.{row-heads}
+use Rattle.index.proofs.Kept.{row-pairs}
 use Rattle.treating.specs.Treat.{loseM, touchM, touchVariableM, touchVariablesM}
 use Rattle.cells.specs.View.{inDomain, counterRow, viewCounter, view}
 use Rattle.refinement.proofs.DeleteApart.{Apart, deleteIf, delete-if-apart}
@@ -139,7 +139,7 @@ module _ (sys : System) (i y w : ℕ) where
         where
           go : (b : Bool) → losesIn m₀ x v ≡ b → cond b (loseM i x v y m) m ≡ outcome b m
           go true e =
-              lose-with x v (counterRow m₀ x y) (counterOf y) m (row-heads m₀ m x y (s .heads x y))
+              lose-with x v (counterRow m₀ x y) (counterOf y) m (row-pairs m₀ m x y (s .pairs x y))
               (s .counter y (loses-linked x v m₀ e))
           go false e = refl
 
@@ -194,14 +194,14 @@ module _ (sys : System) (i y w : ℕ) where
           go true e =
               subst (λ z. Shows sys m₀ x v (cond z 0 (m₀ DOMAIN x v)) lost (outcome true m)) (sym (deletes-when true e))
               (shows-if sys m₀ i x v (m₀ DOMAIN x v) lost (eqb lowered-to 0) (low m) (record {
-                heads = s .heads;
+                pairs = s .pairs;
                 domain = s .domain;
                 counter = λ y′ k. low-counter (loses-linked x v m₀ e) y′ k ∙ sym (lowered-when true e y′ k);
               }))
           go false e =
               subst (λ z. Shows sys m₀ x v (cond z 0 (m₀ DOMAIN x v)) lost m) (sym (deletes-when false e))
               (record {
-                heads = s .heads;
+                pairs = s .pairs;
                 domain = s .domain;
                 counter = λ y′ k. s .counter y′ k ∙ sym (lowered-when false e y′ k);
               })

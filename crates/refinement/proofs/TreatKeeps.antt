@@ -25,7 +25,7 @@ use Rattle.cells.specs.View.{inDomain, labelOf, view}
 use Rattle.refinement.proofs.InvKept.{OnlyRow, worker-action, totals-kept}
 use Rattle.refinement.proofs.LongerLists.{Both, both-none, both-more}
 use Rattle.refinement.specs.Inv.{Small, Inv, OutCounted, Row, Totals, remaining}
-use Rattle.refinement.proofs.TreatRefines.{treatedM, treated-apart, treated-both, treated-unmoved, head-after, other-row, domain-after, heads-after}
+use Rattle.refinement.proofs.TreatRefines.{treatedM, treated-apart, treated-both, treated-unmoved, head-after, other-row, domain-after, pairs-after}
 use Rattle.refinement.proofs.Unmoved.{Unmoved, row-longer}
 
 module _ (sys : System) (small : Small sys) (s : Machine) (inv : Inv sys s) (i : ℕ) (h : i < sys .workers)
@@ -67,7 +67,7 @@ module _ (sys : System) (small : Small sys) (s : Machine) (inv : Inv sys s) (i :
       out = u .out j;
     };
     wanted = u .wanted 0;
-    heads = heads-after sys small s inv i h busy;
+    pairs = pairs-after sys small s inv i h busy;
     listed = λ x v e.
         and-left (inDomain m x v)
         (not (deletes sys (suc i) (labelOf (m WORK i (m WORKERS i HEAD))) st x v))

@@ -20,10 +20,10 @@ use Rattle.network.proofs.Loaded.{loaded-variable, loaded-value}
 use Rattle.network.specs.Network.{Label, label, loaded, labelsWhere, domainSize}
 use Rattle.cells.proofs.Queue.{labels-same, read-queue, labelQueue}
 use Rattle.cells.proofs.Stores.{store-same, store-other}
-use Rattle.cells.specs.Layout.{WORKERS, CURSORS, BOUNDS, LOG, WORK, OUT, WANTED, DOMAIN, COUNTERS, HEADS, HEAD, TAIL, LOGEND, SENDS, LABELROOM, LISTED}
+use Rattle.cells.specs.Layout.{WORKERS, CURSORS, BOUNDS, LOG, WORK, OUT, WANTED, DOMAIN, COUNTERS, PAIRS, HEAD, TAIL, LOGEND, SENDS, LABELROOM, LISTED}
 use Rattle.cells.specs.Memory.{Mem, store}
 use Rattle.controller.specs.Controller.{Machine}
-use Rattle.index.proofs.Kept.{row-heads}
+use Rattle.index.proofs.Kept.{row-pairs}
 use Rattle.treating.proofs.TreatLaws.{treat-goes, treat-idle}
 use Rattle.treating.specs.Treat.{touchVariablesM, treatM}
 use Rattle.cells.specs.View.{inDomain, labelOf, labelsBetween, counterRow, viewCounter, view, workOf, sendOf}
@@ -154,8 +154,8 @@ module _ (sys : System) (small : Small sys) (s : Machine) (inv : Inv sys s) (i :
           ∙ sym (and-false-left (not (deletes sys (suc i) a st x v)) out)
 
   -- the index stays
-  pub heads-after : (b c : ℕ) → treatedM HEADS b c ≡ m HEADS b c
-  heads-after b c = treated-apart HEADS b c (λ x v k l. omega arith)
+  pub pairs-after : (b c : ℕ) → treatedM PAIRS b c ≡ m PAIRS b c
+  pairs-after b c = treated-apart PAIRS b c (λ x v k l. omega arith)
 
   no-counter : (x v y : ℕ) → loaded (sys .net) x v && sys .net .linked x y ≡ false → lowered sys (suc i) a st x v y ≡ 0
   unfolding view viewCounter lowered
@@ -176,7 +176,7 @@ module _ (sys : System) (small : Small sys) (s : Machine) (inv : Inv sys s) (i :
       go true e =
           let ld : loaded (sys .net) x v ≡ true = and-left (loaded (sys .net) x v) (sys .net .linked x y) e in
           ap (λ (k : ℕ). treatedM COUNTERS k v)
-          (row-heads taken treatedM x y (heads-after x y))
+          (row-pairs taken treatedM x y (pairs-after x y))
           ∙ treated-shows x v (loaded-variable (sys .net) x v ld) (loaded-value (sys .net) x v ld) .counter y
           (and-right (loaded (sys .net) x v) (sys .net .linked x y) e)
       go false e = sym (no-counter x v y e)

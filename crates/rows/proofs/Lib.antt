@@ -1,4 +1,4 @@
 pub mod Accepted
-pub mod Ends
 pub mod Rows
+pub mod Scopes
 pub mod Upper

@@ -1,4 +1,4 @@
-// What a constraint permits, as rows of values, read from a plan's bytes alone.
+// What a table or a limit permits, as rows of values, read from a plan's bytes alone.
 use base::row_holds;
 use base::row_if;
 use format::constraint;
@@ -6,17 +6,16 @@ use format::limits::MAX_WORDS;
 use format::limits::WORD_BYTES;
 use format::read;
 use format::version::row_words;
-ghost use mathlib.Core.Bool.{false, cond};
 ghost use mathlib.Core.Path.{_≡_};
 ghost use Prim.Native.Nat.{ℕ, _<_, _≤_};
 ghost use lib.Dec.{ltb};
 ghost use lib.ListN.{length};
-ghost use Rattle.format.specs.Format.{valuesEnd, tableRowStart, tableRowAt};
+ghost use Rattle.format.specs.Format.{valuesEnd, tableRowStart};
 ghost use Rattle.format.specs.Limits.{maxValues};
 ghost use Rattle.format.specs.Version.{rowWords, maxSize};
 ghost use Rattle.base.specs.Row.{bit, rowOf};
 ghost use Rattle.plan.specs.Network.{withinLimit};
-ghost use Rattle.rows.specs.Permits.{permitsFrom, limited, inColumn, Readable};
+ghost use Rattle.rows.specs.Permits.{tablePermits, limited, inColumn, Readable};
 
 // The sodium figure that means "not recorded".
 const UNRECORDED: usize = 65535;
@@ -42,7 +41,7 @@ fn room_beside(limit: usize, f: usize) -> usize
 
 // The row of the values of the variable at `place` whose figures a limit permits with figure f; it has `values` of them.
 // From the last one down the row is doubled: that is quicker than to shift each bit to its place.
-fn limit_row(plan: &[u8], limit: usize, f: usize, place: usize, values: usize) -> usize
+pub fn limit_row(plan: &[u8], limit: usize, f: usize, place: usize, values: usize) -> usize
     requires { ⌜ (valuesEnd place values ≤ length (now plan)) × (values ≤ maxValues) × (limit < 65536) ⌝ }
     ensures { λ r. ⌜ r ≡ rowOf values (limited (now (plan .entry)) limit f place) ⌝ }
 {
@@ -80,8 +79,8 @@ fn table_column(plan: &[u8], words: usize, at: usize, v: usize, values: usize) -
 // The row of the values that the table at `at` permits with value v of its first variable where `leads`, else of its second; the
 // other variable has `values` of them. A row for v is read at once.
 fn table_values(plan: &[u8], words: usize, at: usize, leads: bool, v: usize, values: usize) -> usize
-    requires { ⌜ (words ≡ rowWords (now plan)) × (at ≤ length (now plan)) × (v < maxSize (now plan)) × (values ≤ maxValues) × (leads ≡ false → tableRowStart (now plan) at values ≤ length (now plan)) ⌝ }
-    ensures { λ r. ⌜ ((w : ℕ) → w < values → bit r w ≡ cond leads (bit (tableRowAt (now (plan .entry)) at v) w) (inColumn (now (plan .entry)) at v w)) ⌝ }
+    requires { ⌜ (words ≡ rowWords (now plan)) × Readable (now plan) at leads v values ⌝ }
+    ensures { λ r. ⌜ ((w : ℕ) → w < values → bit r w ≡ tablePermits (now (plan .entry)) at leads v w) ⌝ }
 {
     if leads {
         constraint::table_row(plan, words, at, v)
@@ -90,30 +89,11 @@ fn table_values(plan: &[u8], words: usize, at: usize, leads: bool, v: usize, val
     }
 }
 
-// The row of the values that the constraint at `at` permits with value v of the variable at `here`, which is its
-// first where `leads`; the other variable, at `there`, has `values` of them. The compiler makes more of a table's rows where it
-// knows how many words they have, so it is told.
-pub fn constraint_row(
-    plan: &[u8],
-    at: usize,
-    leads: bool,
-    here: usize,
-    v: usize,
-    there: usize,
-    values: usize,
-) -> usize
-    requires { ⌜ Readable (now plan) at leads here v there values ⌝ }
-    ensures { λ r. ⌜ ((w : ℕ) → w < values → bit r w ≡ permitsFrom (now (plan .entry)) at leads here v there w) ⌝ }
+// The same row. The compiler makes more of a table's rows where it knows how many words they have, so it is told.
+pub fn permitted_values(plan: &[u8], at: usize, leads: bool, v: usize, values: usize) -> usize
+    requires { ⌜ Readable (now plan) at leads v values ⌝ }
+    ensures { λ r. ⌜ ((w : ℕ) → w < values → bit r w ≡ tablePermits (now (plan .entry)) at leads v w) ⌝ }
 {
-    if constraint::kind(plan, at) != 0 {
-        return limit_row(
-            plan,
-            constraint::limit(plan, at),
-            read::figure(plan, here, v),
-            there,
-            values,
-        );
-    }
     if row_words(plan) == 1 {
         return table_values(plan, 1, at, leads, v, values);
     }

@@ -12,11 +12,11 @@ use Rattle.disac4.specs.Need.{workNeed}
 use Rattle.lending.specs.Call.{overwrite}
 use Rattle.disac4.specs.System.{systemAt}
 use Rattle.disac4.specs.declared.Tally.{Tally}
-use Rattle.index.proofs.Chains.{indexed}
 use Rattle.index.specs.Index.{Ready, Indexed, indexM}
 use Rattle.loading.specs.Load.{loadM}
 use Rattle.plan.specs.Decode.{planFault}
 use Rattle.refinement.proofs.Behind.{cleared-memory}
+use Rattle.refinement.proofs.Start.{ground-indexed}
 use Rattle.refinement.specs.Run.{freshTally, startM, At}
 
 module _ (b c₀ c₁ c₂ : List ℕ) (sound : planFault b ≡ none) (cleared : c₁ ≡ overwrite (replicate workNeed 0) c₀)
@@ -26,10 +26,9 @@ module _ (b c₀ c₁ c₂ : List ℕ) (sound : planFault b ≡ none) (cleared :
 
   -- cleared and indexed cells are ready to load the plan
   pub start-ready : workNeed ≤ length c₂ → Ready b c₂
-  unfolding clearedM
   start-ready long = record {
     sound = sound;
-    index = subst (Indexed b) (sym ground) (indexed b sound (clearedM (memOf c₀)) (λ x y. refl) (λ i y. refl));
+    index = subst (Indexed b) (sym ground) (ground-indexed b sound (memOf c₀));
     long = long;
   }
 

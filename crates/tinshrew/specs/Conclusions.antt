@@ -43,7 +43,7 @@ pub record AcceptedPlan (b : List ℕ) (f : Counts) : Type 0 where
   pub workers : (1 ≤ f .workers) × (f .workers ≤ maxWorkers)
   -- n is from 1 to 32
   pub variables : (1 ≤ f .variables) × (f .variables ≤ maxVariables)
-  -- there are at most 128 rules
+  -- there are at most 128 rules, a set rule as one
   pub constraints : f .constraints ≤ maxConstraints
   -- L is at most 512
   pub labels : f .labels ≤ maxLabels

@@ -10,7 +10,7 @@ use tinshrew_tests::reference::LIST_CELLS;
 use tinshrew_tests::rng::Rng;
 use tinshrew_tests::subject::{reference_sweeps, write_answer};
 
-use super::{arena, same_cells, within, Layout};
+use super::{arena, same_cells, within, Given, Layout};
 
 /// How many parts are asked for in a case.
 const ASKED: usize = 6;
@@ -68,6 +68,9 @@ impl Layout<'_> {
         for (at, what) in ["run_sweeps: first list", "run_sweeps: second list"].iter().enumerate() {
             same_cells(what, case.sweep_lists[at], &expected[at], &found[at])?;
         }
+        let [first, second] = found.clone();
+        let cells = [("first list", first), ("second list", second)];
+        self.given.push(Given { what: "run_sweeps".to_string(), out: out.to_vec(), cells });
         match result {
             Ok(swept) => self.check_swept(&swept, found, round),
             Err(_) => Ok(()),

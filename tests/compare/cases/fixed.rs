@@ -1,6 +1,7 @@
 // The fixed cases: worked plans, buffers and turn lists of all lengths of
 // interest, every damage of a kind to some plans, every count of values about a
-// limit, every bit of a row, and every pair of faults.
+// limit, every bit of a row, every damage of a set rule, pairs of variables
+// about their limit, and every pair of faults.
 
 use std::sync::OnceLock;
 
@@ -10,19 +11,20 @@ use tinshrew_tests::generate::{
 };
 use tinshrew_tests::reference::plan::{Constraint, Relation};
 use tinshrew_tests::reference::version::{MOST_LABELS, TWO, VERSIONS};
+use tinshrew_tests::reference::worked::sets::plan_w_with_set;
 use tinshrew_tests::reference::worked::wide::{of_counts, plan_p_in_two, plan_q, seventeen};
 use tinshrew_tests::reference::worked::{no_values, plan_p, turns_t, worked};
 use tinshrew_tests::reference::{LIST_CELLS, WORK_CELLS};
 use tinshrew_tests::rng::Rng;
 
-use super::{case, competing, of_either, PAIRS};
+use super::{case, competing, of_either, sets, PAIRS};
 use crate::case::Case;
 
 /// How many cases a group has, and its case of each number.
 type Group = (usize, fn(usize, &mut Rng) -> Case);
 
 /// The groups in order.
-fn groups() -> [Group; 11] {
+fn groups() -> [Group; 13] {
     [
         (worked_plans().len(), worked_plan),
         (PLANS_FOR_BUFFERS * BUFFERS, buffers),
@@ -34,6 +36,8 @@ fn groups() -> [Group; 11] {
         (VERSIONS.len() * COUNTS.len() * LENGTH_CHANGES.len(), values_of_a_variable),
         (SUMS.len() * ARRANGEMENTS, labels_together),
         (VERSIONS.len() * COLUMNS.len() * TWO.values, bit_of_a_row),
+        (sets::SECTIONS, sets::section),
+        (sets::TOUCHED, sets::touched),
         (2 * VERSIONS.len() * PAIRS, pair_of_faults),
     ]
 }
@@ -108,9 +112,9 @@ fn turn_list_length(at: usize, rng: &mut Rng) -> Case {
 }
 
 /// The plans that are damaged at every place.
-fn to_damage() -> &'static [Vec<u8>; 3] {
-    static PLANS: OnceLock<[Vec<u8>; 3]> = OnceLock::new();
-    PLANS.get_or_init(|| [plan_p(), plan_p_in_two(), seventeen()])
+fn to_damage() -> &'static [Vec<u8>; 4] {
+    static PLANS: OnceLock<[Vec<u8>; 4]> = OnceLock::new();
+    PLANS.get_or_init(|| [plan_p(), plan_p_in_two(), seventeen(), plan_w_with_set()])
 }
 
 /// How many places they have together: their bytes, and so many behind each.

@@ -1,13 +1,15 @@
 // The sweeps worked by hand, and the parts that hold the last one.
 
 use super::wide::{all_supports_go, plan_p_in_two, plan_q};
-use super::{apart, half_supports, no_values, plan_p, sodium, table, three_differ, BROTH, MAINS};
+use super::{
+    apart, half_supports, no_values, plan_p, sets, sodium, table, three_differ, BROTH, MAINS,
+};
 
 /// A plan, and its cells as loaded and after each sweep.
-type Steps = (Vec<u8>, &'static [&'static [u16]]);
+pub type Steps = (Vec<u8>, &'static [&'static [u16]]);
 
 pub fn swept() -> Vec<Steps> {
-    [swept_in_one(), swept_in_two()].concat()
+    [swept_in_one(), swept_in_two(), sets::swept()].concat()
 }
 
 /// Of each variable's two cells the first holds its values 17 to 32.

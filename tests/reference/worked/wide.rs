@@ -29,7 +29,7 @@ fn values(code: u16, count: u16, figure: u16) -> Vec<(u16, u16)> {
     (code..code + count).map(|code| (code, figure)).collect()
 }
 
-fn in_two(workers: usize, variables: Vec<Variable>, constraints: &[Constraint]) -> Plan {
+pub fn in_two(workers: usize, variables: Vec<Variable>, constraints: &[Constraint]) -> Plan {
     Plan { version: TWO, ..plan(workers, variables, constraints.to_vec()) }
 }
 
@@ -104,9 +104,9 @@ fn two_of_32(rows: impl Fn(u32) -> u32) -> Plan {
 /// are written.
 pub type Run = (Vec<u8>, Option<Vec<u8>>, [usize; 5], &'static [u16]);
 
-const OPEN: usize = 0;
-const CLOSED: usize = 1;
-const BARE: usize = 2;
+pub const OPEN: usize = 0;
+pub const CLOSED: usize = 1;
+pub const BARE: usize = 2;
 
 pub fn runs() -> Vec<Run> {
     [runs_of_p(), runs_of_q(), runs_of_32()].concat()
@@ -285,18 +285,4 @@ fn checked_rows() -> Vec<(Vec<u8>, Checked)> {
         (one_against_seventeen("00010001 0000"), Err((8, 95))),
         (one_against_seventeen("0001"), Err((1, 86))),
     ]
-}
-
-#[cfg(test)]
-mod tests {
-    use super::*;
-    use crate::reference::run::check_plan;
-
-    #[test]
-    fn checked() {
-        for (plan, expected) in checks() {
-            let found = check_plan(&plan).map_err(|decline| (decline.number, decline.place));
-            assert_eq!(found, expected, "{plan:02X?}");
-        }
-    }
 }

@@ -114,7 +114,7 @@ fn bad_count() {
         (5, "81", 1, Head),    // 129 rules
         (9, "11", 6, Slot(1)), // 17 dishes
     ];
-    let what = "number of kitchens, slots, rules or dishes out of range";
+    let what = "number of kitchens, slots, rules, dishes, further slots or pairs of slots out of range";
     in_sections(|section_start| Decline::BadCount { section_start }, 4, what, &damages);
 }
 
@@ -125,7 +125,7 @@ fn bad_number() {
         (44, "0202", 42, Rule(1)), // slots 2 and 2
         (51, "0104", 49, Rule(2)), // slots 1 and 4, of 3
     ];
-    let what = "kitchen or slot number out of range, or first slot not below second";
+    let what = "kitchen or slot number out of range, or slots of a rule not ascending";
     in_sections(|section_start| Decline::BadNumber { section_start }, 5, what, &damages);
 }
 
@@ -139,10 +139,10 @@ fn repeated_code() {
 #[test]
 fn bad_rule() {
     let damages = [
-        (46, "02", 42, Rule(1)),   // kind 2
+        (46, "02", 42, Rule(1)),   // kind 2, in version 1
         (56, "0004", 49, Rule(2)), // 12 with a third dish of slot 3, which has two
     ];
-    let what = "kind above 1, or a table bit at or past the second slot's count of dishes";
+    let what = "kind not of the plan's version, or a table bit at or past the second slot's count of dishes";
     in_sections(|section_start| Decline::BadRule { section_start }, 7, what, &damages);
 }
 
@@ -205,23 +205,27 @@ fn bad_turn() {
     Told { decline, number: 12, place: 32_767, text }.of_run([30_720, 64], &turns, Some(turn));
 }
 
-/// Wherever P is damaged, a decline about a section finds it, and is one that such a section can have.
-#[test]
-fn every_byte_of_p_changed() {
-    for at in 0..58 {
+/// Wherever a plan is damaged, a decline about a section finds it, and is one that such a section can have.
+pub fn every_byte_changed(plan: &[u8], of_a_rule: &[usize]) {
+    for at in 0..plan.len() {
         for byte in 0..=255 {
-            let mut plan = hex(P);
+            let mut plan = plan.to_vec();
             plan[at] = byte;
             let Err(decline) = check_plan(&plan) else { continue };
             let numbers: &[usize] = match decline.section(&plan) {
                 Some(Head) => &[1, 3, 4],
                 Some(Slot(_)) => &[1, 3, 4, 5, 6],
-                Some(Rule(_)) => &[1, 3, 5, 7],
+                Some(Rule(_)) => of_a_rule,
                 None => &[2, 8],
             };
             assert!(numbers.contains(&decline.number()), "byte {at} is {byte}: {decline}");
         }
     }
+}
+
+#[test]
+fn every_byte_of_p_changed() {
+    every_byte_changed(&hex(P), &[1, 3, 5, 7]);
 }
 
 /// A number of a later version, and a place that this version has not for its number.

@@ -33,17 +33,6 @@ fn without_rules(counts: &[u8]) -> Vec<u8> {
     plan
 }
 
-/// Rounds, and sweeps of which there are so many, end with these cells.
-fn ends_with(plan: &[u8], sweeps: usize, cells: &[u16]) {
-    let mut b = Buffers::ample();
-    assert_eq!(b.round(plan).map(|r| r.status), Ok(Status::Closed));
-    assert_eq!(b.cells(cells.len()), cells);
-    let mut s = SweepBuffers::ample();
-    assert_eq!(s.sweeps(plan), Ok(sweeps));
-    assert_eq!(s.cells(cells.len()), [cells; 2]);
-    assert_eq!(last_sweep(&s.first, &s.second, sweeps, cells.len()), cells);
-}
-
 #[test]
 fn p_in_version_2() {
     let counts = Counts { kitchens: 2, slots: 3, rules: 2, dishes: 6 };

@@ -5,11 +5,11 @@ use denote.Ref.{now}
 use mathlib.Core.List.{List}
 use mathlib.Core.Path.{_∙_, ap}
 use native.Mathlib.Omega.{arith}
-use Rattle.index.proofs.ConstraintChains.{chains-keep}
+use Rattle.index.proofs.ConstraintIndex.{constraints-keep}
 use Rattle.index.proofs.Places.{places-at, located-kept}
 use Rattle.indexing.proofs.index_plan.Statement.{statement}
 use Rattle.indexing.proofs.index_plan.Tie as tie
-use Rattle.index.specs.Index.{Located, chainsM, ownM, indexM}
+use Rattle.index.specs.Index.{Located, constraintsM, ownM, indexM}
 use Rattle.cells.specs.Layout.{PLACES}
 use Rattle.cells.specs.Memory.{Mem, memOf}
 
@@ -33,16 +33,16 @@ module _ (p : tie.After-index-places) where
     long = omega (arith, p .index-places .kept .1 .0, start-of .pre);
   }
 
-index-chains-requires : tie.Need-index-chains-requires
-index-chains-requires c κs = written (c .before .before .before)
+index-constraints-requires : tie.Need-index-constraints-requires
+index-constraints-requires c κs = written (c .before .before .before)
 
 index-own-requires : tie.Need-index-own-requires
 index-own-requires c κs =
-    let chained : tie.After-index-chains = search in
+    let put : tie.After-index-constraints = search in
     let placed : tie.After-index-places = search in
-    let chains = chained .index-chains in
-    located-kept (plan-of placed) (placed .index-places .last .1 .0) (chains .last .1 .0) _ (written placed) (chains .kept .1 .0)
-    (chains .ensures) (λ k. chains-keep (plan-of placed) _ PLACES 0 k (λ e. omega arith) (λ e. omega arith))
+    let all = put .index-constraints in
+    located-kept (plan-of placed) (placed .index-places .last .1 .0) (all .last .1 .0) _ (written placed) (all .kept .1 .0)
+    (all .ensures) (λ k. constraints-keep (plan-of placed) _ PLACES 0 k (λ e. omega arith, λ e. omega arith, λ a e. omega arith))
 
 same-length : tie.Need-same-length
 same-length c = search needs
@@ -51,9 +51,9 @@ returns : tie.Need-returns
 unfolding indexM
 returns c =
     let owned : tie.After-index-own = search in
-    let chained : tie.After-index-chains = search in
+    let put : tie.After-index-constraints = search in
     let placed : tie.After-index-places = search in
-    owned .index-own .ensures ∙ ap (ownM (plan-of placed)) (chained .index-chains .ensures ∙ ap (chainsM (plan-of placed)) (placed .index-places .ensures))
+    owned .index-own .ensures ∙ ap (ownM (plan-of placed)) (put .index-constraints .ensures ∙ ap (constraintsM (plan-of placed)) (placed .index-places .ensures))
 
 pub index-plan-spec : {M : Type 1} → statement M
-index-plan-spec = tie.close (tie.spec index-places-requires index-chains-requires index-own-requires same-length returns)
+index-plan-spec = tie.close (tie.spec index-places-requires index-constraints-requires index-own-requires same-length returns)

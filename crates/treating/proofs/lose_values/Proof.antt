@@ -7,10 +7,10 @@ use native.Mathlib.Omega.{arith}
 use lib.Bits.{and-le-l, and-le-r}
 use lib.Count.{trailing-le}
 use lib.ListN.{length}
-use Rattle.cells.specs.Layout.{HEADS, VALUEROOM}
+use Rattle.cells.specs.Layout.{PAIRS, VALUEROOM}
 use Rattle.cells.specs.Memory.{Mem, memOf}
 use Rattle.cells.specs.View.{counterRow}
-use Rattle.index.proofs.Kept.{row-heads}
+use Rattle.index.proofs.Kept.{row-pairs}
 use Rattle.treating.proofs.Kept.{lose-kept}
 use Rattle.treating.proofs.LoseLaws.{lowest-low, lowest-lost, empty-lost}
 use Rattle.treating.specs.Treat.{loseM, loseRowM}
@@ -25,7 +25,7 @@ pub record Left (n i x y losing row : ℕ) (m₀ : Mem) (rest : ℕ) (m : Mem) :
 -- the counters stay in their row
 row-stays : (i x v y : ℕ) (m n : Mem) → n ≡ loseM i x v y m → counterRow n x y ≡ counterRow m x y
 row-stays i x v y m n e =
-    ap (λ (n : Mem). counterRow n x y) e ∙ row-heads m _ x y (lose-kept i x v y m .kept HEADS x y (omega arith))
+    ap (λ (n : Mem). counterRow n x y) e ∙ row-pairs m _ x y (lose-kept i x v y m .kept PAIRS x y (omega arith))
 
 abbrev Inv-loop : tie.InvT-loop
 Inv-loop cells₀ i x losing row rest₀ cells rest =

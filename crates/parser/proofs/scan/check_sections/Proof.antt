@@ -1,5 +1,5 @@
 -- `parser::scan::check_sections` gives the first fault of the sections in turn, or what follows them.
--- Invariant: the sections before k passed and have so many labels, and section k starts at `at`. Assumes nothing.
+-- Invariant: the sections before k passed, have so many labels and touch so many pairs, and section k starts at `at`. Assumes nothing.
 use Prim.Native.Nat.{ℕ, _+_, _-_, _≤_}
 use borrow.Author.Needs.{needs}
 use mathlib.Core.List.{List}
@@ -8,35 +8,39 @@ use native.Mathlib.Nat.{not-suc-le-zero}
 use native.Mathlib.Omega.{arith}
 use lib.ListN.{length, length-set}
 use Rattle.sections.specs.Known.{startCount}
+use Rattle.touching.specs.Touching.{Touching}
 use Rattle.format.specs.Format.{sectionStart, sectionCount}
-use Rattle.parser.proofs.Scanned.{labels-none, labels-all, few-labels, next-within, next-start, passed-more, fault-answer, end-answer}
+use Rattle.parser.proofs.Scanned.{touching-none, labels-none, labels-all, few-labels, next-within, next-start, passed-more, fault-answer, end-answer}
 use Rattle.faults.proofs.Checks.{verdict-passes, verdict-fails}
 use Rattle.faults.specs.CheckList.{firstFault}
 use Rattle.plan.specs.Check.{sectionChecks}
 use Rattle.plan.specs.Decode.{planEnd}
-use Rattle.parser.specs.Known.{PassedBefore, labelsBefore}
+use Rattle.parser.specs.Known.{PassedBefore, labelsBefore, constraintsBefore}
 use Rattle.parser.proofs.scan.check_sections.Statement.{statement}
 use Rattle.parser.proofs.scan.check_sections.Tie as tie
 
 abbrev Inv-loop : tie.InvT-loop
-Inv-loop b count starts₀ labels₀ at₀ k₀ starts labels at k =
-    PassedBefore b starts k × (length starts ≡ startCount) × (at ≡ sectionStart b k) × (at ≤ length b) × (k ≤ count) × (labels ≡ labelsBefore b k)
+Inv-loop b count starts₀ touched₀ pairs₀ labels₀ at₀ k₀ starts touched pairs labels at k =
+    PassedBefore b starts k × (length starts ≡ startCount) × (at ≡ sectionStart b k) × (at ≤ length b) × (k ≤ count) × (labels ≡ labelsBefore b k) × Touching b (constraintsBefore b k) touched pairs
 
 abbrev μ-loop : tie.MeasureT-loop
-μ-loop b count starts₀ labels₀ at₀ k₀ starts labels at k = count - k
+μ-loop b count starts₀ touched₀ pairs₀ labels₀ at₀ k₀ starts touched pairs labels at k = count - k
 
 module _ (at-loop : tie.At-loop Inv-loop μ-loop) where
   abbrev start-of : tie.Start Inv-loop μ-loop
-  start-of = at-loop .before .before .before .before
+  start-of = at-loop .before .before .before .before .before
 
   abbrev plan-of : List ℕ
   plan-of = start-of .args .plan .now
 
-  counted : at-loop .before .before .section-count .result ≡ sectionCount plan-of
-  counted = at-loop .before .before .section-count .ensures .0
+  abbrev counts : tie.After-section-count Inv-loop μ-loop
+  counts = at-loop .before .before .before
+
+  counted : counts .section-count .result ≡ sectionCount plan-of
+  counted = counts .section-count .ensures .0
 
   -- the loop goes over as many sections as the head calls for
-  ended : at-loop .before .before .section-count .result ≤ at-loop .loop .k → at-loop .loop .k ≡ sectionCount plan-of
+  ended : counts .section-count .result ≤ at-loop .loop .k → at-loop .loop .k ≡ sectionCount plan-of
   ended h = omega (arith, counted)
 
 section-count-requires : tie.Need-section-count-requires Inv-loop μ-loop
@@ -45,10 +49,22 @@ section-count-requires c κs = search needs
 no-starts-requires : tie.Need-no-starts-requires Inv-loop μ-loop
 no-starts-requires c κs = search needs
 
+none-touched-requires : tie.Need-none-touched-requires Inv-loop μ-loop
+none-touched-requires c κs = search needs
+
 loop-holds : tie.Need-loop-holds Inv-loop μ-loop
 unfolding sectionStart
 loop-holds c =
-    (record { passed = refl; found = λ i l h. absurd (not-suc-le-zero l) }, c .no-starts .ensures, refl, c .before .before .before .pre, search needs, labels-none (c .before .before .before .args .plan .now))
+    let start : tie.Start Inv-loop μ-loop = search in
+    let b = start .args .plan .now in (
+      record { passed = refl; found = λ i l h. absurd (not-suc-le-zero l) },
+      c .before .no-starts .ensures,
+      refl,
+      start .pre,
+      search needs,
+      labels-none b,
+      touching-none b (c .none-touched .ensures b),
+    )
 
 labels-with-requires : tie.Need-labels-with-requires Inv-loop μ-loop
 labels-with-requires c κs =
@@ -61,7 +77,7 @@ check-section-requires c κs =
     let at-loop : tie.At-loop Inv-loop μ-loop = search in
     let inv = at-loop .loop .inv in
     let counted-on : tie.After-labels-with Inv-loop μ-loop = search in
-    (inv .0, inv .2, inv .3, start-of at-loop .pre, counted-on .labels-with .ensures)
+    (inv .0, inv .2, inv .3, start-of at-loop .pre, counted-on .labels-with .ensures, inv .6)
 
 enum-known-verdict : tie.Need-enum-known-verdict Inv-loop μ-loop
 enum-known-verdict c = search needs
@@ -76,7 +92,7 @@ returns c =
     let at-loop : tie.At-loop Inv-loop μ-loop = search in
     let l = at-loop .loop in
     let b = plan-of at-loop in
-    let fails = verdict-fails (firstFault (sectionChecks b (l .k))) (checked .check-section .result) _ (checked .check-section .ensures)
+    let fails = verdict-fails (firstFault (sectionChecks b (l .k))) (checked .check-section .result) _ (checked .check-section .ensures .verdict)
     (fault-told .verdict .given .1) in
     c .declined .ensures
     ∙ fault-answer b (l .starts) (l .k) (l .inv .0) _ (l .at) _ (counted at-loop) (omega arith) (l .inv .2) fails
@@ -103,7 +119,7 @@ loop-again c =
     let at-loop : tie.At-loop Inv-loop μ-loop = search in
     let l = at-loop .loop in
     let b = plan-of at-loop in
-    let passes = verdict-passes (firstFault (sectionChecks b (l .k))) (checked .check-section .result) (checked .check-section .ensures)
+    let passes = verdict-passes (firstFault (sectionChecks b (l .k))) (checked .check-section .result) (checked .check-section .ensures .verdict)
     (pass-told .enum-told .given .1) in
     let more = passed-more b (l .starts) (l .k) (l .inv .0) (l .at) (l .inv .1) (l .inv .2) passes in
     let next = next-start b (l .k) (l .at) (c .behind .result) (l .inv .2) (c .behind .ensures) in (
@@ -114,6 +130,7 @@ loop-again c =
       omega arith,
       let counted-on : tie.After-labels-with Inv-loop μ-loop = search in
           counted-on .labels-with .ensures,
+      checked .check-section .ensures .touching (pass-told .enum-told .given .1),
     )
 
 check-end-requires : tie.Need-check-end-requires Inv-loop μ-loop
@@ -141,6 +158,7 @@ check-sections-spec =
     μ-loop
     section-count-requires
     no-starts-requires
+    none-touched-requires
     loop-holds
     labels-with-requires
     check-section-requires

@@ -38,6 +38,12 @@ mul-result c = omega (arith, short c)
 add-result : tie.Need-add-result
 add-result c = omega (arith, short c)
 
+further-count-requires : tie.Need-further-count-requires
+further-count-requires c κs = search needs
+
+add-result-2 : tie.Need-add-result-2
+add-result-2 c = search needs
+
 returns : tie.Need-returns
 unfolding constraintLength
 returns c =
@@ -52,7 +58,16 @@ returns c =
 
 returns-2 : tie.Need-returns-2
 unfolding constraintLength
-returns-2 c = rw (← c .before .kind .ensures .0, ne-eqb _ 0 (c .if1 .left))
+returns-2 c =
+    let told : tie.After-kind = search in
+    let listed : tie.Else1 = search in
+    rw (← told .kind .ensures .0, ne-eqb _ 0 (listed .if1 .left), eq-eqb _ 2 (c .before .if2 .taken), ← c .further-count .ensures .0)
+
+returns-3 : tie.Need-returns-3
+unfolding constraintLength
+returns-3 c =
+    let told : tie.After-kind = search in
+    rw (← told .kind .ensures .0, ne-eqb _ 0 (c .before .if1 .left), ne-eqb _ 2 (c .if2 .left))
 
 pub constraint-length-spec : {M : Type 1} → statement M
 constraint-length-spec =
@@ -64,5 +79,8 @@ constraint-length-spec =
     numbered-size-requires
     mul-result
     add-result
+    further-count-requires
+    add-result-2
     returns
-    returns-2)
+    returns-2
+    returns-3)
