@@ -1,4 +1,6 @@
 // Answer in the cells: a worker replies to the poll it holds. 1 where it changed something, 0 where it was idle.
+#![tactic(auto)]
+
 ghost use Rattle.std.specs.Prelude.{◌≡◌, ◌<◌, ◌≤◌, eqb, length};
 ghost use Rattle.disac4.specs.Need.{work_need};
 ghost use Rattle.format.specs.Limits.{max_workers};

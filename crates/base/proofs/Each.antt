@@ -24,7 +24,7 @@ module _ {ℓ} {A : Type ℓ} where
 
   -- and a member of all of them joined is one of theirs
   pub gather_member : (n : ℕ) (f : ℕ → List A) {a : A} → Memᴰ a (gather_below n f) → (i : ℕ) × (i < n) × Memᴰ a (f i)
-  gather_member zero f m = absurd (Memᴰ.not_nil m)
+  gather_member zero f m = absurd (Memᴰ.not-nil m)
   gather_member (suc n) f m =
       ⊎_elim (λ l. let r = gather_member n f l in (r.0, le_step r.1, r.2)) (λ r. (n, le_refl (suc n), r))
       (Memᴰ.append_cases (gather_below n f) m)
@@ -37,7 +37,7 @@ module _ {ℓ} {A : Type ℓ} where
 
   -- and a member stands at some place
   pub member_at : (l : List A) (d : A) {a : A} → Memᴰ a l → (i : ℕ) × (i < length l) × (get_or l i d ≡ a)
-  member_at [] d m = absurd (Memᴰ.not_nil m)
+  member_at [] d m = absurd (Memᴰ.not-nil m)
   member_at (b ∷ l) d m =
       ⊎_elim (λ e. (zero, suc-le-suc zero-le, sym e))
       (λ t. let r = member_at l d t in (suc r.0, suc-le-suc r.1, r.2)) (Memᴰ.cases_cons m)
@@ -50,7 +50,7 @@ module _ {ℓ} {A : Type ℓ} where
   module _ (P : A → Type 0) where
     -- so it holds of any member
     pub each_member : (l : List A) → Each P l → {a : A} → Memᴰ a l → P a
-    each_member [] h i = absurd (Memᴰ.not_nil i)
+    each_member [] h i = absurd (Memᴰ.not-nil i)
     each_member (b ∷ l) h i =
         ⊎_elim (λ x. subst P (sym x) h.0) (λ x. each_member l h.1 x) (Memᴰ.cases_cons i)
 

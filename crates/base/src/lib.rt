@@ -1,4 +1,6 @@
 // Reads in a slice of bytes, and rows of bits; as definitions, loops below a bound and updates too.
+#![tactic(auto)]
+
 ghost use Rattle.std.specs.Prelude.{cond, ◌≡◌, ℕ, ◌%◌, ◌<◌, ◌^◌, length};
 ghost use Rattle.base.specs.Below.{one};
 ghost use Rattle.base.specs.Choice.{between as between_of};

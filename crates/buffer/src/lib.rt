@@ -1,4 +1,6 @@
 // A text, put byte by byte into a lent buffer: each function takes the place of the next byte and returns the one behind.
+#![tactic(auto)]
+
 ghost use Rattle.std.specs.Prelude.{[], ◌∷◌};
 ghost use Rattle.buffer.specs.Buffer.{Adds};
 ghost use Rattle.buffer.specs.Decimal.{decimal, spaced as spaced_text};

@@ -1,5 +1,7 @@
 // The runs that the library delivers: the turn run and the round run. Neither asks anything of its caller. The plan check, which is
 // delivered beside them, is the parser's.
+#![tactic(auto)]
+
 ghost use Rattle.std.specs.Prelude.{◌≡◌};
 ghost use Rattle.lending.specs.Call.{Gives};
 ghost use Rattle.disac4.specs.Outcome.{lent, input_fault, run_of, turn_run, round_run};

@@ -1,4 +1,6 @@
 // The work cells: where each part of a state stands, and the lists that workers keep in them.
+#![tactic(auto)]
+
 pub mod clear;
 pub mod layout;
 pub mod queues;

@@ -1,4 +1,6 @@
 // The controller's tally by value, and the controller's actions: poll and read.
+#![tactic(auto)]
+
 ghost use Rattle.std.specs.Prelude.{◌&&◌, ◌≡◌, ◌^◌, ◌<◌, ◌≤◌, ltb, eqb, length};
 ghost use Rattle.disac4.specs.Need.{work_need};
 ghost use Rattle.format.specs.Limits.{max_workers};

@@ -1,5 +1,7 @@
 // Counting the supports of a plan whose index stands in the cells. Of two linked variables only the rows of the first are
 // worked out; those of the second are gathered from them. Each count is that of a row.
+#![tactic(auto)]
+
 ghost use Rattle.std.specs.Prelude.{true, ◌≡◌, ◌<◌};
 ghost use Rattle.disac4.specs.System.{system_at};
 ghost use Rattle.plan.specs.Decode.{plan_of};

@@ -1,4 +1,6 @@
 // The protocol: definitions, theorems, and the types of a run's answer.
+#![tactic(auto)]
+
 use faults::Decline;
 
 // Where a run ends: closed is bare if some variable's domain (list) is empty.

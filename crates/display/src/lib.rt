@@ -1,4 +1,6 @@
 // The text of a whole run, from a plan and its turns to the bytes that the program prints.
+#![tactic(auto)]
+
 ghost use Rattle.lending.specs.Call.{Gives};
 ghost use Rattle.disac4.specs.Outcome.{lent, run_of};
 ghost use Rattle.display.specs.Shown.{run_by, shown, Shows};

@@ -1,4 +1,6 @@
 // The lines of the variables' domains. The plan's bytes are read by the place of the variable's section, 0 past the end.
+#![tactic(auto)]
+
 ghost use Rattle.std.specs.Prelude.{cond, [], ◌<◌};
 ghost use Rattle.base.specs.Row.{is_odd};
 ghost use Rattle.plan.specs.Decode.{plan_of};

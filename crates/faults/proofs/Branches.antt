@@ -1,18 +1,17 @@
 -- From what a test's function ensures and the branch that was taken to the test itself; the checks that are left.
 use Prim.Native.Nat.{ℕ, suc}
-use mathlib.Core.Bool.{Bool, true, false, not}
+use mathlib.Core.Bool.{Bool, true, false}
 use mathlib.Core.List.{List}
 use mathlib.Core.Path.{◌≡◌, refl, sym, ◌∙◌}
-use borrow.Author.Tests.{not-true, not-false}
 use lib.ListN.{drop}
 use Rattle.faults.specs.CheckList.{Check, first_fault, verdict_of}
 use Rattle.faults.specs.declared.Verdict.{Verdict}
 
-pub holds : {r t : Bool} → r ≡ t → not r ≡ false → t ≡ true
-holds {r} e p = sym e ∙ not-false r p
+pub holds : {r t : Bool} → r ≡ t → r ≡ true → t ≡ true
+holds e p = sym e ∙ p
 
-pub fails : {r t : Bool} → r ≡ t → not r ≡ true → t ≡ false
-fails {r} e p = sym e ∙ not-true r p
+pub fails : {r t : Bool} → r ≡ t → r ≡ false → t ≡ false
+fails e p = sym e ∙ p
 
 -- the verdict of the checks that are left after the first k
 abbrev pub left : ℕ → List Check → Verdict

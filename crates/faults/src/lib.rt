@@ -1,4 +1,6 @@
 // Faults: why a call declines, and what a list of checks finds. They are no part of a plan: buffers and turn lists have theirs.
+#![tactic(auto)]
+
 ghost use Rattle.std.specs.Prelude.{◌≡◌};
 ghost use Rattle.faults.specs.Fault.{number_of, decline};
 

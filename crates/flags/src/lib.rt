@@ -1,4 +1,6 @@
 // A table with a flag for each turn: a cell for each actor and action, with 1 or 0.
+#![tactic(auto)]
+
 ghost use Rattle.std.specs.Prelude.{◌≡◌, ◌<◌, eqb, length};
 ghost use Rattle.flags.specs.Flags.{actors, actions, cell_count, cell_at};
 

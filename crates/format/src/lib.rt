@@ -1,5 +1,7 @@
 // A plan's bytes: where its parts stand, how they are read, what its version fixes, and how many parts there may be; and how a list
 // is read from list cells.
+#![tactic(auto)]
+
 pub mod constraint;
 pub mod limits;
 pub mod lists;

@@ -1,4 +1,6 @@
 // Which turns are known to be idle: a table with a flag for each. A list of turns passes over those turns.
+#![tactic(auto)]
+
 ghost use Rattle.std.specs.Prelude.{◌&&◌, ◌≡◌, ℕ, ◌<◌, leb, eqb, length};
 ghost use Rattle.base.specs.Below.{one};
 ghost use Rattle.disac4.specs.Turn.{turn, treat_action};

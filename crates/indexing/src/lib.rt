@@ -1,6 +1,8 @@
 // Writes the index of an accepted plan into the work cells: where its sections start; a number for each pair of linked variables, with
 // the tables over them as a chain and the lowest limit; and the variables of each worker that are linked with another one as a chain
 // too.
+#![tactic(auto)]
+
 ghost use Rattle.std.proofs.Math.Option.{none};
 ghost use Rattle.std.specs.Prelude.{◌≡◌, ◌<◌, ◌≤◌, length};
 ghost use Rattle.disac4.specs.Need.{work_need};

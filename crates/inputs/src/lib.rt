@@ -1,4 +1,6 @@
 // What a run tests beside its plan: the lent buffers, the length of a turn list, which turns are allowed, and the first that is not.
+#![tactic(auto)]
+
 ghost use Rattle.std.specs.Prelude.{[], ◌∷◌, ◌≡◌, ◌/◌, ◌≤◌, length};
 ghost use Rattle.disac4.specs.Turn.{worker_may, controller_may, allowed as allowed_of, turn, turn_fault, turn_list_fits};
 ghost use Rattle.inputs.specs.Bad.{bad_turn};

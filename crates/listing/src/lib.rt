@@ -1,4 +1,6 @@
 // Rows of values written into lent list cells, one variable's behind the other's.
+#![tactic(auto)]
+
 ghost use Rattle.std.specs.Prelude.{◌≡◌, ◌<◌, ◌≤◌, length};
 ghost use Rattle.disac4.specs.Need.{list_need};
 ghost use Rattle.format.specs.Limits.{max_words, max_variables};

@@ -1,5 +1,7 @@
 // Reads plan.bin and turns.bin, plays the turns, or rounds where there is no turns.bin, and prints the report and the lists.
 // What fails beside that, a file or the output, gets a line on standard error.
+#![tactic(auto)]
+
 ghost use Rattle.io.specs.Counts.{IsPrefixLen};
 
 use disac4::MAX_TURN_BYTES;

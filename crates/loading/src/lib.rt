@@ -1,4 +1,6 @@
 // Loading the labels of a plan whose index stands in the cells: counters, domains, and the first deletions.
+#![tactic(auto)]
+
 ghost use Rattle.std.specs.Prelude.{true, not, ◌≡◌, ◌+◌, ◌<◌, eqb};
 ghost use Rattle.base.specs.Row.{row_of};
 ghost use Rattle.cells.specs.Layout.{COUNTERS};

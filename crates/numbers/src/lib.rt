@@ -1,4 +1,6 @@
 // The answers as numbers: 0 and the answer, or a decline's number and place, and zeros behind them.
+#![tactic(auto)]
+
 ghost use Rattle.std.specs.Prelude.{◌≡◌};
 ghost use Rattle.numbers.specs.Numbers.{status_number, checked_numbers, answer_numbers, swept_numbers, part_numbers};
 

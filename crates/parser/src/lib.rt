@@ -1,4 +1,6 @@
 // The plan check: from a plan's bytes to its counts, or to its first fault and the fault's place.
+#![tactic(auto)]
+
 ghost use Rattle.std.specs.Prelude.{◌≡◌};
 ghost use Rattle.plan.specs.Answer.{plan_check};
 

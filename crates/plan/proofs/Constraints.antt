@@ -12,7 +12,7 @@ use Rattle.base.proofs.Below.{all_below_lem, length_list_below, get_d_list_below
 use Rattle.base.proofs.Choice.{cond_true, cond_false, by_test}
 use Rattle.base.specs.Below.{all_below, list_below}
 use Rattle.base.specs.Bytes.{byte_at}
-use Rattle.format.specs.Format.{constraint_start, constraint_count, variable_count, first_at, second_at, kind_at, table_row_at, further_count, scope_size, scope_at, scope_of, numbered_size}
+use Rattle.format.specs.Format.{constraint_start, constraint_count, first_at, second_at, kind_at, table_row_at, further_count, scope_size, scope_at, scope_of, numbered_size}
 use Rattle.format.specs.Limits.{max_further}
 use Rattle.plan.proofs.InOrder.{InOrder, ordered, Ascends, ascends, scope_length, scope_number, scope_first, scope_second}
 use Rattle.plan.proofs.Parts.{variables_read, constraint_read, size_read}

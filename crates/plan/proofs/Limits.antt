@@ -1,6 +1,6 @@
 -- What a limit on the sum of two figures allows.
 use Prim.Native.Nat.{ℕ, ◌+◌, ◌≤◌}
-use mathlib.Core.Bool.{Bool, ◌&&◌, true, false, not, and_comm}
+use mathlib.Core.Bool.{Bool, ◌&&◌, false, not, and_comm}
 use mathlib.Core.Path.{◌≡◌, refl, ap, ap₂}
 use native.Mathlib.Nat.{add_comm}
 use native.Mathlib.Omega.{arith}

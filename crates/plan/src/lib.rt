@@ -1,4 +1,6 @@
 // Plans: definitions, theorems, and the types of the plan check's answer.
+#![tactic(auto)]
+
 ghost use Rattle.std.specs.Prelude.{◌≡◌};
 ghost use Rattle.faults.specs.Fault.{decline};
 

@@ -1,4 +1,6 @@
 // Plays the turns of a list one after the other, and passes over those that are known to be idle.
+#![tactic(auto)]
+
 ghost use Rattle.std.specs.Prelude.{true, [], ◌∷◌, ◌≡◌};
 ghost use Rattle.std.proofs.Math.Option.{none};
 ghost use Rattle.disac4.specs.Turn.{allowed, turn, turn_fault, turns_of};

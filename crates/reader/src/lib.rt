@@ -1,4 +1,6 @@
 // The reader that every byte of a plan is read through: it holds the bytes and its place.
+#![tactic(auto)]
+
 ghost use Rattle.std.specs.Prelude.{◌≡◌, ◌+◌, ◌<◌, length};
 ghost use Rattle.base.specs.Bytes.{byte_at, word_at};
 

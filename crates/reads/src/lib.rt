@@ -1,4 +1,6 @@
 // Reads of a worker in the cells: the next list message of a worker, or the next poll. 1 where it changed something, 0 where it was idle.
+#![tactic(auto)]
+
 ghost use Rattle.std.specs.Prelude.{◌≡◌, ◌-◌, ◌<◌, ◌≤◌, length};
 ghost use Rattle.disac4.specs.Need.{work_need};
 ghost use Rattle.format.specs.Limits.{max_workers};

@@ -1,1 +1,2 @@
 // Turns in the work cells are the turns of the definitions: theorems alone.
+#![tactic(auto)]

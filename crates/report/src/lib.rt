@@ -1,4 +1,6 @@
 // What a finished run gives: the list cells of its variables, and its report.
+#![tactic(auto)]
+
 ghost use Rattle.std.specs.Prelude.{cond, ◌≡◌, ◌<◌, ◌≤◌, eqb, length};
 ghost use Rattle.base.specs.Row.{row_of};
 ghost use Rattle.lending.specs.Call.{overwrite};

@@ -1,5 +1,7 @@
 // Revises the list of a variable against that of another one, which stands in a lent list buffer: which of its values have a
 // support there.
+#![tactic(auto)]
+
 ghost use Rattle.std.specs.Prelude.{true, ◌&&◌, ◌≡◌, ◌<◌};
 ghost use Rattle.base.specs.Row.{bit, row_of};
 ghost use Rattle.disac4.specs.Report.{row_from};

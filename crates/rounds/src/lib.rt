@@ -1,4 +1,6 @@
 // The round, and rounds until the plan is closed.
+#![tactic(auto)]
+
 ghost use Rattle.std.specs.Prelude.{cond, [], ◌∷◌, map, ◌≡◌, suc, ◌<◌, ◌≤◌, eqb};
 ghost use Rattle.base.specs.Below.{gather_below, list_below};
 ghost use Rattle.disac4.specs.Round.{others, worker_round, round, round_run_turns};

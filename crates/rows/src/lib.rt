@@ -1,4 +1,6 @@
 // What a table or a limit permits, as rows of values, read from a plan's bytes alone.
+#![tactic(auto)]
+
 ghost use Rattle.std.specs.Prelude.{◌≡◌, ℕ, ◌<◌, ◌≤◌, ltb, length};
 ghost use Rattle.format.specs.Format.{values_end, table_row_start};
 ghost use Rattle.format.specs.Limits.{max_values};

@@ -1,4 +1,6 @@
 // Whole runs on an accepted plan: it is loaded, the turns are played, and the run ends with its report.
+#![tactic(auto)]
+
 ghost use Rattle.std.proofs.Math.Option.{none};
 ghost use Rattle.std.specs.Prelude.{◌≡◌, ◌≤◌, length};
 ghost use Rattle.lending.specs.Call.{Gives};

@@ -1,4 +1,6 @@
 // The checks of single sections: of the head, of a variable and of a constraint.
+#![tactic(auto)]
+
 pub mod constraint;
 mod scope;
 pub mod section;

@@ -1,4 +1,6 @@
 // Send in the cells: the labels that a worker deleted go to all, as one list message. 1 where it changed something, 0 where it was idle.
+#![tactic(auto)]
+
 ghost use Rattle.std.specs.Prelude.{◌≡◌, ◌<◌, ◌≤◌, length};
 ghost use Rattle.disac4.specs.Need.{work_need};
 ghost use Rattle.format.specs.Limits.{max_workers};

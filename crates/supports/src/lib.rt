@@ -1,4 +1,6 @@
 // Rows of supports: the values that an accepted plan allows with a label, read through its index in the work cells.
+#![tactic(auto)]
+
 ghost use Rattle.std.specs.Prelude.{true, ◌≡◌, suc, ◌≤◌, length};
 ghost use Rattle.base.specs.Row.{row_of};
 ghost use Rattle.cells.specs.Memory.{mem_of};

@@ -1,5 +1,7 @@
 // The slow engine on an accepted plan: sweeps between two lent buffers, until one deletes nothing. A variable's domain stands in
 // them as its list, the row of its values.
+#![tactic(auto)]
+
 ghost use Rattle.std.specs.Prelude.{◌↔◌, ◌≡◌, ◌<◌, ◌≤◌, length};
 ghost use Rattle.std.proofs.Math.Option.{none};
 ghost use Rattle.disac4.specs.Need.{list_need};

@@ -1,5 +1,7 @@
 // The slow engine's two calls (document 02, job 2): the sweeps of a plan, and the part of a buffer that holds the last one. Neither asks
 // anything of its caller.
+#![tactic(auto)]
+
 ghost use Rattle.std.specs.Prelude.{[], ◌∷◌, ◌≡◌};
 ghost use Rattle.faults.specs.CheckList.{first_fault, verdict_of};
 ghost use Rattle.lending.specs.Call.{Gives, buffer_checks, outcome_of};

@@ -1,4 +1,6 @@
 // The text that the program prints, as a definition and assembled in a lent buffer.
+#![tactic(auto)]
+
 ghost use Rattle.buffer.specs.Buffer.{Holds};
 ghost use Rattle.text.specs.Printed.{printed};
 

@@ -1,4 +1,6 @@
 // The different pairs of variables that the constraints of a plan touch: a constraint touches each pair of its scope.
+#![tactic(auto)]
+
 ghost use Rattle.std.specs.Prelude.{true, not, List, ◌≡◌, ℕ, suc, ◌+◌, ◌*◌, ◌<◌, ◌≤◌, leb, length};
 ghost use Rattle.base.specs.Below.{one};
 ghost use Rattle.base.specs.Row.{bit};

@@ -1,4 +1,6 @@
 // Treating a label: which labels lose it as a support, and which of them are deleted.
+#![tactic(auto)]
+
 ghost use Rattle.std.specs.Prelude.{true, ◌≡◌, ℕ, ◌^◌, ◌<◌, ◌≤◌, length};
 ghost use Rattle.format.specs.Limits.{max_workers, max_variables};
 ghost use Rattle.disac4.specs.System.{system_at};

@@ -1,6 +1,8 @@
 // Answers the plans of standard input, one to a line in hexadecimal, with spaces between bytes where they help. An empty
 // line is the empty plan, and a line that starts with '#' says why the answer below is right. The answers that the
 // program has to give were worked out by hand from documents 01 and 02.
+#![tactic(auto)]
+
 ghost use Rattle.std.specs.Prelude.{◌≤◌, ◌<◌, length};
 
 use plan::Checked;
