@@ -7,7 +7,7 @@ pub mod queues;
 
 // A part of the work cells: rows of as many columns, from a fixed place on. In a halved region two rows share their cells: an
 // even one has the low bytes, and the odd one behind it the high bytes.
-#[derive(Drop)]
+#[derive(Clone, Copy)]
 pub struct Region {
     pub id: usize,
     pub base: usize,

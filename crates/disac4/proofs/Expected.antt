@@ -106,7 +106,7 @@ module _ (sys : System) (st : State) where
   reads_message : (k : ℕ) (q : Poll) (rest : List Message) → Worker sys k → st.channel 0 k ≡ poll q ∷ rest → Now
       → With st.controller.marked (update st.held k (some q)) (update₂ st.channel 0 k rest)
   reads_message k q rest w e g i v =
-      accounted_map (λ x. x) (λ x. rw (update₂_second st.channel 0 k rest i 0 (not_controller w)) x)
+      accounted_map {marked = st.controller.marked} {held = st.held} {c = st.channel} (λ x. x) (λ x. rw (update₂_second st.channel 0 k rest i 0 (not_controller w)) x)
       (λ x.
       elim (ℕ_discrete i k) [
         | yes same ↦

@@ -13,7 +13,6 @@ use Rattle.base.proofs.Below.{gather_at}
 use Rattle.base.proofs.Bools.{bool_ext, and_left}
 use Rattle.base.proofs.Digits.{number_digits, number_same}
 use Rattle.base.proofs.Row.{row_bit, row_low}
-use Rattle.base.specs.Below.{gather_below}
 use Rattle.base.specs.Digits.{digits}
 use Rattle.base.specs.Row.{bit}
 use Rattle.disac4.proofs.Outcome.{lists_length}

@@ -7,14 +7,13 @@ use mathlib.Core.Option.{none}
 use mathlib.Core.Path.{◌≡◌, refl, sym, ◌∙◌, ap, ap₂}
 use native.Mathlib.Omega.{arith}
 use borrow.Author.Tests.{lt-ltb, le-ltb}
-use lib.Dec.{ltb, eqb}
-use lib.ListN.{get_or}
+use lib.Dec.{ltb}
 use Rattle.base.proofs.Below.{get_d_list_below}
 use Rattle.base.proofs.Bools.{refuted, or_false_left, or_false_right, and_true}
 use Rattle.base.proofs.Choice.{cond_true, cond_false}
 use Rattle.base.specs.Below.{list_below}
 use Rattle.base.specs.Row.{bit}
-use Rattle.format.specs.Format.{section_start, constraint_start, constraint_count, first_at, kind_at, table_row_at, limit_at, figure_at, numbered_size}
+use Rattle.format.specs.Format.{section_start, constraint_start, constraint_count, first_at, table_row_at, limit_at, figure_at, numbered_size}
 use Rattle.plan.proofs.Limits.{limit_turned}
 use Rattle.plan.proofs.Links.{joins_of}
 use Rattle.plan.proofs.Parts.{constraint_read, size_read, value_read}

@@ -1,14 +1,13 @@
 -- Which variables a constraint of an accepted plan is over: the members of its scope, two by two.
-use Prim.Native.Nat.{ℕ, zero, suc, ◌-◌, ◌<◌}
+use Prim.Native.Nat.{ℕ, suc, ◌-◌, ◌<◌}
 use mathlib.Core.Bool.{true}
 use mathlib.Core.List.{List}
-use mathlib.Core.Logic.{◌⊎◌, inl, inr, ⊎_elim}
+use mathlib.Core.Logic.{◌⊎◌}
 use mathlib.Core.Option.{none}
 use mathlib.Core.Path.{◌≡◌, sym, ◌∙◌, ap}
 use native.Mathlib.Decide.{dec_lt}
 use native.Mathlib.Omega.{arith}
 use borrow.Author.Tests.{eqb-true}
-use lib.ListN.{length, get_or}
 use Rattle.base.proofs.Bools.{or_cases, or_left}
 use Rattle.format.specs.Format.{constraint_start, constraint_count, variable_count, first_at, second_at, kind_at, scope_size, scope_at, scope_of}
 use Rattle.plan.proofs.Constraints.{in_scope_order, no_further}

@@ -1,0 +1,15 @@
+use Prim.Native.Nat.{◌-◌, ◌≤◌}
+use mathlib.Core.Path.{◌≡◌}
+use lib.ListN.{length}
+use Rattle.sections.specs.Known.{start_count}
+use Rattle.touching.specs.Touching.{Touching}
+use Rattle.format.specs.Format.{section_start}
+use Rattle.parser.specs.Known.{PassedBefore, labels_before, constraints_before}
+use Rattle.parser.proofs.scan.check_sections.Given as goal
+
+abbrev pub invariant-loop-k : goal.invariant-loop-k
+invariant-loop-k l =
+    PassedBefore l.plan l.starts l.k × (length l.starts ≡ start_count) × (l.at ≡ section_start l.plan l.k) × (l.at ≤ length l.plan) × (l.k ≤ l.count) × (l.labels ≡ labels_before l.plan l.k) × Touching l.plan (constraints_before l.plan l.k) l.touched l.pairs
+
+abbrev pub decreases-loop-k : goal.decreases-loop-k
+decreases-loop-k l = l.count - l.k
