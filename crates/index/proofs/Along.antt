@@ -7,7 +7,7 @@ use mathlib.Core.Option.{none}
 use mathlib.Core.Path.{◌≡◌, refl, sym, ◌∙◌, ap, ap₂}
 use native.Mathlib.Omega.{arith}
 use Rattle.base.proofs.Below.{all_both, all_ext}
-use Rattle.base.proofs.Bools.{decided, and-false, and_true, or_left, or_right}
+use Rattle.base.proofs.Bools.{and-false, and_true, or_left, or_right}
 use Rattle.base.proofs.Members.{all_places}
 use Rattle.base.specs.Below.{all_below}
 use Rattle.format.specs.Format.{section_start, constraint_start, constraint_count, limit_at, figure_at}

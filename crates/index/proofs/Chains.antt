@@ -14,7 +14,6 @@ use Rattle.index.specs.Index.{within_lowest, Indexed, places_m, constraints_m, o
 use Rattle.cells.specs.Layout.{PAIRS, PLACES, NEXT, FIRST, FOLLOW, LASTS, LIMITS, PAIREND, BEHIND}
 use Rattle.cells.specs.Memory.{Mem}
 use Rattle.plan.specs.Decode.{plan_fault}
-use Rattle.format.specs.Format.{constraint_count}
 
 -- from a memory without an index, indexing leaves the plan's
 pub indexed : (b : List ℕ) → plan_fault b ≡ none → (m : Mem) → ((r i j : ℕ) → PAIRS ≤ r → r < BEHIND → m r i j ≡ 0) → Indexed b (index_m b m)

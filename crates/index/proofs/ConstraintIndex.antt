@@ -1,11 +1,11 @@
 -- The memory with the plan's constraints in it: after each of them, the pairs that have a number are those that it and those before it
 -- are over, and what stands for a pair is what these constraints say of it.
-use Prim.Native.Nat.{ℕ, zero, suc, ◌+◌, ◌-◌, ◌<◌, ◌≤◌}
+use Prim.Native.Nat.{ℕ, suc, ◌+◌, ◌-◌, ◌<◌, ◌≤◌}
 use mathlib.Core.Bool.{Bool, true, false, cond, ◌&&◌, ◌||◌, not, or_comm, false≢true}
 use mathlib.Core.List.{List}
 use mathlib.Core.Logic.{◌⊎◌, inl, inr, ⊎_elim}
 use mathlib.Core.Option.{none}
-use mathlib.Core.Path.{◌≡◌, refl, sym, ◌∙◌, ap, ap₂, subst}
+use mathlib.Core.Path.{◌≡◌, refl, sym, ◌∙◌, ap, ap₂}
 use native.Mathlib.Nat.{le_refl}
 use native.Mathlib.Omega.{arith}
 use lib.Dec.{ltb, eqb}
@@ -22,8 +22,8 @@ use Rattle.format.specs.Format.{constraint_start, variable_count, constraint_cou
 use Rattle.format.specs.Limits.{max_pairs}
 use Rattle.index.proofs.Nearest.{near_none, near_past, near_ext}
 use Rattle.index.proofs.SamePairs.{same_pair, same_pair_lem, pair_same, with_pair, pairs_below, pairs_more}
-use Rattle.index.proofs.Stages.{Stage, stage_ext, numbered, number_stage, chain_stage, chain_next, lower_keeps, lower_stage}
-use Rattle.index.specs.Index.{SamePair, nearest, table_over, limit_over, table_below, within_each, within_lowest, any_over, pair_in, pair_m, number_m, chain_m, lower_m, table_m, limit_m, beside_m, limits_m, constraint_m, constraints_m}
+use Rattle.index.proofs.Stages.{Stage, stage_ext, number_stage, chain_stage, chain_next, lower_keeps, lower_stage}
+use Rattle.index.specs.Index.{SamePair, nearest, table_over, limit_over, table_below, within_each, any_over, pair_in, pair_m, number_m, chain_m, lower_m, table_m, limit_m, beside_m, limits_m, constraint_m, constraints_m}
 use Rattle.network.specs.Network.{pair_count}
 use Rattle.plan.proofs.Links.{joins_of}
 use Rattle.plan.proofs.Parts.{variables_read}
@@ -31,7 +31,6 @@ use Rattle.plan.proofs.PlanCounts.{linked_any}
 use Rattle.plan.proofs.WellFormed.{read_well_formed}
 use Rattle.plan.specs.Decode.{plan_fault, plan_of}
 use Rattle.plan.specs.Network.{within_limit, share_constraint, network_of}
-use Rattle.plan.specs.Plan.{constraint_of}
 use Rattle.rows.proofs.Scopes.{JoinedBy, over_turned, over_sides, side_over, member, member_low, members_joined, joined_members, ends_joined, table_ends}
 use Rattle.rows.specs.Permits.{over, is_table}
 

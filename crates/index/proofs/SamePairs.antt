@@ -1,13 +1,13 @@
 -- The same two variables either way round, and how many pairs pass a test.
 use Prim.Native.Nat.{ℕ, suc, ◌+◌, ◌<◌}
 use mathlib.Core.Bool.{Bool, true, false, ◌&&◌, ◌||◌, or_comm}
-use mathlib.Core.Logic.{◌⊎◌, inl, inr, ⊎_elim}
+use mathlib.Core.Logic.{inl, inr, ⊎_elim}
 use mathlib.Core.Path.{◌≡◌, refl, sym, ◌∙◌, ap}
 use native.Mathlib.Omega.{arith}
 use borrow.Author.Tests.{eqb-true, eq-eqb}
 use lib.Dec.{eqb}
 use Rattle.base.proofs.Bools.{and_left, and_right, and_intro, or_cases, or_left, or_right, refuted}
-use Rattle.base.proofs.Sums.{sum_change, sum_ext, count_ext}
+use Rattle.base.proofs.Sums.{sum_change, count_ext}
 use Rattle.base.specs.Below.{sum_below, count_below, one}
 use Rattle.index.specs.Index.{SamePair}
 

@@ -9,7 +9,7 @@ use borrow.Author.Tests.{lt-ltb, le-ltb, le-leb, leb-true, leb-false, eqb-true, 
 use lib.Dec.{leb, ltb, eqb}
 use Rattle.base.proofs.Bools.{decided, or_right, or_false_left, clash, refuted}
 use Rattle.base.proofs.Choice.{cond_true, cond_false}
-use Rattle.cells.proofs.Stores.{store_same, store_other, store_apart}
+use Rattle.cells.proofs.Stores.{store_same, store_other}
 use Rattle.cells.specs.Layout.{PAIRS, NEXT, LASTS, LIMITS, PAIREND, LIMITED, LOWEST}
 use Rattle.cells.specs.Memory.{Mem, store}
 use Rattle.format.specs.Limits.{max_pairs}

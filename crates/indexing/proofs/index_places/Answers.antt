@@ -1,6 +1,5 @@
 -- `indexing::index_places` writes where each section starts. Invariant: the places of the first k sections are written,
 -- and `at` is the next one's. Assumes nothing.
-use Prim.Native.Nat.{◌-◌}
 use mathlib.Core.Path.{refl, ◌∙◌, ap}
 use native.Mathlib.Numerals.{add-one}
 use native.Mathlib.Omega.{arith}

@@ -1,5 +1,4 @@
 -- `indexing::leads` puts a variable in front of a row's chains. Invariant: in front of those for the first y. Assumes nothing.
-use Prim.Native.Nat.{◌-◌}
 use native.Mathlib.Omega.{arith}
 use Rattle.cells.proofs.Done.{done_none, done_more, done_all}
 use Rattle.indexing.proofs.leads.Goals as goal

@@ -1,5 +1,4 @@
 -- `indexing::put_limits` puts a limit over each two variables of its scope. Invariant: over each two of the first j. Assumes nothing.
-use Prim.Native.Nat.{◌-◌}
 use native.Mathlib.Omega.{arith}
 use Rattle.cells.proofs.Done.{done_none, done_more, done_all}
 use Rattle.index.specs.Index.{limits_m}

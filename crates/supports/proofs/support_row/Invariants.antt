@@ -1,4 +1,3 @@
-use Prim.Native.Nat.{◌-◌}
 use Rattle.supports.proofs.Left.{Left}
 use Rattle.supports.proofs.support_row.Given as goal
 

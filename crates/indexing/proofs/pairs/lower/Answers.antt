@@ -1,8 +1,6 @@
 -- `indexing::pairs::lower` puts a limit for a pair, unless one stands there that is as low. Assumes nothing.
-use mathlib.Core.Bool.{not}
-use mathlib.Core.Path.{refl, sym, ◌∙◌, ap}
+use mathlib.Core.Path.{refl}
 use native.Mathlib.Omega.{arith}
-use Rattle.base.proofs.Bools.{not-not}
 use Rattle.cells.proofs.Ranges.{may_put}
 use Rattle.cells.specs.Memory.{mem_of}
 use Rattle.index.proofs.Stages.{lower_passed, lower_put}
