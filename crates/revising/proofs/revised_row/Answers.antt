@@ -1,13 +1,12 @@
 -- `revising::revised_row` gives the values of the row that have a support in another variable's list. Invariant: the row so
 -- far is that of the first v values that pass, for any domains that the lists show. Assumes nothing.
-use Prim.Native.Nat.{ℕ, ◌-◌, ◌+◌, ◌<◌}
+use Prim.Native.Nat.{ℕ, ◌+◌, ◌<◌}
 use mathlib.Core.Path.{◌≡◌, ◌∙◌, ap}
 use native.Mathlib.Omega.{arith}
 use Rattle.disac4.specs.Report.{row_from}
 use Rattle.disac4.specs.System.{network_at}
 use Rattle.format.specs.Format.{variable_count}
 use Rattle.format.specs.Lists.{row_in}
-use Rattle.format.specs.Version.{row_words}
 use Rattle.index.proofs.Linked.{linked_inside}
 use Rattle.index.proofs.Places.{few_sections}
 use Rattle.listing.specs.ListCells.{Shows}

@@ -2,11 +2,7 @@
 use mathlib.Core.Path.{refl}
 use lib.ListN.{get_or-replicate}
 use Rattle.cells.specs.Layout.{VALUEROOM}
-use Rattle.counting.proofs.no_rows.Statement.{statement}
-use Rattle.counting.proofs.no_rows.Tie as tie
+use Rattle.counting.proofs.no_rows.Goals as goal
 
-returns : tie.Need-returns
+pub returns : goal.returns
 returns c = record { long = refl; each = λ w. get_or-replicate VALUEROOM w 0 0 }
-
-pub no-rows-spec : {M : Type 1} → statement M
-no-rows-spec = tie.close (tie.spec returns)
