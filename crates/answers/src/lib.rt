@@ -11,8 +11,8 @@ ghost use Rattle.cells.specs.View.{poll_at};
 ghost use Rattle.answers.specs.Answers.{answer_m, answered_with, empty_m};
 
 use cells::layout::{
-    BOUNDS, HEAD, HELD, LISTS, LOGEND, OUT, OUTEND, OUTROOM, POLLROOM, SENDROOM, SENDS, TAIL,
-    WANTED, WORKERS, get, put,
+    self, BOUNDS, HEAD, HELD, LISTS, LOGEND, OUT, OUTEND, OUTROOM, POLLROOM, SENDROOM, SENDS, TAIL,
+    WANTED, get, put,
 };
 use disac4::{ListCounter, Poll, Timestamp};
 
@@ -22,8 +22,8 @@ fn put_reply(cells: &mut [u16], i: usize, number: Timestamp, outs: usize)
     ensures { mem_of cells.new ≡ answered_with i number.0 outs (mem_of cells.old) }
 {
     put(cells, OUT, i, outs, number.0 as usize);
-    put(cells, WORKERS, i, OUTEND, outs + 1);
-    put(cells, WORKERS, i, HELD, 0);
+    put(cells, layout::WORKERS, i, OUTEND, outs + 1);
+    put(cells, layout::WORKERS, i, HELD, 0);
 }
 
 // Whether both lists of row `i` are empty.
@@ -31,17 +31,17 @@ fn both_empty(cells: &[u16], i: usize) -> bool
     requires { (work_need ≤ length cells.now) × (i < max_workers) }
     ensures { result ≡ empty_m i (mem_of cells.now) }
 {
-    let head = get(cells, WORKERS, i, HEAD);
-    let tail = get(cells, WORKERS, i, TAIL);
+    let head = get(cells, layout::WORKERS, i, HEAD);
+    let tail = get(cells, layout::WORKERS, i, TAIL);
     if head != tail {
         return false;
     }
-    let sends = get(cells, WORKERS, i, SENDS);
+    let sends = get(cells, layout::WORKERS, i, SENDS);
     if sends >= SENDROOM {
         return false;
     }
     let start = get(cells, BOUNDS, i, sends);
-    let end = get(cells, WORKERS, i, LOGEND);
+    let end = get(cells, layout::WORKERS, i, LOGEND);
     start == end
 }
 
@@ -50,7 +50,7 @@ fn held_poll(cells: &[u16], i: usize) -> Poll
     requires { (work_need ≤ length cells.now) × (i < max_workers) × (mem_of cells.now WORKERS i HELD ≤ POLLROOM) }
     ensures { result ≡ poll_at (mem_of cells.now) (mem_of cells.now WORKERS i HELD) }
 {
-    let number = get(cells, WORKERS, i, HELD);
+    let number = get(cells, layout::WORKERS, i, HELD);
     let wanted = get(cells, WANTED, 0, number);
     Poll {
         number: Timestamp(number as u16),
@@ -63,7 +63,7 @@ fn list_counter(cells: &[u16], i: usize) -> ListCounter
     requires { (work_need ≤ length cells.now) × (i < max_workers) }
     ensures { result.0 ≡ mem_of cells.now WORKERS i LISTS }
 {
-    ListCounter(get(cells, WORKERS, i, LISTS) as u16)
+    ListCounter(get(cells, layout::WORKERS, i, LISTS) as u16)
 }
 
 // Whether two counts of lists are the same.
@@ -78,7 +78,7 @@ pub fn answer(cells: &mut [u16], i: usize) -> usize
     requires { (work_need ≤ length cells.old) × (i < max_workers) }
     ensures { Acts (answer_m i) (mem_of cells.old) (mem_of cells.new) result }
 {
-    let held = get(cells, WORKERS, i, HELD);
+    let held = get(cells, layout::WORKERS, i, HELD);
     if held == 0 {
         return 0;
     }
@@ -93,7 +93,7 @@ pub fn answer(cells: &mut [u16], i: usize) -> usize
     if !same_count(list_counter(cells, i), wanted) {
         return 0;
     }
-    let outs = get(cells, WORKERS, i, OUTEND);
+    let outs = get(cells, layout::WORKERS, i, OUTEND);
     if outs >= OUTROOM {
         return 0;
     }

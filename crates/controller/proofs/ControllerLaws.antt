@@ -51,18 +51,18 @@ module _ (p i c : ℕ) (t : Tally) where
     told_closed h = rw (lt-leb LISTMARK c h₁, not-true t.polling h)
 
     module _ (h₂ : not t.polling ≡ false) {same : Bool} (q : same ≡ eqb c t.timestamp.0) where
-      pub told_late : not same ≡ true → t ≡ told_t p i c t
+      pub told_late : same ≡ false → t ≡ told_t p i c t
       unfolding told_t
-      told_late h = rw (lt-leb LISTMARK c h₁, not-false t.polling h₂, ← q, not-true same h)
+      told_late h = rw (lt-leb LISTMARK c h₁, not-false t.polling h₂, ← q, h)
 
-      pub told_reply : {u : Tally} → not same ≡ false → u ≡ marked_t p i t → u ≡ told_t p i c t
+      pub told_reply : {u : Tally} → same ≡ true → u ≡ marked_t p i t → u ≡ told_t p i c t
       unfolding told_t
       told_reply h e =
           e
           ∙ sym
           (cond_false (counted_t t) _ (lt-leb LISTMARK c h₁)
           ∙ cond_true _ t (not-false t.polling h₂)
-          ∙ cond_true (marked_t p i t) t (sym q ∙ not-false same h))
+          ∙ cond_true (marked_t p i t) t (sym q ∙ h))
 
 -- ---- cells and tally after an action
 
@@ -82,29 +82,29 @@ module _ (t : Tally) (u : Tally) (e : u ≡ polled_t t) (q : Poll) (f : (q.numbe
   poll_put m m' p = rw (p, f.0, f.1, e)
 
 module _ (t : Tally) {b : Bool} (q : b ≡ may_poll_t t) where
-  pub may_poll_room : not b ≡ false → t.timestamp.0 < POLLROOM
+  pub may_poll_room : b ≡ true → t.timestamp.0 < POLLROOM
   unfolding may_poll_t
   may_poll_room h =
       ltb-true t.timestamp.0 POLLROOM
-      (and_right (not t.polling) (ltb t.timestamp.0 POLLROOM) (sym q ∙ not-false b h))
+      (and_right (not t.polling) (ltb t.timestamp.0 POLLROOM) (sym q ∙ h))
 
   module _ (cells : List ℕ) where
-    pub poll_idle : not b ≡ true → poll_m (machine cells t) ≡ none
+    pub poll_idle : b ≡ false → poll_m (machine cells t) ≡ none
     unfolding poll_m
-    poll_idle h = rw (← q, not-true b h)
+    poll_idle h = rw (← q, h)
 
-    pub poll_goes : not b ≡ false
+    pub poll_goes : b ≡ true
         → poll_m (machine cells t) ≡ some (record { mem = put_poll_m t (mem_of cells); tally = polled_t t })
     unfolding poll_m
-    poll_goes h = rw (← q, not-false b h)
+    poll_goes h = rw (← q, h)
 
 -- ---- read, controller
 
 module _ (t : Tally) (read end : ℕ) {b : Bool} (q : b ≡ ltb read end && ltb read OUTROOM && ltb t.lists.0 LISTSMAX) where
   -- where it finds a message, it has room for its place and for the count
-  pub read_room : not b ≡ false → (read < OUTROOM) × (t.lists.0 < LISTSMAX)
+  pub read_room : b ≡ true → (read < OUTROOM) × (t.lists.0 < LISTSMAX)
   read_room h =
-      let found = sym q ∙ not-false b h in
+      let found = sym q ∙ h in
       let unread = and_left (ltb read end && ltb read OUTROOM) (ltb t.lists.0 LISTSMAX) found in (
         ltb-true read OUTROOM (and_right (ltb read end) (ltb read OUTROOM) unread),
         ltb-true t.lists.0 LISTSMAX (and_right (ltb read end && ltb read OUTROOM) (ltb t.lists.0 LISTSMAX) found),
@@ -116,12 +116,12 @@ module _ (t : Tally) (read end : ℕ) {b : Bool} (q : b ≡ ltb read end && ltb 
     unfolding has_out
     finds = rw (← q₁, ← q₂, q)
 
-    pub controller_read_idle : not b ≡ true → controller_read_m sys i (machine cells t) ≡ none
+    pub controller_read_idle : b ≡ false → controller_read_m sys i (machine cells t) ≡ none
     unfolding controller_read_m
-    controller_read_idle h = rw (finds, not-true b h)
+    controller_read_idle h = rw (finds, h)
 
-    pub controller_takes : {p c : ℕ} → not b ≡ false → c ≡ mem_of cells OUT i read → sys.workers ≡ p
+    pub controller_takes : {p c : ℕ} → b ≡ true → c ≡ mem_of cells OUT i read → sys.workers ≡ p
         → controller_read_m sys i (machine cells t)
         ≡ some (record { mem = store (mem_of cells) WORKERS i OUTREAD (read + 1); tally = told_t p i c t })
     unfolding controller_read_m out_read_m
-    controller_takes h q₃ e = rw (finds, not-false b h, ← q₁, ← q₃, e)
+    controller_takes h q₃ e = rw (finds, h, ← q₁, ← q₃, e)

@@ -11,7 +11,7 @@ ghost use Rattle.controller.specs.Controller.{polled_t, may_poll_t, counted_t, w
 
 use base::{power, row_holds};
 use cells::layout::{
-    LISTMARK, LISTSMAX, OUT, OUTEND, OUTREAD, OUTROOM, POLLROOM, WANTED, WORKERS, get, put,
+    self, LISTMARK, LISTSMAX, OUT, OUTEND, OUTREAD, OUTROOM, POLLROOM, WORKERS, get, put,
 };
 use disac4::{ListCounter, Poll, Tally, Timestamp};
 
@@ -139,7 +139,13 @@ fn put_poll(cells: &mut [u16], q: Poll)
 {
     let number = q.number;
     let wanted = q.wanted;
-    put(cells, WANTED, 0, number.0 as usize, wanted.0 as usize);
+    put(
+        cells,
+        layout::WANTED,
+        0,
+        number.0 as usize,
+        wanted.0 as usize,
+    );
 }
 
 // Poll: where none is open, the controller sends the next one, with its count of lists.

@@ -4,7 +4,7 @@
 use faults::Decline;
 
 // Where a run ends: closed is bare if some variable's domain (list) is empty.
-#[derive(Drop)]
+#[derive(Clone, Copy)]
 pub enum Status {
     Open,
     Closed,
@@ -12,7 +12,7 @@ pub enum Status {
 }
 
 // The run's report, in document 01's order.
-#[derive(Drop)]
+#[derive(Clone, Copy)]
 pub struct Report {
     pub status: Status,
     // Turns that changed something.
@@ -43,15 +43,15 @@ pub const WORK_NEED: usize = 30720;
 pub const LIST_NEED: usize = 64;
 
 // A poll's number.
-#[derive(Drop)]
+#[derive(Clone, Copy)]
 pub struct Timestamp(pub u16);
 
 // A count of lists.
-#[derive(Drop)]
+#[derive(Clone, Copy)]
 pub struct ListCounter(pub u16);
 
 // A poll carries its own number and the wanted count of lists: of two types, so that neither passes for the other.
-#[derive(Drop)]
+#[derive(Clone, Copy)]
 pub struct Poll {
     pub number: Timestamp,
     pub wanted: ListCounter,
@@ -59,7 +59,7 @@ pub struct Poll {
 
 // The controller's tally (the desk's): its count of lists, the poll number, the marks as a row of bits, lowest bit for worker 1,
 // whether the poll is open (polling), and whether the plan is closed. Eight bytes without a gap, so that it is copied at once.
-#[derive(Drop)]
+#[derive(Clone, Copy)]
 pub struct Tally {
     pub lists: ListCounter,
     pub timestamp: Timestamp,
@@ -69,7 +69,7 @@ pub struct Tally {
 }
 
 // How far a run has come: the tally, and the counts of its report.
-#[derive(Drop)]
+#[derive(Clone, Copy)]
 pub struct Progress {
     pub tally: Tally,
     pub changes: usize,
