@@ -1,5 +1,4 @@
 -- `loading::list_plan` lists the values of all variables. Invariant: those of the first x are listed. Assumes nothing.
-use Prim.Native.Nat.{◌-◌}
 use native.Mathlib.Omega.{arith}
 use Rattle.cells.proofs.Done.{done_none, done_more, done_all}
 use Rattle.index.proofs.Kept.{ready_done}

@@ -1,6 +1,5 @@
 -- `loading::supported_row` gives the row of the values that have no counter of 0. Invariant: the row holds those that suit
 -- the first y variables. Assumes nothing.
-use Prim.Native.Nat.{◌-◌}
 use mathlib.Core.Path.{◌≡◌, ◌∙◌}
 use native.Mathlib.Omega.{arith}
 use lib.Pow.{pow_pos}

@@ -1,6 +1,5 @@
 -- `playing::play_turns` plays the turns of a list. The loop's invariant: those passed are played, and what the table
 -- notes is so. The measure is what is left. Assumes nothing.
-use Prim.Native.Nat.{◌-◌}
 use mathlib.Core.Path.{◌≡◌, ◌∙◌, ap}
 use native.Mathlib.Omega.{arith}
 use Rattle.disac4.specs.Turn.{allowed, turn, turn_at, turns_of}

@@ -1,6 +1,5 @@
 -- `report::lowest_empty` finds the lowest empty domain. Invariant: none of the first x domains is empty.
 -- Assumes nothing.
-use Prim.Native.Nat.{◌-◌}
 use mathlib.Core.Path.{refl, sym, ◌∙◌}
 use native.Mathlib.Omega.{arith}
 use Rattle.index.proofs.Places.{few_sections}

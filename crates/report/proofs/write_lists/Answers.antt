@@ -1,6 +1,6 @@
 -- `report::write_lists` puts each variable's row into its list cell. Invariant: the cells of the first x variables
 -- hold their rows, the others are as they were. Assumes nothing.
-use Prim.Native.Nat.{ℕ, ◌-◌, ◌≤◌}
+use Prim.Native.Nat.{ℕ, ◌≤◌}
 use mathlib.Core.List.{List}
 use mathlib.Core.Path.{◌≡◌, ◌∙◌, ap, ap₂}
 use native.Mathlib.Omega.{arith}

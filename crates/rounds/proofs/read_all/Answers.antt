@@ -1,6 +1,5 @@
 -- `rounds::read_all` reads from every worker. The loop's invariant: those passed are read from. The measure is what is
 -- left. Assumes nothing.
-use Prim.Native.Nat.{◌-◌}
 use native.Mathlib.Numerals.{add-one}
 use native.Mathlib.Omega.{arith}
 use Rattle.disac4.proofs.Allowed.{controller_may_read}

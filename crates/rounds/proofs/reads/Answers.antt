@@ -1,6 +1,6 @@
 -- `rounds::reads` reads from every other actor. The loop's invariant: those passed are read from. The measure is what is
 -- left. Assumes nothing.
-use Prim.Native.Nat.{suc, ◌-◌, ◌≤◌}
+use Prim.Native.Nat.{suc, ◌≤◌}
 use mathlib.Core.Bool.{cond}
 use mathlib.Core.List.{[], ◌∷◌}
 use native.Mathlib.Omega.{arith}

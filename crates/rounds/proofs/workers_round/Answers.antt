@@ -1,6 +1,5 @@
 -- `rounds::workers_round` plays the turns of every worker. The loop's invariant: the workers passed have played theirs.
 -- The measure is what is left. Assumes nothing.
-use Prim.Native.Nat.{◌-◌}
 use native.Mathlib.Numerals.{add-one}
 use native.Mathlib.Omega.{arith}
 use Rattle.engine.proofs.Playing.{none_played, goes_on, one_more, all_played}

@@ -12,7 +12,6 @@ use Rattle.index.proofs.Kept.{row_pairs}
 use Rattle.treating.proofs.Kept.{lose_kept}
 use Rattle.treating.proofs.LoseLaws.{lowest_low, lowest_lost, empty_lost}
 use Rattle.treating.specs.Treat.{lose_m, lose_row_m}
-use Rattle.treating.proofs.lose_values.Invariants.{Left}
 use Rattle.treating.proofs.lose_values.Goals as goal
 use Rattle.treating.proofs.lose_values.Goals.{In-loop-rest}
 
