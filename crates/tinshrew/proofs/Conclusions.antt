@@ -25,7 +25,7 @@ use Rattle.disac4.specs.Round.{round_run_turns}
 use Rattle.disac4.specs.System.{System, system_of, system_at}
 use Rattle.disac4.specs.Turn.{Turn, allowed, turns_of}
 use Rattle.disac4.specs.declared.Answer.{Answer}
-use Rattle.disac4.specs.declared.Answer.TheVariants.{Reported, Declined}
+use Rattle.disac4.specs.declared.Answer.TheVariants.{Reported}
 use Rattle.disac4.specs.declared.Report.{Report}
 use Rattle.disac4.specs.declared.Status.{Status}
 use Rattle.disac4.specs.declared.Status.TheVariants.{Open, Closed, Bare}

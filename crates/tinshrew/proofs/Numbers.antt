@@ -10,7 +10,7 @@ use Rattle.lending.specs.Call.{Outcome, outcome, Gives, Call}
 use Rattle.disac4.proofs.Outcome.{run_answers}
 use Rattle.disac4.specs.Outcome.{Lent, Run, call_of, run_of, turn_run, round_run}
 use Rattle.disac4.specs.declared.Answer.{Answer}
-use Rattle.disac4.specs.declared.Answer.TheVariants.{Reported, Declined}
+use Rattle.disac4.specs.declared.Answer.TheVariants.{Reported}
 use Rattle.disac4.specs.declared.Status.{Status}
 use Rattle.disac4.specs.declared.Status.TheVariants.{Open, Closed, Bare}
 use Rattle.plan.specs.Answer.{plan_check}

@@ -22,16 +22,14 @@ const WORK: usize = 1;
 const LISTS: usize = 2;
 
 // `check_plan`, as numbers.
-#[unsafe(no_mangle)]
-pub extern "C" fn tinshrew_check_plan(plan: &[u8], out: &mut [usize; 5])
+pub fn tinshrew_check_plan(plan: &[u8], out: &mut [usize; 5])
     ensures { out.new ≡ checked_numbers (plan_check plan.now) }
 {
     *out = checked_numbers(parser::check_plan(plan));
 }
 
 // `run_turns`, as numbers.
-#[unsafe(no_mangle)]
-pub extern "C" fn tinshrew_run_turns(
+pub fn tinshrew_run_turns(
     plan: &[u8],
     turns: &[u8],
     work: &mut [u16],
@@ -44,26 +42,14 @@ pub extern "C" fn tinshrew_run_turns(
 }
 
 // `run_round`, as numbers.
-#[unsafe(no_mangle)]
-pub extern "C" fn tinshrew_run_round(
-    plan: &[u8],
-    work: &mut [u16],
-    lists: &mut [u16],
-    out: &mut [usize; 6],
-)
+pub fn tinshrew_run_round(plan: &[u8], work: &mut [u16], lists: &mut [u16], out: &mut [usize; 6])
     ensures { GivesNumbers answer_numbers (run_of (round_run plan.now) (lent work.old lists.old)) out.new (lent work.new lists.new) }
 {
     *out = answer_numbers(calls::run_round(plan, work, lists));
 }
 
 // `run_sweeps`, as numbers.
-#[unsafe(no_mangle)]
-pub extern "C" fn tinshrew_run_sweeps(
-    plan: &[u8],
-    first: &mut [u16],
-    second: &mut [u16],
-    out: &mut [usize; 2],
-)
+pub fn tinshrew_run_sweeps(plan: &[u8], first: &mut [u16], second: &mut [u16], out: &mut [usize; 2])
     ensures { GivesNumbers swept_numbers (outcome_of (sweep_call plan.now) (two_lists first.old second.old)) out.new (two_lists first.new second.new) }
 {
     *out = swept_numbers(sweeps::run_sweeps(plan, first, second));
@@ -71,8 +57,7 @@ pub extern "C" fn tinshrew_run_sweeps(
 
 // `last_sweep`, as numbers: which buffer the part is of, and how many cells it has from that buffer's start. A function for C
 // can return no part of a buffer.
-#[unsafe(no_mangle)]
-pub extern "C" fn tinshrew_last_sweep<'a>(
+pub fn tinshrew_last_sweep<'a>(
     first: &'a [u16],
     second: &'a [u16],
     sweeps: usize,
@@ -85,16 +70,14 @@ pub extern "C" fn tinshrew_last_sweep<'a>(
 }
 
 // The version of this interface.
-#[unsafe(no_mangle)]
-pub extern "C" fn tinshrew_version() -> usize
+pub fn tinshrew_version() -> usize
     ensures { result ≡ interface_version }
 {
     VERSION
 }
 
 // How many cells of a lent buffer the calls need; 0 for a number that no buffer has.
-#[unsafe(no_mangle)]
-pub extern "C" fn tinshrew_cells(buffer: usize) -> usize
+pub fn tinshrew_cells(buffer: usize) -> usize
     ensures { result ≡ cells_needed buffer }
 {
     if buffer == WORK {

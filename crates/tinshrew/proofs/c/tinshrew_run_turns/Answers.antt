@@ -1,0 +1,7 @@
+-- `tinshrew::c::tinshrew_run_turns` writes the numbers of `run_turns`. Assumes nothing.
+use Rattle.tinshrew.proofs.Numbers.{as_numbers}
+use Rattle.tinshrew.proofs.c.tinshrew_run_turns.Goals as goal
+
+pub returns : goal.returns
+returns c =
+    as_numbers _ _ _ _ _ c.answer_numbers.ensures c.run_turns.ensures
