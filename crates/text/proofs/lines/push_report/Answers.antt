@@ -1,0 +1,14 @@
+-- `text::lines::push_report` puts the report's line. Assumes nothing.
+use Rattle.buffer.proofs.Puts.{◌then◌}
+use Rattle.text.specs.Printed.{report_line}
+use Rattle.text.proofs.lines.push_report.Goals as goal
+
+pub returns : goal.returns
+unfolding report_line
+returns c =
+    c.push_status-place.ensures
+    then c.push_spaced-place.ensures
+    then c.push_spaced-place-2.ensures
+    then c.push_spaced-place-3.ensures
+    then c.push_spaced-place-4.ensures
+    then c.push.ensures
