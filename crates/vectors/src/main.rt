@@ -3,9 +3,13 @@
 // program has to give were worked out by hand from documents 01 and 02.
 #![tactic(auto)]
 
-ghost use Rattle.std.specs.Prelude.{◌≤◌, ◌<◌, length};
+ghost use Rattle.std.specs.Prelude.{◌≡◌, ◌≤◌, ◌<◌, length, take};
 
 use plan::Checked;
+use std::io::Read;
+
+// The bytes of the input that are read.
+const TEXT_ROOM: usize = 65536;
 
 // The value of a hexadecimal digit; 0 for any other byte.
 fn value(c: u8) -> u8
@@ -47,36 +51,35 @@ fn parse(line: &[u8], plan: &mut [u8]) -> usize
     used
 }
 
-fn number(n: usize) {
-    io::write_all(1, b" ");
-    io::print_decimal(1, n as u64);
+fn number(rt: &impl Print, n: usize) {
+    let _ = print!(rt; " {n}");
 }
 
-fn accepted(f: plan::Counts) {
-    io::write_all(1, b"accepted");
-    number(f.workers);
-    number(f.variables);
-    number(f.constraints);
-    number(f.labels);
-    io::write_all(1, b"\n");
+fn accepted(rt: &impl Print, f: plan::Counts) {
+    let _ = print!(rt; "accepted");
+    number(rt, f.workers);
+    number(rt, f.variables);
+    number(rt, f.constraints);
+    number(rt, f.labels);
+    let _ = println!(rt);
 }
 
-fn declined(d: faults::Decline) {
+fn declined(rt: &impl Print, d: faults::Decline) {
     let fault = d.fault;
-    io::write_all(1, b"declined");
-    number(faults::fault_number(fault));
-    number(d.place);
-    io::write_all(1, b"\n");
+    let _ = print!(rt; "declined");
+    number(rt, faults::fault_number(fault));
+    number(rt, d.place);
+    let _ = println!(rt);
 }
 
-fn answer(bytes: &[u8]) {
+fn answer(rt: &impl Print, bytes: &[u8]) {
     match parser::check_plan(bytes) {
-        Checked::Accepted(f) => accepted(f),
-        Checked::Declined(d) => declined(d),
+        Checked::Accepted(f) => accepted(rt, f),
+        Checked::Declined(d) => declined(rt, d),
     }
 }
 
-fn answer_line(line: &[u8]) {
+fn answer_line(rt: &impl Print, line: &[u8]) {
     if 0 < line.len() {
         if line[0] == b'#' {
             return;
@@ -84,7 +87,7 @@ fn answer_line(line: &[u8]) {
     }
     let mut bytes = [0u8; 8192];
     let n = parse(line, &mut bytes);
-    answer(&bytes[..n]);
+    answer(rt, &bytes[..n]);
 }
 
 // Where the line that starts at `from` ends.
@@ -102,17 +105,33 @@ fn line_end(text: &[u8], from: usize) -> usize
     end
 }
 
-fn answer_lines(text: &[u8]) {
+fn answer_lines(rt: &impl Print, text: &[u8]) {
     let mut from = 0;
     while from < text.len() {
         let end = line_end(text, from);
-        answer_line(&text[from..end]);
+        answer_line(rt, &text[from..end]);
         from = end + 1;
     }
 }
 
-fn main() {
-    let mut text = io::large_buffer();
-    let n = io::read_full(0, &mut text);
-    answer_lines(&text[..n]);
+// Reads until the buffer is full, the input ends or a read fails, and returns how many bytes it put at the buffer's start.
+fn fill(input: &mut impl Read, buf: &mut [u8]) -> usize
+    ensures within { result ≤ length buf.new }
+    ensures first { result ≡ length (take result buf.new) }
+{
+    let mut count = 0;
+    while count < buf.len() {
+        let some = input.read(&mut buf[count..]).unwrap_or(0);
+        if some == 0 {
+            break;
+        }
+        count += some;
+    }
+    count
+}
+
+fn main(rt: HostRuntime) {
+    let mut text = [0u8; TEXT_ROOM];
+    let n = fill(&mut rt.reader(), &mut text);
+    answer_lines(&rt, &text[..n]);
 }
