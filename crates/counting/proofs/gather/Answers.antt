@@ -6,7 +6,7 @@ use Rattle.counting.proofs.gather.Goals as goal
 
 pub gather_below-requires : goal.gather_below-requires
 gather_below-requires c =
-    gathers_more _ c.if-n-le-HALFROOM.true (omega arith) c.requires
+    gathers_more _ (omega arith) (omega arith) c.requires
 
 pub gather_below-requires-else-n-le-HALFROOM : goal.gather_below-requires-else-n-le-HALFROOM
 gather_below-requires-else-n-le-HALFROOM c =

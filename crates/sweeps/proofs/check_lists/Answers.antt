@@ -1,4 +1,6 @@
 -- `sweeps::check_lists` gives 10 for too few cells of either buffer. Assumes nothing.
+use native.Mathlib.Omega.{arith}
+use lib.ListN.{length}
 use borrow.Author.Tests.{le-leb, lt-leb}
 use Rattle.disac4.specs.Need.{list_need}
 use Rattle.lending.specs.Call.{buffer_checks}
@@ -14,4 +16,4 @@ returns-then-second-lt-LIST_NEED c = rw (le-leb list_need _ c.if-first-lt-LIST_N
 
 pub returns : goal.returns
 unfolding buffer_checks list_need
-returns c = rw (le-leb list_need _ c.if-first-lt-LIST_NEED.false, le-leb list_need _ c.if-second-lt-LIST_NEED.false)
+returns c = rw (le-leb list_need (length c.args.first.now) (omega arith), le-leb list_need (length c.args.second.now) (omega arith))

@@ -2,7 +2,9 @@
 -- and takes its pairs in. Assumes nothing.
 use Prim.Native.Nat.{ℕ, suc}
 use borrow.Author.Tests.{le-leb, lt-leb, eq-eqb, ne_eqb}
+use mathlib.Core.Bool.{true}
 use mathlib.Core.List.{List}
+use mathlib.Core.Path.{◌≡◌}
 use native.Mathlib.Omega.{arith}
 use lib.ListN.{drop}
 use Rattle.faults.proofs.Branches.{holds, fails, Stage, begin, next}
@@ -11,7 +13,7 @@ use Rattle.format.specs.Limits.{max_further}
 use Rattle.plan.specs.Check.{constraint_checks}
 use Rattle.sections.proofs.Verdicts.{judged_fails}
 use Rattle.sections.proofs.constraint.check_content.Goals as goal
-use Rattle.sections.proofs.constraint.check_content.Goals.{After-constraint_length-called_for, Else-further-gt-MAX_FURTHER, Else-length-called_for, Else-not-fits, Else-not-further_in_order, Else-not-has_count}
+use Rattle.sections.proofs.constraint.check_content.Goals.{After-constraint_length-called_for, After-table_fits-fits, Else-further-gt-MAX_FURTHER, Else-length-called_for, Else-not-further_in_order, Else-not-has_count}
 
 -- the checks of constraint n from the fifth on, from where the reads are done
 abbrev checks : ℕ → After-constraint_length-called_for → List Check
@@ -38,10 +40,10 @@ module _ (n : ℕ) where
   unfolding constraint_checks
   ordered c = next (exact (goal.at.Else-not-further_in_order c).Else-length-called_for) (rw (holds c.further_in_order.ensures c.if-not-further_in_order.false))
 
-  abbrev fitting : Else-not-fits → Stage (checks n)
+  abbrev fitting : (c : After-table_fits-fits) → c.table_fits-fits.result ≡ true → Stage (checks n)
   unfolding constraint_checks
-  fitting c =
-      next (ordered (goal.at.Else-not-fits c).Else-not-further_in_order) (rw (holds c.table_fits-fits.ensures c.if-not-fits.false))
+  fitting c fits =
+      next (ordered (goal.at.After-table_fits-fits c).Else-not-further_in_order) (rw (holds c.table_fits-fits.ensures fits))
 
 pub returns-then-not-has_count : goal.returns-then-not-has_count
 unfolding constraint_checks
@@ -87,13 +89,13 @@ pub returns-then-not-few : goal.returns-then-not-few
 unfolding constraint_checks
 returns-then-not-few c n e known =
     judged_fails _ _ _ _ _ _
-    (rw ((fitting n (goal.at.returns-then-not-few c).Else-not-fits).past, fails (c.few_pairs-few.ensures n e known).0 c.if-not-few.true))
+    (rw ((fitting n (goal.at.returns-then-not-few c).After-table_fits-fits (cc)).past, fails (c.few_pairs-few.ensures n e known).0 c.if-not-few.true))
 
 pub returns : goal.returns
 unfolding constraint_checks
 returns c n e known =
     let few = c.few_pairs-few.ensures n e known in
     record {
-      verdict = rw ((fitting n (goal.at.returns c).Else-not-fits).past, holds few.0 c.if-not-few.false);
+      verdict = rw ((fitting n (goal.at.returns c).After-table_fits-fits c.if-not-fits.false).past, holds few.0 c.if-not-few.false);
       touching = λ p. few.1 c.if-not-few.false;
     }
