@@ -1,4 +1,4 @@
-// The controller's tally lent and updated in place: the covered read by value does the work.
+// The controller's tally lent and updated in place: the read by value does the work.
 #![tactic(auto)]
 
 ghost use Rattle.controller.specs.Controller.{MayRead, HasRead};
