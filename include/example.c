@@ -1,6 +1,6 @@
 /* Plays a list of turns on a small plan, and then the sweeps. From the repository's folder:
  *
- *     rt staticlib tinshrew && cc -Iinclude include/example.c target/staticlib/libtinshrew.a -o target/example
+ *     bash tools/build library && cc -Iinclude include/example.c target/staticlib/libtinshrew.a -o target/example
  *     target/example
  *
  * It prints

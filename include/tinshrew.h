@@ -1,7 +1,7 @@
 /* Tinshrew: strikes dishes from the lists of a plan, between kitchens.
  *
  * Five calls, for x86-64 Linux, and two that say which library is linked. For C from C99 on, and for C++. Link
- * target/staticlib/libtinshrew.a, which `rt staticlib tinshrew` writes.
+ * target/staticlib/libtinshrew.a, which `bash tools/build library` writes.
  *
  *   tinshrew_check_plan   checks a plan
  *   tinshrew_run_turns    plays a list of turns on a plan

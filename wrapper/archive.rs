@@ -4,7 +4,7 @@ use std::env;
 use std::path::{Path, PathBuf};
 
 /// The file that TINSHREW_LIB names, seen from the repository's folder; where it is unset or empty, the one that
-/// `rt staticlib tinshrew` writes. None where that one is not there. A named one that is not there is an error.
+/// `bash tools/build library` writes. None where that one is not there. A named one that is not there is an error.
 pub fn archive() -> Option<PathBuf> {
     println!("cargo:rerun-if-env-changed=TINSHREW_LIB");
     let package = env::var_os("CARGO_MANIFEST_DIR").expect("cargo names the package's folder");

@@ -1,5 +1,5 @@
-/* A file that breaks off, as on a failing disk: loaded ahead of the C library it stands in for read and close. Of the file that
- * BREAKS_OFF names read gives the first four bytes and then fails; close of it fails. */
+/* A file that breaks off, as on a failing disk: loaded ahead of the C library it stands in for read, fsync and close. Of the
+ * file that BREAKS_OFF names read gives the first four bytes and then fails; fsync and close of it fail. */
 #define _GNU_SOURCE
 #include <errno.h>
 #include <stdio.h>
@@ -36,6 +36,14 @@ ssize_t read(int fd, void *buf, size_t count) {
         }
     }
     return syscall(SYS_read, fd, buf, count);
+}
+
+int fsync(int fd) {
+    if (is_named(fd)) {
+        errno = EIO;
+        return -1;
+    }
+    return (int)syscall(SYS_fsync, fd);
 }
 
 int close(int fd) {
