@@ -1,9 +1,9 @@
 -- Laws by which the code of answer meets its definitions: what its stores and tests make of them.
 use Prim.Native.Nat.{ℕ, ◌+◌, ◌<◌, ◌≤◌}
-use mathlib.Core.Bool.{Bool, true, false}
+use mathlib.Core.Bool.{Bool, true, false, not}
 use mathlib.Core.Option.{none, some}
 use mathlib.Core.Path.{◌≡◌, sym}
-use borrow.Author.Tests.{lt-ltb, ltb-true, le-leb, leb-true, eq-eqb, eqb-true, ne_eqb, eqb-false, not-true}
+use borrow.Author.Tests.{lt-ltb, ltb-true, le-leb, leb-true, eq-eqb, eqb-true, ne_eqb, eqb-false, not-true, not-false}
 use lib.Dec.{eqb}
 use Rattle.base.proofs.Bools.{and_left, and_right, and_intro, not_of, refuted}
 use Rattle.base.proofs.Choice.{cond_true, cond_false}
@@ -82,12 +82,12 @@ module _ (i : ℕ) (m : Mem) where
   answered_from p r e = rw (e, p, r)
 
 -- the two counts that the code compares
-module _ (i : ℕ) (m : Mem) {lists : ListCounter} {q : Poll} {same : Bool} (p : lists.0 ≡ m WORKERS i LISTS)
-    (r : q ≡ poll_at m (m WORKERS i HELD)) (e : same ≡ eqb lists.0 q.wanted.0) where
-  pub counts_agree : same ≡ true → m WORKERS i LISTS ≡ m WANTED 0 (m WORKERS i HELD)
+module _ (i : ℕ) (m : Mem) {lists : ListCounter} {q : Poll} {differ : Bool} (p : lists.0 ≡ m WORKERS i LISTS)
+    (r : q ≡ poll_at m (m WORKERS i HELD)) (e : differ ≡ not (eqb lists.0 q.wanted.0)) where
+  pub counts_agree : differ ≡ false → m WORKERS i LISTS ≡ m WANTED 0 (m WORKERS i HELD)
   unfolding poll_at
-  counts_agree h = eqb-true _ _ (rw (e, p, r) at h)
+  counts_agree h = eqb-true _ _ (not-false _ (rw (e, p, r) at h))
 
-  pub counts_differ : same ≡ false → m WORKERS i LISTS ≡ m WANTED 0 (m WORKERS i HELD) → ⊥
+  pub counts_differ : differ ≡ true → m WORKERS i LISTS ≡ m WANTED 0 (m WORKERS i HELD) → ⊥
   unfolding poll_at
-  counts_differ h = eqb-false _ _ (rw (e, p, r) at h)
+  counts_differ h = eqb-false _ _ (not-true _ (rw (e, p, r) at h))

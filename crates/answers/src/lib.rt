@@ -1,7 +1,8 @@
-// Answer in the cells: a worker replies to the poll it holds. 1 where it changed something, 0 where it was idle.
+// Answer in the cells: a worker replies to the poll it holds. It says whether it changed something.
+// Cells are a slice: `cells::layout` says why.
 #![tactic(auto)]
 
-ghost use Rattle.std.specs.Prelude.{◌≡◌, ◌<◌, ◌≤◌, eqb, length};
+ghost use Rattle.std.specs.Prelude.{◌≡◌, ◌<◌, ◌≤◌, length};
 ghost use Rattle.disac4.specs.Need.{work_need};
 ghost use Rattle.format.specs.Limits.{max_workers};
 ghost use Rattle.cells.specs.Acts.{Acts};
@@ -33,11 +34,8 @@ fn both_empty(cells: &[u16], i: usize) -> bool
 {
     let head = get(cells, layout::WORKERS, i, HEAD);
     let tail = get(cells, layout::WORKERS, i, TAIL);
-    if head != tail {
-        return false;
-    }
     let sends = get(cells, layout::WORKERS, i, SENDS);
-    if sends >= SENDROOM {
+    if head != tail || sends >= SENDROOM {
         return false;
     }
     let start = get(cells, BOUNDS, i, sends);
@@ -66,38 +64,26 @@ fn list_counter(cells: &[u16], i: usize) -> ListCounter
     ListCounter(get(cells, layout::WORKERS, i, LISTS) as u16)
 }
 
-// Whether two counts of lists are the same.
-fn same_count(a: ListCounter, b: ListCounter) -> bool
-    ensures { result ≡ eqb a.0 b.0 }
-{
-    a.0 == b.0
-}
-
 // Answer: row `i` replies to the poll it holds, where both its lists are empty and its list counter is the wanted count.
-pub fn answer(cells: &mut [u16], i: usize) -> usize
+pub fn answer(cells: &mut [u16], i: usize) -> bool
     requires { (work_need ≤ length cells.old) × (i < max_workers) }
     ensures { Acts (answer_m i) (mem_of cells.old) (mem_of cells.new) result }
 {
     let held = get(cells, layout::WORKERS, i, HELD);
-    if held == 0 {
-        return 0;
-    }
-    if held > POLLROOM {
-        return 0;
+    if held == 0 || held > POLLROOM {
+        return false;
     }
     if !both_empty(cells, i) {
-        return 0;
+        return false;
     }
     let q = held_poll(cells, i);
-    let wanted = q.wanted;
-    if !same_count(list_counter(cells, i), wanted) {
-        return 0;
+    if list_counter(cells, i) != q.wanted {
+        return false;
     }
     let outs = get(cells, layout::WORKERS, i, OUTEND);
     if outs >= OUTROOM {
-        return 0;
+        return false;
     }
-    let number = q.number;
-    put_reply(cells, i, number, outs);
-    1
+    put_reply(cells, i, q.number, outs);
+    true
 }

@@ -63,22 +63,12 @@ pub or_right : (a : Bool) {b : Bool} → b ≡ true → a || b ≡ true
 or_right true q = refl
 or_right false q = q
 
--- a test is the contrary of its contrary
-pub not-not : (b : Bool) → not (not b) ≡ b
-not-not true = refl
-not-not false = refl
-
 -- the middle two of four tests change places
 pub and_swap : (a b c d : Bool) → (a && b) && (c && d) ≡ (a && c) && (b && d)
 and_swap true true c d = refl
 and_swap true false true d = refl
 and_swap true false false d = refl
 and_swap false b c d = refl
-
--- three tests, however they are put together
-pub or_assoc : (a b c : Bool) → (a || b) || c ≡ a || (b || c)
-or_assoc true b c = refl
-or_assoc false b c = refl
 
 -- where neither holds, the first fails
 pub or_false_left : (a b : Bool) → a || b ≡ false → a ≡ false

@@ -9,4 +9,5 @@ pub mod Lowest
 pub mod Members
 pub mod Row
 pub mod Sums
+pub mod Upper
 pub mod Weight

@@ -5,6 +5,7 @@ use mathlib.Core.Logic.{⊎_elim}
 use mathlib.Core.Path.{◌≡◌, refl, sym, ap, ap₂}
 use native.Mathlib.Nat.{not-suc-le-zero, eq-or-lt_of_le, le_of_suc-le-suc, le_step, le_refl}
 use native.Mathlib.Numerals.{add-one}
+use mir.Val.{bool_byte}
 use native.Mathlib.Omega.{arith}
 use Rattle.base.proofs.Below.{below_cases}
 use Rattle.base.proofs.Choice.{update_same, update_other, update_each}
@@ -120,6 +121,11 @@ sum_less (suc n) f g h i l s =
     (λ p.
     omega (arith, sum_less n f g (λ j q. h j (le_step q)) i p s, h n (le_refl (suc n))))
     (below_cases l)
+
+-- a test as a number
+pub one_byte : (b : Bool) → bool_byte b ≡ one b
+one_byte true = refl
+one_byte false = refl
 
 -- a test counts at most 1
 pub one_le : (b : Bool) → one b ≤ 1

@@ -1,33 +1,9 @@
-// Reads in a slice of bytes, and rows of bits; as definitions, loops below a bound and updates too.
+// Rows of bits; as definitions, reads in a list of bytes, loops below a bound and updates too.
 #![tactic(auto)]
 
-ghost use Rattle.std.specs.Prelude.{cond, ◌≡◌, ℕ, ◌%◌, ◌<◌, ◌^◌, length};
-ghost use Rattle.base.specs.Below.{one};
+ghost use Rattle.std.specs.Prelude.{Bool, cond, ◌≡◌, ℕ, ◌%◌, ◌<◌, ◌≤◌, ◌^◌};
 ghost use Rattle.base.specs.Choice.{between as between_of};
-ghost use Rattle.base.specs.Bytes.{byte_at};
-ghost use Rattle.base.specs.Row.{bit, row_count};
-
-// A byte as a number.
-fn wide(x: u8) -> usize
-    ensures { (result ≡ x) × (result < 256) }
-{
-    x as usize
-}
-
-// The byte at i, which is inside the slice.
-pub fn byte_inside(b: &[u8], i: usize) -> usize
-    requires { i < length b.now }
-    ensures { (result ≡ byte_at b.now i) × (result < 256) }
-{
-    wide(b[i])
-}
-
-// The byte at i, 0 past the end.
-pub fn byte_at(b: &[u8], i: usize) -> usize
-    ensures { (result ≡ byte_at b.now i) × (result < 256) }
-{
-    if i < b.len() { byte_inside(b, i) } else { 0 }
-}
+ghost use Rattle.base.specs.Row.{bit, row_of, row_count};
 
 // The row of value k alone: 2 to the k.
 pub fn power(k: usize) -> usize
@@ -53,6 +29,20 @@ pub fn row_if(held: bool, k: usize) -> usize
     if held { power(k) } else { 0 }
 }
 
+// The row of the values below n that pass a test. From the last one down the row is doubled: that is quicker than to shift
+// each bit to its place.
+pub fn row_where<F: Fn(usize) -> bool>(n: usize, test: F) -> usize
+    requires few { n ≤ 64 }
+    requires callable { (k : ℕ) → k < n → F.pre test k }
+    ensures { (passes : ℕ → Bool) → ((k : ℕ) → k < n → (held : Bool) → F.post test k held → held ≡ passes k) → result ≡ row_of n passes }
+{
+    let mut row = 0;
+    for k in (0..n).rev() {
+        row = 2 * row + usize::from(test(k));
+    }
+    row
+}
+
 // How many values row k of four values holds, for each k below 16: in bits 4k to 4k + 3.
 const OF_FOUR: usize = 0x4332_3221_3221_2110;
 
@@ -65,6 +55,7 @@ fn count_four(row: usize) -> usize
 
 // How many values a row holds, at any width that it fits: the values 0 to 3 of the rest are counted and the others moved down
 // by four, until none is left.
+// Not `count_ones`: that this is a loop is promised (docs/PROMISES.md, job 3).
 pub fn row_count(row: usize) -> usize
     ensures { (width : ℕ) → row < 2 ^ width → result ≡ row_count width row }
 {
@@ -72,7 +63,7 @@ pub fn row_count(row: usize) -> usize
     let mut count = 0;
     while rest != 0 {
         count += count_four(rest);
-        rest = rest / 16;
+        rest /= 16;
     }
     count
 }
@@ -82,11 +73,4 @@ pub fn between(low: usize, high: usize, x: usize) -> bool
     ensures { result ≡ between_of low high x }
 {
     low <= x && x <= high
-}
-
-// 1 where a test holds.
-pub fn one_if(test: bool) -> u8
-    ensures { result ≡ one test }
-{
-    if test { 1 } else { 0 }
 }

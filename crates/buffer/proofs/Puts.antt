@@ -5,12 +5,15 @@ use mathlib.Core.Path.{◌≡◌, refl, sym, ◌∙◌, ap}
 use native.Mathlib.Decide.{dec_lt}
 use native.Mathlib.Numerals.{add-one}
 use native.Mathlib.Omega.{arith}
+use denote.MutBor.{MutBor}
 use borrow.Author.Tests.{lt-ltb, le-ltb}
 use lib.ListN.{length, get_or, set, take, drop, length-append, length-take, length-drop}
 use lib.Seq.{take-suc, take_all, drop-cons, set_at, append_snoc, take-append-le, take_at}
 use Rattle.base.proofs.Choice.{cond_true, cond_false}
 use Rattle.base.specs.Below.{gather_below}
-use Rattle.buffer.specs.Buffer.{Buffer, buffer, put, puts, Adds, Holds}
+use Rattle.buffer.specs.Buffer.{Buffer, buffer, put, puts, Holds}
+use Rattle.buffer.specs.Taken.{Begins, Takes}
+use Rattle.buffer.specs.declared.Text.{Text}
 
 put_room : (l : List ℕ) (at b : ℕ) → at < length l → put (buffer l at) b ≡ buffer (set l at b) (at + 1)
 unfolding put
@@ -26,35 +29,42 @@ puts_append t [] ys = refl
 puts_append t (b ∷ xs) ys = puts_append (put t b) xs ys
 
 -- one byte, where there is room and where there is none
-pub adds_room : (l : List ℕ) (at b : ℕ) → at < length l → Adds (b ∷ []) l at (set l at b) (at + 1)
+pub takes_room : (t : Text) (b : ℕ) → t.at < length t.cells.now
+    → Takes (b ∷ []) t (record { cells = record t.cells { now = set t.cells.now t.at b }; at = t.at + 1 })
 unfolding puts
-adds_room l at b h = record { done = sym (put_room l at b h) }
+takes_room t b h = record { same = refl; adds = record { done = sym (put_room t.cells.now t.at b h) } }
 
-pub adds_full : (l : List ℕ) (at b : ℕ) → length l ≤ at → Adds (b ∷ []) l at l at
+pub takes_full : (t : Text) (b : ℕ) → length t.cells.now ≤ t.at → Takes (b ∷ []) t t
 unfolding puts
-adds_full l at b h = record { done = sym (put_full l at b h) }
+takes_full t b h = record { same = refl; adds = record { done = sym (put_full t.cells.now t.at b h) } }
 
-module _ {l : List ℕ} {at : ℕ} where
+module _ {t : Text} where
   -- nothing
-  pub adds_none : Adds [] l at l at
+  pub takes_none : Takes [] t t
   unfolding puts
-  adds_none = record { done = refl }
+  takes_none = record { same = refl; adds = record { done = refl } }
 
   -- one text, and then another
   infixl 20 ◌then◌
-  pub ◌then◌ : {m n : List ℕ} {next last : ℕ} {xs ys : List ℕ} → Adds xs l at m next → Adds ys m next n last
-      → Adds (xs ++ ys) l at n last
-  ◌then◌ {xs = xs} {ys = ys} p q =
-      record { done = q.done ∙ ap (λ (b : Buffer). puts b ys) p.done ∙ sym (puts_append (buffer l at) xs ys) }
+  pub ◌then◌ : {u v : Text} {xs ys : List ℕ} → Takes xs t u → Takes ys u v → Takes (xs ++ ys) t v
+  ◌then◌ {xs = xs} {ys = ys} p q = record {
+    same = q.same ∙ p.same;
+    adds = record {
+      done =
+          q.adds.done
+          ∙ ap (λ (b : Buffer). puts b ys) p.adds.done
+          ∙ sym (puts_append (buffer t.cells.now t.at) xs ys);
+    };
+  }
 
   -- the next byte of a word
-  pub then_next : {m n : List ℕ} {next last : ℕ} (word : List ℕ) (i : ℕ) → i < length word
-      → Adds (take i word) l at m next → Adds (get_or word i 0 ∷ []) m next n last → Adds (take (i + 1) word) l at n last
-  then_next word i h p q = rw (add-one, take-suc word i 0) (p then q)
+  pub then_next : {u v : Text} {b : ℕ} (word : List ℕ) (i : ℕ) → i < length word → Takes (take i word) t u → b ≡ get_or word i 0
+      → Takes (b ∷ []) u v → Takes (take (i + 1) word) t v
+  then_next word i h p e q = rw (add-one, take-suc word i 0, ← e) (p then q)
 
   -- one more of the texts below a bound
-  pub then_more : {m n : List ℕ} {next last : ℕ} {xs : List ℕ} (k : ℕ) (f : ℕ → List ℕ) → Adds (gather_below k f) l at m next
-      → xs ≡ f k → Adds xs m next n last → Adds (gather_below (k + 1) f) l at n last
+  pub then_more : {u v : Text} {xs : List ℕ} (k : ℕ) (f : ℕ → List ℕ) → Takes (gather_below k f) t u → xs ≡ f k → Takes xs u v
+      → Takes (gather_below (k + 1) f) t v
   then_more k f p e q = rw (add-one, ← e) (p then q)
 
 -- ---- a buffer that holds a text
@@ -117,10 +127,12 @@ module _ (before : List ℕ) where
             (e ∙ ap (λ (t : Buffer). puts t more) (put_full after count b (omega (arith, holds_length text after count h))))
       ])
 
-  -- a text put at the start
-  pub holds_added : {text after : List ℕ} {count : ℕ} → Adds text before 0 after count → Holds text before after count
-  holds_added {text} {after} {count} a =
-      holds_puts text [] before after 0 count (record { counted = omega arith; cells = refl }) a.done
+-- a text put at the start
+pub holds_taken : {out : MutBor (List ℕ)} {text : List ℕ} {t u : Text} → Begins out t → Takes text t u
+    → Holds text out.now u.cells.now u.at
+holds_taken {out} {text} {t} {u} p q =
+    holds_puts out.now text [] out.now u.cells.now 0 u.at (record { counted = omega arith; cells = refl })
+    (rw (p.cells, p.at) at q.adds.done)
 
 -- a text that fits is held whole
 pub holds_whole : {text before after : List ℕ} {count : ℕ} → Holds text before after count → length text ≤ length before

@@ -1,5 +1,4 @@
 pub mod Acting
-pub mod Cleared
 pub mod Done
 pub mod Halves
 pub mod Pushing

@@ -4,9 +4,7 @@ use mathlib.Core.List.{List}
 use mathlib.Core.Path.{◌≡◌}
 use lib.ListN.{length}
 use Rattle.disac4.specs.Need.{work_need}
-use Rattle.format.specs.Limits.{max_workers}
-use Rattle.cells.specs.Layout.{BEHIND, LABELROOM, region_at, Fits, WORKERCOLS, room}
-use Rattle.cells.specs.Queues.{Pushes}
+use Rattle.cells.specs.Layout.{BEHIND, region_at, Fits, room}
 use Rattle.cells.specs.declared.Region.{Region}
 
 module _ (cells : List ℕ) (g : Region) (i : ℕ) (known : region_at g.id ≡ g) where
@@ -16,17 +14,3 @@ module _ (cells : List ℕ) (g : Region) (i : ℕ) (known : region_at g.id ≡ g
   pub may_put : (j v : ℕ) → (g.id < BEHIND) × (i < g.rows) × (j < g.cols) × (work_need ≤ length cells) × (v < room g)
       → Fits cells g i j × (v < room g)
   may_put j v h = (may_get j (h.0, h.1, h.2, h.3), h.4)
-
-  pub may_push : (col c : ℕ)
-      → (g.id < BEHIND) × (g.rows ≡ max_workers) × (g.cols ≡ LABELROOM) × (i < max_workers) × (col < WORKERCOLS) × (c < room g) × (work_need ≤ length cells)
-      → Pushes cells g col i c
-  may_push col c h = record {
-    known = known;
-    writable = h.0;
-    rows = h.1;
-    cols = h.2;
-    row = h.3;
-    end = h.4;
-    small = h.5;
-    long = h.6;
-  }

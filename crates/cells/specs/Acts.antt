@@ -1,10 +1,9 @@
 -- What the code of an action does to the state it works on: the work cells, or the work cells and the tally beside them.
-use Rattle.std.specs.Prelude.{ℕ, ◌≡◌}
+use Rattle.std.specs.Prelude.{Bool, ◌≡◌}
 use Rattle.std.proofs.Math.Option.{Option, get_or}
-use Rattle.base.specs.Below.{one}
 use Rattle.disac4.specs.Fold.{is_some}
 
--- it leaves what its definition leaves, and gives 1 exactly where that changes something
-pub record Acts {S : Type 0} (act : S → Option S) (before after : S) (result : ℕ) : Type 0 where
+-- it leaves what its definition leaves, and says whether that changes something
+pub record Acts {S : Type 0} (act : S → Option S) (before after : S) (changed : Bool) : Type 0 where
   pub leaves : after ≡ get_or (act before) before
-  pub count : result ≡ one (is_some (act before))
+  pub says : changed ≡ is_some (act before)

@@ -1,4 +1,5 @@
 // The needed work cells become 0: before a run, so that nothing of it depends on what they held, and after it.
+// Cells are a slice: `cells::layout` says why.
 ghost use Rattle.std.specs.Prelude.{◌≡◌, ◌≤◌, length, replicate};
 ghost use Rattle.lending.specs.Call.{overwrite};
 ghost use Rattle.disac4.specs.Need.{work_need};
@@ -9,9 +10,5 @@ pub fn clear(cells: &mut [u16])
     requires { work_need ≤ length cells.old }
     ensures { cells.new ≡ overwrite (replicate work_need 0) cells.old }
 {
-    let mut k = 0;
-    while k < WORK_NEED {
-        cells[k] = 0;
-        k += 1;
-    }
+    cells[..WORK_NEED].fill(0);
 }

@@ -1,5 +1,7 @@
 // The regions of the work cells, each from where the one before it ends, as specs/Layout.antt has them; and reads and stores by row
 // and column.
+// Cells are a slice, and that it is long enough stands in each contract: `send`, `treat`, `delete`, `put_table` and others that README
+// and docs name take every slice that is long enough, so a type that says it would ask more of callers.
 ghost use Rattle.std.specs.Prelude.{◌≡◌, ◌-◌, ◌<◌, ◌≤◌, eqb};
 ghost use Rattle.base.specs.Row.{row_of};
 ghost use Rattle.disac4.specs.Need.{work_need};
@@ -147,6 +149,7 @@ pub const PLACES: Region = Region {
     halved: false,
 };
 
+// NEXT, LASTS, FIRST and FOLLOW are chains of numbers: all of a run stands in cells that the caller lends, and there is no heap.
 const NEXT_AT: usize = PLACES_AT + PLACEROOM;
 
 pub const NEXT: Region = Region {
@@ -302,10 +305,8 @@ pub fn row_holding(cells: &[u16], g: Region, i: usize, n: usize, c: usize) -> us
     ensures { result ≡ row_of n (λ v. eqb (mem_of cells.now g.id i v) c) }
 {
     let mut row: u32 = 0;
-    let mut v = 0;
-    while v < n {
+    for v in 0..n {
         row += row_if(get(cells, g, i, v) == c, v) as u32;
-        v += 1;
     }
     row as usize
 }

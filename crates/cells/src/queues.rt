@@ -1,4 +1,5 @@
 // The work list and the log: pushing a label, deleting one, and copying a list message.
+// Cells are a slice: `cells::layout` says why.
 ghost use Rattle.std.specs.Prelude.{◌≡◌, ◌+◌, ◌<◌, ◌≤◌, length};
 ghost use Rattle.disac4.specs.Need.{work_need};
 ghost use Rattle.format.specs.Limits.{max_workers, max_variables};
@@ -37,10 +38,8 @@ pub fn copy(cells: &mut [u16], j: usize, i: usize, from: usize, n: usize)
     requires { (work_need ≤ length cells.old) × (j < max_workers) × (i < max_workers) × (from + n ≤ LABELROOM) }
     ensures { mem_of cells.new ≡ copy_m j i from n (mem_of cells.old) }
 {
-    let mut k = 0;
-    while k < n {
+    for k in 0..n {
         let c = get(cells, LOG, j, from + k);
         push(cells, WORK, TAIL, i, c);
-        k += 1;
     }
 }

@@ -5,10 +5,10 @@ use mathlib.Core.List.{List}
 use mathlib.Core.Option.{none, some}
 use mathlib.Core.Path.{◌≡◌, sym, ◌∙◌}
 use native.Mathlib.Omega.{arith}
-use borrow.Author.Tests.{ltb-true, le-leb, lt-leb, not-true, not-false}
+use borrow.Author.Tests.{ltb-true, le-leb, lt-leb}
 use lib.Dec.{ltb, eqb}
 use Rattle.format.specs.Limits.{max_workers}
-use Rattle.base.proofs.Bools.{and_left, and_right}
+use Rattle.base.proofs.Bools.{and_right}
 use Rattle.base.proofs.Choice.{cond_true, cond_false}
 use Rattle.base.specs.Row.{bit}
 use Rattle.disac4.specs.System.{System}
@@ -46,14 +46,14 @@ module _ (p i c : ℕ) (t : Tally) where
   told_list h e = rw (le-leb LISTMARK c h) e
 
   module _ (h₁ : c < LISTMARK) where
-    pub told_closed : not t.polling ≡ true → t ≡ told_t p i c t
+    pub told_closed : t.polling ≡ false → t ≡ told_t p i c t
     unfolding told_t
-    told_closed h = rw (lt-leb LISTMARK c h₁, not-true t.polling h)
+    told_closed h = rw (lt-leb LISTMARK c h₁, h)
 
-    module _ (h₂ : not t.polling ≡ false) {same : Bool} (q : same ≡ eqb c t.timestamp.0) where
+    module _ (h₂ : t.polling ≡ true) {same : Bool} (q : same ≡ eqb c t.timestamp.0) where
       pub told_late : same ≡ false → t ≡ told_t p i c t
       unfolding told_t
-      told_late h = rw (lt-leb LISTMARK c h₁, not-false t.polling h₂, ← q, h)
+      told_late h = rw (lt-leb LISTMARK c h₁, h₂, ← q, h)
 
       pub told_reply : {u : Tally} → same ≡ true → u ≡ marked_t p i t → u ≡ told_t p i c t
       unfolding told_t
@@ -61,7 +61,7 @@ module _ (p i c : ℕ) (t : Tally) where
           e
           ∙ sym
           (cond_false (counted_t t) _ (lt-leb LISTMARK c h₁)
-          ∙ cond_true _ t (not-false t.polling h₂)
+          ∙ cond_true _ t h₂
           ∙ cond_true (marked_t p i t) t (sym q ∙ h))
 
 -- ---- cells and tally after an action
@@ -101,15 +101,6 @@ module _ (t : Tally) {b : Bool} (q : b ≡ may_poll_t t) where
 -- ---- read, controller
 
 module _ (t : Tally) (read end : ℕ) {b : Bool} (q : b ≡ ltb read end && ltb read OUTROOM && ltb t.lists.0 LISTSMAX) where
-  -- where it finds a message, it has room for its place and for the count
-  pub read_room : b ≡ true → (read < OUTROOM) × (t.lists.0 < LISTSMAX)
-  read_room h =
-      let found = sym q ∙ h in
-      let unread = and_left (ltb read end && ltb read OUTROOM) (ltb t.lists.0 LISTSMAX) found in (
-        ltb-true read OUTROOM (and_right (ltb read end) (ltb read OUTROOM) unread),
-        ltb-true t.lists.0 LISTSMAX (and_right (ltb read end && ltb read OUTROOM) (ltb t.lists.0 LISTSMAX) found),
-      )
-
   module _ (sys : System) (i : ℕ) (cells : List ℕ) (q₁ : read ≡ mem_of cells WORKERS i OUTREAD)
       (q₂ : end ≡ mem_of cells WORKERS i OUTEND) where
     finds : has_out i t (mem_of cells) ≡ b

@@ -99,7 +99,7 @@ controller_read_m sys i s =
 abbrev pub MayRead : List ℕ → Tally → ℕ → ℕ → Type 0
 MayRead cells t p i = (work_need ≤ length cells) × (t.marks < 2 ^ max_workers) × (i < max_workers) × (p ≤ max_workers)
 
--- and what it does to cells and tally, of `p` workers: it gives 1 where something changed
-abbrev pub HasRead : List ℕ → Tally → ℕ → ℕ → List ℕ → Tally → ℕ → Type 0
-HasRead before t p i after u r =
-    (sys : System) → sys.workers ≡ p → Acts (controller_read_m sys i) (machine before t) (machine after u) r
+-- and what it does to cells and tally, of `p` workers, and whether something changed
+abbrev pub HasRead : List ℕ → Tally → ℕ → ℕ → List ℕ → Tally → Bool → Type 0
+HasRead before t p i after u changed =
+    (sys : System) → sys.workers ≡ p → Acts (controller_read_m sys i) (machine before t) (machine after u) changed

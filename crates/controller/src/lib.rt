@@ -1,7 +1,9 @@
 // The controller's tally by value, and the controller's actions: poll and read.
+// Cells are a slice: `cells::layout` says why.
 #![tactic(auto)]
 
-ghost use Rattle.std.specs.Prelude.{◌&&◌, ◌≡◌, ◌^◌, ◌<◌, ◌≤◌, ltb, eqb, length};
+ghost use Rattle.std.specs.Prelude.{◌&&◌, ◌≡◌, ◌^◌, ◌<◌, ◌≤◌, ltb, length};
+ghost use Rattle.std.specs.Option.{is_some, unwrap_or};
 ghost use Rattle.disac4.specs.Need.{work_need};
 ghost use Rattle.format.specs.Limits.{max_workers};
 ghost use Rattle.cells.specs.Acts.{Acts};
@@ -15,26 +17,16 @@ use cells::layout::{
 };
 use disac4::{ListCounter, Poll, Tally, Timestamp};
 
-// What an action of the controller gives: 1 where it changed something, and the tally after it.
-#[derive(Drop)]
-pub struct Controlled {
-    pub changed: usize,
-    pub tally: Tally,
-}
-
 // The tally after a poll was sent.
 fn polled(t: Tally) -> Tally
     requires { t.timestamp.0 < POLLROOM }
     ensures { result ≡ polled_t t }
 {
-    let lists = t.lists;
-    let at = t.timestamp;
     Tally {
-        lists: lists,
-        timestamp: Timestamp(at.0 + 1),
+        timestamp: Timestamp(t.timestamp.0 + 1),
         marks: 0,
         polling: true,
-        closed: t.closed,
+        ..t
     }
 }
 
@@ -42,12 +34,7 @@ fn polled(t: Tally) -> Tally
 fn may_poll(t: Tally) -> bool
     ensures { result ≡ may_poll_t t }
 {
-    let at = t.timestamp;
-    let n = at.0 as usize;
-    if t.polling {
-        return false;
-    }
-    n < POLLROOM
+    !t.polling && (t.timestamp.0 as usize) < POLLROOM
 }
 
 // A list message adds one to the count and ends an open poll.
@@ -55,14 +42,10 @@ fn counted(t: Tally) -> Tally
     requires { t.lists.0 < LISTSMAX }
     ensures { result ≡ counted_t t }
 {
-    let lists = t.lists;
-    let at = t.timestamp;
     Tally {
-        lists: ListCounter(lists.0 + 1),
-        timestamp: at,
-        marks: t.marks,
+        lists: ListCounter(t.lists.0 + 1),
         polling: false,
-        closed: t.closed,
+        ..t
     }
 }
 
@@ -83,23 +66,12 @@ fn marked(t: Tally, p: usize, i: usize) -> Tally
     requires { (t.marks < 2 ^ max_workers) × (i < max_workers) × (p ≤ max_workers) }
     ensures { result ≡ marked_t p i t }
 {
-    let lists = t.lists;
-    let at = t.timestamp;
     let marks = with_mark(t.marks as usize, i);
     Tally {
-        lists: lists,
-        timestamp: at,
         marks: marks as u16,
-        polling: t.polling,
         closed: marks + 1 == power(p),
+        ..t
     }
-}
-
-// Whether two polls have the same number.
-fn same_number(a: Timestamp, b: Timestamp) -> bool
-    ensures { result ≡ eqb a.0 b.0 }
-{
-    a.0 == b.0
 }
 
 // The tally after the message `c` from row `i` was read.
@@ -107,28 +79,22 @@ fn told(t: Tally, p: usize, i: usize, c: usize) -> Tally
     requires { (t.lists.0 < LISTSMAX) × (t.marks < 2 ^ max_workers) × (i < max_workers) × (p ≤ max_workers) }
     ensures { result ≡ told_t p i c t }
 {
-    let at = t.timestamp;
     if c >= LISTMARK {
-        return counted(t);
+        counted(t)
+    } else if t.polling && Timestamp(c as u16) == t.timestamp {
+        marked(t, p, i)
+    } else {
+        t
     }
-    if !t.polling {
-        return t;
-    }
-    if !same_number(Timestamp(c as u16), at) {
-        return t;
-    }
-    marked(t, p, i)
 }
 
 // The poll that a tally has open: the wanted count is the lists that the controller has read.
 fn open_poll(t: Tally) -> Poll
     ensures { (result.number ≡ t.timestamp) × (result.wanted ≡ t.lists) }
 {
-    let number = t.timestamp;
-    let wanted = t.lists;
     Poll {
-        number: number,
-        wanted: wanted,
+        number: t.timestamp,
+        wanted: t.lists,
     }
 }
 
@@ -137,64 +103,47 @@ fn put_poll(cells: &mut [u16], q: Poll)
     requires { (work_need ≤ length cells.old) × (q.number.0 ≤ POLLROOM) }
     ensures { mem_of cells.new ≡ store (mem_of cells.old) WANTED 0 q.number.0 q.wanted.0 }
 {
-    let number = q.number;
-    let wanted = q.wanted;
     put(
         cells,
         layout::WANTED,
         0,
-        number.0 as usize,
-        wanted.0 as usize,
+        q.number.0 as usize,
+        q.wanted.0 as usize,
     );
 }
 
-// Poll: where none is open, the controller sends the next one, with its count of lists.
-pub fn poll(cells: &mut [u16], t: Tally) -> Controlled
+// Poll: where none is open, the controller sends the next one, with its count of lists. It gives the tally after it, and None where it
+// was idle.
+pub fn poll(cells: &mut [u16], t: Tally) -> Option<Tally>
     requires { work_need ≤ length cells.old }
-    ensures { Acts poll_m (machine cells.old t) (machine cells.new result.tally) result.changed }
+    ensures { Acts poll_m (machine cells.old t) (machine cells.new (unwrap_or result t)) (is_some result) }
 {
     if !may_poll(t) {
-        return Controlled {
-            changed: 0,
-            tally: t,
-        };
+        return None;
     }
     let after = polled(t);
     put_poll(cells, open_poll(after));
-    Controlled {
-        changed: 1,
-        tally: after,
-    }
+    Some(after)
 }
 
 // Whether a queue has a message behind those that are read, and there is room to count it.
-fn has_out(read: usize, end: usize, lists: u16) -> bool
-    ensures { result ≡ (ltb read end && ltb read OUTROOM && ltb lists LISTSMAX) }
+fn has_out(read: usize, end: usize, lists: ListCounter) -> bool
+    ensures { result ≡ (ltb read end && ltb read OUTROOM && ltb lists.0 LISTSMAX) }
 {
-    if read >= end {
-        return false;
-    }
-    read < OUTROOM && (lists as usize) < LISTSMAX
+    read < end && read < OUTROOM && (lists.0 as usize) < LISTSMAX
 }
 
-// Read: the controller takes the next message of row `i`, of `p` workers.
-pub fn read_message(cells: &mut [u16], t: Tally, p: usize, i: usize) -> Controlled
+// Read: the controller takes the next message of row `i`, of `p` workers. It gives the tally after it, and None where it was idle.
+pub fn read_message(cells: &mut [u16], t: Tally, p: usize, i: usize) -> Option<Tally>
     requires { MayRead cells.old t p i }
-    ensures { HasRead cells.old t p i cells.new result.tally result.changed }
+    ensures { HasRead cells.old t p i cells.new (unwrap_or result t) (is_some result) }
 {
-    let lists = t.lists;
     let read = get(cells, WORKERS, i, OUTREAD);
     let end = get(cells, WORKERS, i, OUTEND);
-    if !has_out(read, end, lists.0) {
-        return Controlled {
-            changed: 0,
-            tally: t,
-        };
+    if !has_out(read, end, t.lists) {
+        return None;
     }
     let c = get(cells, OUT, i, read);
     put(cells, WORKERS, i, OUTREAD, read + 1);
-    Controlled {
-        changed: 1,
-        tally: told(t, p, i, c),
-    }
+    Some(told(t, p, i, c))
 }

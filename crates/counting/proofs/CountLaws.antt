@@ -24,7 +24,7 @@ use Rattle.cells.specs.Memory.{Mem}
 use Rattle.cells.specs.Layout.{VALUEROOM}
 use Rattle.index.proofs.Labels.{values_low}
 use Rattle.index.proofs.Linked.{linked_inside}
-use Rattle.counting.specs.Count.{FirstRows, Gathers, Gathered, support_row, count_pair_m, count_against_m, count_both_m}
+use Rattle.counting.specs.Count.{FirstRows, Gathered, support_row, count_pair_m, count_against_m, count_both_m}
 
 -- a variable has no more values than there is room for, and so has a row of them
 module _ (b : List ℕ) (sound : plan_fault b ≡ none) (x y : ℕ) (e : share_constraint (plan_of b) x y ≡ true) where
@@ -48,11 +48,6 @@ rows_more f k rows row h r e = record {
       up_to (λ v. get_or (set rows k row) v 0 ≡ f v) k (get_or-set_same rows k row 0 (omega (arith, r.long)) ∙ e)
       (λ v l. get_or-set_other rows k v row 0 (λ q. omega arith) ∙ r.each v l);
 }
-
--- what holds of the values below `n` holds of those below a higher number
-pub gathers_more : {rows : List ℕ} {n row v : ℕ} (m : ℕ) → n ≤ m → m ≤ VALUEROOM → Gathers rows n row v → Gathers rows m row v
-gathers_more m h few g =
-    record { long = g.long; few = few; value = g.value; held = omega (arith, g.held, pow_mono h); lower = g.lower }
 
 -- where a value is put into the first `n` rows alone, it is put into all: its own row holds none from `n` on
 pub rows_past : (n row v : ℕ) (old rows : List ℕ) → row < 2 ^ n → FirstRows (λ w. get_or old w 0 + cond (bit row w) (2 ^ v) 0) n rows

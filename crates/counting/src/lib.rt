@@ -1,5 +1,6 @@
 // Counting the supports of a plan whose index stands in the cells. Of two linked variables only the rows of the first are
 // worked out; those of the second are gathered from them. Each count is that of a row.
+// Plan and cells are two parameters: `index::parts` says why.
 #![tactic(auto)]
 
 ghost use Rattle.std.specs.Prelude.{true, ◌≡◌, ◌<◌};
@@ -38,10 +39,8 @@ fn gather_below(rows: &mut Rows, n: usize, row: usize, v: usize)
     requires { Gathers rows.old n row v }
     ensures { Gathered row v rows.old rows.new }
 {
-    let mut w = 0;
-    while w < n {
+    for w in 0..n {
         rows[w] += row_if(row_holds(row, w), v) as u32;
-        w += 1;
     }
 }
 
@@ -66,12 +65,10 @@ fn support_rows(plan: &[u8], cells: &[u16], x: usize, y: usize, others: &mut Row
     let n = parts::size(plan, cells, x);
     let m = parts::size(plan, cells, y);
     let mut rows = no_rows();
-    let mut v = 0;
-    while v < n {
+    for v in 0..n {
         let row = supports::support_row(plan, cells, x, v, y);
         rows[v] = row as u32;
         gather(others, m, row, v);
-        v += 1;
     }
     rows
 }
@@ -83,10 +80,8 @@ fn put_counts(plan: &[u8], cells: &mut [u16], x: usize, y: usize, rows: &Rows)
 {
     let n = parts::size(plan, cells, x);
     let at = parts::counter_row(cells, x, y);
-    let mut v = 0;
-    while v < n {
+    for v in 0..n {
         layout::put(cells, layout::COUNTERS, at, v, row_count(rows[v] as usize));
-        v += 1;
     }
 }
 
@@ -108,10 +103,8 @@ fn count_variable(plan: &[u8], cells: &mut [u16], x: usize)
     requires { Ready plan.now cells.old × (x < variable_count plan.now) }
     ensures { mem_of cells.new ≡ count_variable_m (system_at plan.now) x (mem_of cells.old) }
 {
-    let mut y = 0;
-    while y < x {
+    for y in 0..x {
         count_both(plan, cells, y, x);
-        y += 1;
     }
 }
 
@@ -121,9 +114,7 @@ pub fn count_supports(plan: &[u8], cells: &mut [u16])
     ensures { mem_of cells.new ≡ count_supports_m (system_at plan.now) (mem_of cells.old) }
 {
     let n = read::variable_count(plan);
-    let mut x = 0;
-    while x < n {
+    for x in 0..n {
         count_variable(plan, cells, x);
-        x += 1;
     }
 }

@@ -1,7 +1,6 @@
 -- What a run leaves in the lent buffers, and when it reports or declines.
 use Prim.Native.Nat.{ℕ, ◌*◌, ◌≤◌}
 use mathlib.Core.List.{List}
-use mathlib.Core.Logic.{◌⊎◌, inl, inr}
 use mathlib.Core.Option.{none}
 use mathlib.Core.Path.{◌≡◌, refl, ◌∙◌}
 use native.Mathlib.Nat.{mul-le-mul_right}
@@ -10,7 +9,7 @@ use lib.ListN.{length, replicate, length-replicate, get_or-replicate}
 use Rattle.format.proofs.RowCells.{cells_first}
 use Rattle.format.proofs.Widths.{words_range}
 use Rattle.format.specs.Version.{row_words}
-use Rattle.lending.proofs.Outcome.{Answers}
+use Rattle.lending.proofs.Outcome.{Answers, result_answers}
 use Rattle.lending.proofs.Overwritten.{overwrite_front, overwrite_back, overwrite_length, overwrite_starts}
 use Rattle.plan.proofs.WellFormed.{read_well_formed}
 use Rattle.plan.specs.Decode.{plan_fault}
@@ -21,10 +20,7 @@ use Rattle.disac4.specs.Need.{work_need, list_need}
 use Rattle.disac4.specs.Report.{row_from, domain_cells, final, report_of}
 use Rattle.disac4.specs.System.{system_of, network_at, system_at}
 use Rattle.disac4.specs.Turn.{Turn}
-use Rattle.disac4.specs.declared.Answer.{Answer}
-use Rattle.disac4.specs.declared.Answer.TheVariants.{Reported, Declined}
-use Rattle.disac4.specs.declared.Report.{Report}
-use Rattle.faults.specs.declared.Decline.{Decline}
+use Rattle.std.specs.Prelude.{Ok}
 
 -- ---- the cells of a run
 
@@ -61,17 +57,7 @@ cells_written b l sound long_work long_lists turns =
 
 -- ---- any run
 
--- an answer is a report or a decline
-report_or_decline : (a : Answer) → ((s : Report) × (a ≡ Reported s)) ⊎ ((d : Decline) × (a ≡ Declined d))
-report_or_decline (Reported r) = inl (r, refl)
-report_or_decline (Declined d) = inr (d, refl)
-
--- so a run answers as a call does
-pub run_answers : (r : Run) → Answers (call_of r) Reported
+-- a run answers as a call does
+pub run_answers : (r : Run) → Answers (call_of r) Ok
 unfolding played
-run_answers r = record {
-  each = report_or_decline;
-  apart = λ s d e. let z : ◌≡◌ {A = ℕ} 0 1 = cc in omega arith;
-  own = λ d e p. cc;
-  does = λ l. (report_of (system_at r.plan) r.turns, refl);
-}
+run_answers r = result_answers (call_of r) (λ d. refl) (λ l. (report_of (system_at r.plan) r.turns, refl))

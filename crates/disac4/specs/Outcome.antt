@@ -1,5 +1,5 @@
 -- The whole outcome of each run: its answer and every cell of the lent buffers, from all of its inputs.
-use Rattle.std.specs.Prelude.{ℕ, ◌<◌, ◌≤◌, List, [], ◌∷◌, ◌≡◌, length, get_or, replicate}
+use Rattle.std.specs.Prelude.{ℕ, ◌<◌, ◌≤◌, List, [], ◌∷◌, ◌≡◌, length, get_or, replicate, Result, Ok, Err}
 use Rattle.std.proofs.Math.Option.{Option}
 use Rattle.base.specs.Choice.{first_of}
 use Rattle.faults.specs.CheckList.{◌or_else◌, first_fault, fault_at}
@@ -14,8 +14,7 @@ use Rattle.disac4.specs.Need.{work_need, list_need}
 use Rattle.disac4.specs.Round.{round_run_turns}
 use Rattle.disac4.specs.System.{system_at}
 use Rattle.disac4.specs.Turn.{Turn, turns_of, turn_list_fits, turn_fault}
-use Rattle.disac4.specs.declared.Answer.{Answer}
-use Rattle.disac4.specs.declared.Answer.TheVariants.{Reported, Declined}
+use Rattle.disac4.specs.declared.Report.{Report}
 
 -- the buffers that are lent to a run, before it or after it
 pub record Lent : Type 0 where
@@ -28,9 +27,9 @@ pub record Lent : Type 0 where
 abbrev pub lent : List ℕ → List ℕ → Lent
 lent work lists = record { work = work; lists = lists }
 
--- what a run gives, and what it leaves in them
+-- what a run gives, its report or a decline, and what it leaves in them
 abbrev pub RunOutcome : Type 0
-RunOutcome = Outcome Answer Lent
+RunOutcome = Outcome (Result Report Decline) Lent
 
 -- ---- the lent buffers
 
@@ -75,11 +74,11 @@ pub record Run : Type 0 where
 
 -- what it gives when it has played its turns
 unfoldable pub played : Run → Lent → RunOutcome
-played r l = outcome (Reported (report_of (system_at r.plan) r.turns)) (r.leaves l)
+played r l = outcome (Ok (report_of (system_at r.plan) r.turns)) (r.leaves l)
 
 -- the call that plays it, unless a fault is found
-abbrev pub call_of : Run → Call Answer Lent
-call_of r = record { buffers = r.buffers; fault = r.fault; does = played r; declines = Declined }
+abbrev pub call_of : Run → Call (Result Report Decline) Lent
+call_of r = record { buffers = r.buffers; fault = r.fault; does = played r; declines = Err }
 
 -- its first fault
 abbrev pub run_fault : Run → Lent → Option Decline

@@ -1,10 +1,8 @@
-// The protocol: definitions, theorems, and the types of a run's answer.
+// The protocol: definitions, theorems, and the types of a run's report, its tally and its progress.
 #![tactic(auto)]
 
-use faults::Decline;
-
 // Where a run ends: closed is bare if some variable's domain (list) is empty.
-#[derive(Clone, Copy)]
+#[derive(Clone, Copy, Debug, PartialEq, Eq)]
 pub enum Status {
     Open,
     Closed,
@@ -12,7 +10,7 @@ pub enum Status {
 }
 
 // The run's report, in document 01's order.
-#[derive(Clone, Copy)]
+#[derive(Clone, Copy, Debug, PartialEq, Eq)]
 pub struct Report {
     pub status: Status,
     // Turns that changed something.
@@ -21,11 +19,13 @@ pub struct Report {
     pub sends: usize,
     // Polls sent, each poll turn once.
     pub polls: usize,
-    // The lowest slot with an empty list, 0 if none.
+    // The lowest slot with an empty list, 0 if none: a number, as document 01 has it.
     pub empty: usize,
 }
 
 // The numbers of the actions that are no reads. An action below them reads from the actor of that number.
+// No enum: a turn's byte, the table of idle turns and the definitions go by the number, and beside a variant for reads with their
+// sender a number, as 9, would stand for two actions.
 pub const TREAT_ACTION: usize = 9;
 
 pub const SEND_ACTION: usize = 10;
@@ -43,15 +43,15 @@ pub const WORK_NEED: usize = 30720;
 pub const LIST_NEED: usize = 64;
 
 // A poll's number.
-#[derive(Clone, Copy)]
+#[derive(Clone, Copy, Debug, PartialEq, Eq)]
 pub struct Timestamp(pub u16);
 
 // A count of lists.
-#[derive(Clone, Copy)]
+#[derive(Clone, Copy, Debug, PartialEq, Eq)]
 pub struct ListCounter(pub u16);
 
 // A poll carries its own number and the wanted count of lists: of two types, so that neither passes for the other.
-#[derive(Clone, Copy)]
+#[derive(Clone, Copy, Debug, PartialEq, Eq)]
 pub struct Poll {
     pub number: Timestamp,
     pub wanted: ListCounter,
@@ -59,7 +59,8 @@ pub struct Poll {
 
 // The controller's tally (the desk's): its count of lists, the poll number, the marks as a row of bits, lowest bit for worker 1,
 // whether the poll is open (polling), and whether the plan is closed. Eight bytes without a gap, so that it is copied at once.
-#[derive(Clone, Copy)]
+// `polling` is a flag and no Option: the poll number stays where no poll is open.
+#[derive(Clone, Copy, Debug, PartialEq, Eq)]
 pub struct Tally {
     pub lists: ListCounter,
     pub timestamp: Timestamp,
@@ -69,17 +70,10 @@ pub struct Tally {
 }
 
 // How far a run has come: the tally, and the counts of its report.
-#[derive(Clone, Copy)]
+#[derive(Clone, Copy, Debug, PartialEq, Eq)]
 pub struct Progress {
     pub tally: Tally,
     pub changes: usize,
     pub sends: usize,
     pub polls: usize,
-}
-
-// A run's answer.
-#[derive(Drop)]
-pub enum Answer {
-    Reported(Report),
-    Declined(Decline),
 }

@@ -8,12 +8,14 @@ use Rattle.buffer.proofs.Puts.{holds_whole}
 use Rattle.buffer.specs.Buffer.{Holds}
 use Rattle.lending.specs.Call.{Gives}
 use Rattle.disac4.specs.Outcome.{Lent, RunOutcome}
-use Rattle.disac4.specs.declared.Answer.{Answer}
+use Rattle.disac4.specs.declared.Report.{Report}
+use Rattle.faults.specs.declared.Decline.{Decline}
+use Rattle.std.specs.Prelude.{Result}
 use Rattle.text.specs.Printed.{printed}
 use Rattle.display.specs.Shown.{shown_of, Shows}
 
 -- the text of an answer and its list cells is that of the outcome which the call gives
-pub outcome_held : (b : List ℕ) {o : RunOutcome} {a : Answer} {l : Lent} {before after : List ℕ} {count : ℕ} → Gives o a l
+pub outcome_held : (b : List ℕ) {o : RunOutcome} {a : Result Report Decline} {l : Lent} {before after : List ℕ} {count : ℕ} → Gives o a l
     → Holds (printed a b l.lists) before after count → Holds (shown_of b o) before after count
 unfolding shown_of
 outcome_held b g h = rw (← g.answer, ← g.cells) h

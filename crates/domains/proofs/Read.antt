@@ -17,7 +17,8 @@ use Rattle.format.specs.Lists.{row_in}
 use Rattle.format.specs.Version.{row_words}
 use Rattle.plan.specs.Plan.{Value, value_of}
 use Rattle.buffer.proofs.Puts.{then_more}
-use Rattle.buffer.specs.Buffer.{Adds}
+use Rattle.buffer.specs.Taken.{Takes}
+use Rattle.buffer.specs.declared.Text.{Text}
 use Rattle.buffer.specs.Decimal.{spaced}
 use Rattle.domains.specs.Lines.{listed_codes, domain_line, variable_line, variable_lines}
 
@@ -28,9 +29,8 @@ pub half_more : (rest row v : ℕ) → rest ≡ row / 2 ^ v → rest / 2 ≡ row
 half_more rest row v e = rw (e, add-one, pow-suc) (div-div-eq-div-mul row (2 ^ v) 2)
 
 -- one value more, by the lowest bit of the row's rest
-pub codes_more : (row rest v : ℕ) (code : ℕ → ℕ) (c : ℕ) {l m n : List ℕ} {at next last : ℕ} → rest ≡ row / 2 ^ v → c ≡ code v
-    → Adds (listed_codes v code row) l at m next → Adds (cond (is_odd rest) (spaced c) []) m next n last
-    → Adds (listed_codes (v + 1) code row) l at n last
+pub codes_more : {t u w : Text} (row rest v : ℕ) (code : ℕ → ℕ) (c : ℕ) → rest ≡ row / 2 ^ v → c ≡ code v
+    → Takes (listed_codes v code row) t u → Takes (cond (is_odd rest) (spaced c) []) u w → Takes (listed_codes (v + 1) code row) t w
 unfolding listed_codes bit
 codes_more row rest v code c e p a b =
     then_more v (λ v. cond (bit row v) (spaced (code v)) []) a (rw (e, p)) b
@@ -68,9 +68,9 @@ start_first b first e = omega arith
 
 -- the next one stands behind
 pub start_more : (b : List ℕ) (at word x : ℕ) → at ≡ section_start b (suc x) → word ≡ word_at b at
-    → at + 2 + word ≡ section_start b (suc (x + 1))
+    → at + (2 + word) ≡ section_start b (suc (x + 1))
 unfolding section_start
-start_more b at word x e p = rw (p, e, add-one)
+start_more b at word x e p = rw (p, e, add-one) (omega arith)
 
 -- the lines of all variables
 pub lines_all : (b lists : List ℕ) (x : ℕ) → x ≡ variable_count b

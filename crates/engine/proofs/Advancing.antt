@@ -3,10 +3,11 @@ use Prim.Native.Nat.{ℕ, ◌+◌, ◌≤◌}
 use mathlib.Core.Bool.{Bool, true, false, cond, ◌&&◌}
 use mathlib.Core.List.{List, [], ◌∷◌}
 use mathlib.Core.Option.{none}
-use mathlib.Core.Path.{◌≡◌, sym, ◌∙◌, ap}
+use mathlib.Core.Path.{◌≡◌, refl, sym, ◌∙◌, ap}
+use mir.Val.{bool_byte}
 use native.Mathlib.Nat.{pow-le-pow_right}
 use native.Mathlib.Omega.{arith}
-use Rattle.base.proofs.Sums.{one_and}
+use Rattle.base.proofs.Sums.{one_and, one_le}
 use Rattle.base.specs.Below.{one}
 use Rattle.disac4.specs.Fold.{is_some, after_by}
 use Rattle.disac4.specs.Report.{is_send, is_poll}
@@ -48,21 +49,29 @@ module _ (b cells : List ℕ) (g : Progress) (go : Going b cells g) where
     labels = λ i h l. number_loaded _ (((going_inv b cells g go).rows i (omega (arith, workers_are b))).work_labels (mem_of cells WORKERS i HEAD) l);
   }
 
-pub part_of : (c : Bool) (n r : ℕ) → r ≡ cond c n 0 → r ≤ n
-part_of true n r e = omega arith
-part_of false n r e = omega arith
+-- what code adds for a test: at most 1, and nothing where nothing changed
+pub one_byte : (c : Bool) {n : ℕ} → n ≡ bool_byte c → n ≡ one c
+one_byte true e = e
+one_byte false e = e
+
+pub byte_few : (c : Bool) {n : ℕ} → n ≡ bool_byte c → n ≤ 1
+byte_few c e = omega (arith, one_byte c e, one_le c)
+
+pub none_added : (kind : Bool) → ◌≡◌ {A = ℕ} (cond kind 0 0) 0
+none_added true = refl
+none_added false = refl
 
 -- one turn more, from what the code of a turn ensures
-pub advanced : (b cells cells' : List ℕ) (g r : Progress) (actor action n : ℕ) → plan_fault b ≡ none
-    → Acts (turn_on (system_at b) actor action) (machine cells g.tally) (machine cells' r.tally) n
-    → r.changes ≡ g.changes + n
-    → r.sends ≡ g.sends + cond (is_send (turn actor action)) n 0
-    → r.polls ≡ g.polls + cond (is_poll (turn actor action)) n 0
+pub advanced : (b cells cells' : List ℕ) (g r : Progress) (actor action : ℕ) (changed : Bool) → plan_fault b ≡ none
+    → Acts (turn_on (system_at b) actor action) (machine cells g.tally) (machine cells' r.tally) changed
+    → r.changes ≡ g.changes + one changed
+    → r.sends ≡ g.sends + cond (is_send (turn actor action)) (one changed) 0
+    → r.polls ≡ g.polls + cond (is_poll (turn actor action)) (one changed) 0
     → Plays b (turn actor action ∷ []) cells g cells' r
 unfolding Plays after_by
-advanced b cells cells' g r actor action n sound does changes sends polls m ts at =
+advanced b cells cells' g r actor action changed sound does changes sends polls m ts at =
     at_next b sound m ts cells g at t cells' r does.leaves
-    (changes ∙ ap (λ (k : ℕ). g.changes + k) does.count)
+    (changes ∙ ap (λ (c : Bool). g.changes + one c) does.says)
     (sends ∙ ap (λ (k : ℕ). g.sends + k) (kind is_send))
     (polls ∙ ap (λ (k : ℕ). g.polls + k) (kind is_poll))
   where
@@ -70,7 +79,7 @@ advanced b cells cells' g r actor action n sound does changes sends polls m ts a
     t = turn actor action
 
     kind : (test : Turn → Bool)
-        → cond (test t) n 0 ≡ one (test t && is_some (step_m (system_at b) (machine cells g.tally) t))
+        → cond (test t) (one changed) 0 ≡ one (test t && is_some (step_m (system_at b) (machine cells g.tally) t))
     kind test =
-        ap (λ (k : ℕ). cond (test t) k 0) does.count
+        ap (λ (c : Bool). cond (test t) (one c) 0) does.says
         ∙ sym (one_and (test t) (is_some (step_m (system_at b) (machine cells g.tally) t)))

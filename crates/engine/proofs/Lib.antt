@@ -1,4 +1,4 @@
 pub mod Advancing
-pub mod Playing
+pub mod Further
 pub mod RunLaws
 pub mod Working

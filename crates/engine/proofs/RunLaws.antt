@@ -1,6 +1,6 @@
 -- From what the actions' code ensures to what the code of a turn ensures.
 use Prim.Native.Nat.{ℕ, ◌-◌, ◌<◌, ◌≤◌}
-use mathlib.Core.Bool.{true, false, cond}
+use mathlib.Core.Bool.{Bool, true, false, cond}
 use mathlib.Core.List.{List}
 use mathlib.Core.Option.{Option, none}
 use mathlib.Core.Path.{◌≡◌, refl, sym, ◌∙◌, ap}
@@ -9,7 +9,6 @@ use borrow.Author.Tests.{eq-eqb, ne_eqb}
 use lib.Dec.{eqb}
 use Rattle.base.proofs.Bools.{or_false, not_of_true}
 use Rattle.base.proofs.Choice.{cond_true, cond_false}
-use Rattle.base.specs.Below.{one}
 use Rattle.disac4.proofs.Allowed.{worker_bound, worker_does, controller_does, reads_worker}
 use Rattle.disac4.proofs.Fold.{some_map, get_d_map}
 use Rattle.disac4.specs.System.{System, system_of, system_at}
@@ -60,14 +59,14 @@ module _ (t : Tally) (i d : ℕ) (m : Mem) where
 -- ---- a turn, by its actor and action
 
 -- a worker's action with the tally beside it
-pub acts_beside : (f : Machine → Option Mem) (t : Tally) {before after : Mem} {r : ℕ}
-    → Acts (λ m. f (record { mem = m; tally = t })) before after r
-    → Acts (λ s. with_mem s.tally (f s)) (record { mem = before; tally = t }) (record { mem = after; tally = t }) r
+pub acts_beside : (f : Machine → Option Mem) (t : Tally) {before after : Mem} {c : Bool}
+    → Acts (λ m. f (record { mem = m; tally = t })) before after c
+    → Acts (λ s. with_mem s.tally (f s)) (record { mem = before; tally = t }) (record { mem = after; tally = t }) c
 acts_beside f t {before} {after} a =
     let o = f (beside before) in
     record {
       leaves = ap beside a.leaves ∙ sym (get_d_map beside o before);
-      count = a.count ∙ ap one (sym (some_map beside o));
+      says = a.says ∙ sym (some_map beside o);
     }
   where
     beside : Mem → Machine

@@ -3,13 +3,15 @@ use Prim.Native.Nat.{ℕ, ◌+◌, ◌-◌, ◌<◌, ◌≤◌}
 use mathlib.Core.Bool.{Bool, true, false, cond, ◌&&◌, not}
 use mathlib.Core.List.{List, [], ◌∷◌, ◌++◌}
 use mathlib.Core.Path.{◌≡◌, refl, sym, ◌∙◌, ap, subst}
+use mir.Val.{bool_byte}
 use native.Mathlib.Numerals.{add-one}
 use native.Mathlib.Omega.{arith}
 use borrow.Author.Tests.{ne_eqb}
 use lib.Dec.{eqb}
 use lib.ListN.{length}
 use Rattle.base.proofs.Choice.{cond_false}
-use Rattle.base.specs.Below.{gather_below}
+use Rattle.base.proofs.Sums.{one_le}
+use Rattle.base.specs.Below.{gather_below, one}
 use Rattle.cells.proofs.Acting.{idle, acts_as}
 use Rattle.cells.specs.Acts.{Acts}
 use Rattle.cells.specs.Memory.{mem_of}
@@ -18,7 +20,7 @@ use Rattle.disac4.specs.Report.{is_send, is_poll}
 use Rattle.disac4.specs.System.{system_at}
 use Rattle.disac4.specs.Turn.{Turn, turn, send_action, poll_action, allowed, treat_action}
 use Rattle.disac4.specs.declared.Tally.{Tally}
-use Rattle.engine.proofs.Advancing.{playable, advanced}
+use Rattle.engine.proofs.Advancing.{playable, advanced, one_byte, none_added}
 use Rattle.engine.proofs.RunLaws.{workers_are, acts_beside, turn_closed, turn_works, worker_numbers}
 use Rattle.engine.specs.Play.{Running, Grows, Works}
 use Rattle.format.specs.Format.{worker_count}
@@ -71,6 +73,30 @@ pub worked_plays : (b : List ℕ) (us : List Turn) (cells cells' : List ℕ) (t 
 unfolding Works
 worked_plays b us cells cells' t n g g' w a = w g g' a
 
+-- an idle turn leaves a run as it is, and one that changes something adds to its counts
+module _ (b : List ℕ) (us : List Turn) (cells cells' : List ℕ) {c : Bool} (kind : Bool) (g : Progress)
+    (w : Works b us cells g.tally cells' (one c) (cond kind (one c) 0)) where
+  pub plays_idle : c ≡ false → Plays b us cells g cells' g
+  plays_idle h =
+      worked_plays b us cells cells' g.tally (one c) g g w (record {
+        before = refl;
+        after = refl;
+        changes = omega (arith, ap one h);
+        sends = omega (arith, ap (λ (k : Bool). cond kind (one k) 0) h, none_added kind);
+        polls = refl;
+      })
+
+  pub plays_changed : {s : ℕ} → c ≡ true → s ≡ bool_byte kind
+      → Plays b us cells g cells' (record { tally = g.tally; changes = g.changes + 1; sends = g.sends + s; polls = g.polls })
+  plays_changed {s} h e =
+      worked_plays b us cells cells' g.tally (one c) g _ w (record {
+        before = refl;
+        after = refl;
+        changes = omega (arith, ap one h);
+        sends = omega (arith, ap (λ (k : Bool). cond kind (one k) 0) h, one_byte kind e);
+        polls = refl;
+      })
+
 -- ---- a run goes on
 
 pub running_by : (b cells : List ℕ) (g : Progress) → Going b cells g → Running b cells g.tally
@@ -101,25 +127,25 @@ polls_none k d r n = ap (λ (c : Bool). cond (c && eqb d poll_action) r 0) (ne_e
 
 module _ (b cells : List ℕ) (t : Tally) (k d : ℕ) (run : Running b cells t) (some : k ≡ 0 → ⊥) where
   -- from what the code of a turn ensures
-  worked : (cells' : List ℕ) (r : ℕ) → Acts (turn_on (system_at b) k d) (machine cells t) (machine cells' t) r
-      → Works b (turn k d ∷ []) cells t cells' r (cond (eqb d send_action) r 0)
+  worked : (cells' : List ℕ) (c : Bool) → Acts (turn_on (system_at b) k d) (machine cells t) (machine cells' t) c
+      → Works b (turn k d ∷ []) cells t cells' (one c) (cond (eqb d send_action) (one c) 0)
   unfolding Works
-  worked cells' r does g g' a =
-      advanced b cells cells' g g' k d r run.going.sound (rw (a.before, a.after) does) a.changes
-      (a.sends ∙ ap (λ (n : ℕ). g.sends + n) (sym (sends_by k d r some)))
-      (omega (arith, a.polls, polls_none k d r some))
+  worked cells' c does g g' a =
+      advanced b cells cells' g g' k d c run.going.sound (rw (a.before, a.after) does) a.changes
+      (a.sends ∙ ap (λ (n : ℕ). g.sends + n) (sym (sends_by k d (one c) some)))
+      (omega (arith, a.polls, polls_none k d (one c) some))
 
   -- in a closed plan it is idle
   pub worked_closed : t.closed ≡ true → Works b (turn k d ∷ []) cells t cells 0 (cond (eqb d send_action) 0 0)
-  worked_closed e = worked cells 0 (idle _ _ (turn_closed (system_at b) k d (machine cells t) e))
+  worked_closed e = worked cells false (idle _ _ (turn_closed (system_at b) k d (machine cells t) e))
 
   module _ {p : ℕ} (q : p ≡ worker_count b) (ok : allowed p (turn k d) ≡ true) where
     -- in an open one it does what its action does
-    pub worked_open : (cells' : List ℕ) (r : ℕ) → t.closed ≡ false
-        → Acts (worker_on (system_at b) t (k - 1) d) (mem_of cells) (mem_of cells') r
-        → Works b (turn k d ∷ []) cells t cells' r (cond (eqb d send_action) r 0)
-    worked_open cells' r e act =
-        worked cells' r
+    pub worked_open : (cells' : List ℕ) (c : Bool) → t.closed ≡ false
+        → Acts (worker_on (system_at b) t (k - 1) d) (mem_of cells) (mem_of cells') c
+        → Works b (turn k d ∷ []) cells t cells' (one c) (cond (eqb d send_action) (one c) 0)
+    worked_open cells' c e act =
+        worked cells' c
         (acts_as (turn_works (system_at b) k d (machine cells t) e (rw (workers_are b, ← q) ok) some)
         (acts_beside (worker_m (system_at b) (k - 1) d) t act))
 
@@ -134,32 +160,28 @@ module _ (b cells : List ℕ) (t : Tally) (k d : ℕ) (run : Running b cells t) 
 pub no_send : (j r : ℕ) → j < treat_action → cond (eqb j send_action) r 0 ≡ 0
 no_send j r low = cond_false r 0 (ne_eqb j send_action (omega arith))
 
--- ---- a loop that plays the list `f i` in step `i`, for each `i` below `n`, each with at most one changing turn
+-- ---- a loop that plays the list `f i` in step `i`, each with at most one changing turn
 
-pub record Working (b : List ℕ) (n : ℕ) (f : ℕ → List Turn) (cells₀ : List ℕ) (t : Tally) (k changes : ℕ) (cells : List ℕ) : Type 0 where
-  pub passed : k ≤ n
+pub record Working (b : List ℕ) (f : ℕ → List Turn) (cells₀ : List ℕ) (t : Tally) (k changes : ℕ) (cells : List ℕ) : Type 0 where
   pub few : changes ≤ k
   pub same : length cells ≡ length cells₀
   pub works : Works b (gather_below k f) cells₀ t cells changes 0
 
-pub none_worked : (b : List ℕ) (n : ℕ) (f : ℕ → List Turn) (cells : List ℕ) (t : Tally) → Working b n f cells t 0 0 cells
-none_worked b n f cells t = record { passed = omega arith; few = omega arith; same = refl; works = works_none b cells t }
+pub none_worked : (b : List ℕ) (f : ℕ → List Turn) (cells : List ℕ) (t : Tally) → Working b f cells t 0 0 cells
+none_worked b f cells t = record { few = omega arith; same = refl; works = works_none b cells t }
 
-module _ {b : List ℕ} {n : ℕ} {f : ℕ → List Turn} {cells₀ : List ℕ} {t : Tally} {k changes : ℕ} {cells : List ℕ}
-    (p : Working b n f cells₀ t k changes cells) where
+module _ {b : List ℕ} {f : ℕ → List Turn} {cells₀ : List ℕ} {t : Tally} {k changes : ℕ} {cells : List ℕ}
+    (p : Working b f cells₀ t k changes cells) where
   pub working_on : Running b cells₀ t → Running b cells t
   working_on r = running_after b (gather_below k f) cells₀ cells t changes 0 r p.same p.works
 
-  pub one_worked : (cells' : List ℕ) (r : ℕ) → k < n → r ≤ 1 → length cells' ≡ length cells → Works b (f k) cells t cells' r 0
-      → Working b n f cells₀ t (k + 1) (changes + r) cells'
-  one_worked cells' r h few e q = record {
-    passed = omega arith;
-    few = omega (arith, p.few);
+  pub one_worked : (cells' : List ℕ) (c : Bool) → length cells' ≡ length cells → Works b (f k) cells t cells' (one c) 0
+      → Working b f cells₀ t (k + 1) (changes + one c) cells'
+  one_worked cells' c e q = record {
+    few = omega (arith, p.few, one_le c);
     same = e ∙ p.same;
-    works = rw add-one (works_then b (gather_below k f) (f k) cells₀ cells cells' t changes r 0 0 p.works q);
+    works = rw add-one (works_then b (gather_below k f) (f k) cells₀ cells cells' t changes (one c) 0 0 p.works q);
   }
 
-  pub all_worked : n ≤ k → Works b (gather_below n f) cells₀ t cells changes 0
-  all_worked h =
-      let e : k ≡ n = omega (arith, p.passed) in
-      subst (λ (j : ℕ). Works b (gather_below j f) cells₀ t cells changes 0) e p.works
+  pub all_worked : (n : ℕ) → k ≡ n → Works b (gather_below n f) cells₀ t cells changes 0
+  all_worked n e = subst (λ (j : ℕ). Works b (gather_below j f) cells₀ t cells changes 0) e p.works

@@ -5,7 +5,8 @@ use mathlib.Core.List.{List}
 use mathlib.Core.Path.{◌≡◌, refl, sym, ◌∙◌}
 use lib.ListN.{drop}
 use Rattle.faults.specs.CheckList.{Check, first_fault, verdict_of}
-use Rattle.faults.specs.declared.Verdict.{Verdict}
+use Rattle.faults.specs.declared.Fault.{Fault}
+use Rattle.std.specs.Prelude.{Result}
 
 pub holds : {r t : Bool} → r ≡ t → r ≡ true → t ≡ true
 holds e p = sym e ∙ p
@@ -14,7 +15,7 @@ pub fails : {r t : Bool} → r ≡ t → r ≡ false → t ≡ false
 fails e p = sym e ∙ p
 
 -- the verdict of the checks that are left after the first k
-abbrev pub left : ℕ → List Check → Verdict
+abbrev pub left : ℕ → List Check → Result (Unit {0}) Fault
 left k cs = verdict_of (first_fault (drop k cs))
 
 -- a stage of a walk through checks: the place that their arguments are read at, and how many have been passed

@@ -1,19 +1,16 @@
--- What it means that checks find no fault, and what it means that they find one; the same of a verdict.
+-- What it means that checks find no fault, and what it means that they find one.
 use Prim.Native.Nat.{ℕ, zero, suc}
 use mathlib.Core.Bool.{Bool, true}
 use mathlib.Core.List.{List, [], ◌∷◌}
-use mathlib.Core.Option.{Option, none, some}
-use mathlib.Core.Path.{◌≡◌, refl, sym, ap}
-use native.Mathlib.Omega.{arith}
+use mathlib.Core.Option.{none, some}
+use mathlib.Core.Path.{◌≡◌, refl, sym}
 use lib.ListN.{get_or}
 use Rattle.base.proofs.Bools.{and_left, and_right}
 use Rattle.base.proofs.Choice.{by_test, none≢some, some_same}
 use Rattle.base.specs.Choice.{all_of}
-use Rattle.faults.specs.CheckList.{Check, ◌or_else◌, first_fault, verdict_of}
+use Rattle.faults.specs.CheckList.{Check, ◌or_else◌, first_fault}
 use Rattle.faults.specs.declared.Fault.{Fault}
 use Rattle.faults.specs.declared.Fault.TheVariants.{Truncated}
-use Rattle.faults.specs.declared.Verdict.{Verdict}
-use Rattle.faults.specs.declared.Verdict.TheVariants.{Passes, Fails}
 
 -- where no check fails, the first holds and no later one fails
 first_holds : (c : Check) (cs : List Check) → first_fault (c ∷ cs) ≡ none → (c.holds ≡ true) × (first_fault cs ≡ none)
@@ -33,12 +30,3 @@ fault_among t (c ∷ cs) h f e =
     let others = all_of (λ c. t c.fault) cs in
     by_test c.holds e (λ p q. fault_among t cs (and_right (t c.fault) others h) f q)
     (λ p q. some_same (λ g. t g ≡ true) q (and_left (t c.fault) others h))
-
--- from a verdict to what the checks found
-pub verdict_passes : (o : Option Fault) (v : Verdict) → v ≡ verdict_of o → v ≡ Passes → o ≡ none
-verdict_passes none v p q = refl
-verdict_passes (some f) v p q = let z : ◌≡◌ {A = ℕ} 0 1 = cc in absurd (omega arith)
-
-pub verdict_fails : (o : Option Fault) (v : Verdict) (f : Fault) → v ≡ verdict_of o → v ≡ Fails f → o ≡ some f
-verdict_fails none v f p q = let z : ◌≡◌ {A = ℕ} 0 1 = cc in absurd (omega arith)
-verdict_fails (some g) v f p q = let e : g ≡ f = cc in ap {B = Option Fault} some e

@@ -1,3 +1,4 @@
 pub mod Branches
 pub mod Checks
 pub mod FaultNumbers
+pub mod Placed

@@ -1,11 +1,9 @@
 -- Checks in their order, and the first that fails.
-use Rattle.std.specs.Prelude.{ℕ, Bool, cond, List, [], ◌∷◌}
+use Rattle.std.specs.Prelude.{ℕ, Bool, cond, List, [], ◌∷◌, Result, Ok, Err}
 use Rattle.std.proofs.Math.Option.{Option, none, some}
 use Rattle.faults.specs.Fault.{decline}
 use Rattle.faults.specs.declared.Decline.{Decline}
 use Rattle.faults.specs.declared.Fault.{Fault}
-use Rattle.faults.specs.declared.Verdict.{Verdict}
-use Rattle.faults.specs.declared.Verdict.TheVariants.{Passes, Fails}
 
 -- a test, and the fault of what fails it
 pub record Check : Type 0 where
@@ -28,6 +26,6 @@ fault_at at none = none
 fault_at at (some f) = some (decline f at)
 
 -- what the checks find, as a verdict: the fault without its place
-abbrev pub verdict_of : Option Fault → Verdict
-verdict_of none = Passes
-verdict_of (some f) = Fails f
+abbrev pub verdict_of : Option Fault → Result (Unit {0}) Fault
+verdict_of none = Ok tt
+verdict_of (some f) = Err f

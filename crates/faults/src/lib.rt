@@ -5,7 +5,7 @@ ghost use Rattle.std.specs.Prelude.{◌≡◌};
 ghost use Rattle.faults.specs.Fault.{number_of, decline};
 
 // Why a call declines: a case for each number of document 01.
-#[derive(Drop)]
+#[derive(Clone, Copy, Debug, PartialEq, Eq)]
 pub enum Fault {
     // 1: plan empty, or a section or its length is cut off.
     Truncated,
@@ -34,15 +34,8 @@ pub enum Fault {
     BadTurn,
 }
 
-// What a list of checks finds.
-#[derive(Drop)]
-pub enum Verdict {
-    Passes,
-    Fails(Fault),
-}
-
 // A fault and its place.
-#[derive(Drop)]
+#[derive(Clone, Copy, Debug, PartialEq, Eq)]
 pub struct Decline {
     pub fault: Fault,
     pub place: usize,
@@ -52,28 +45,27 @@ pub struct Decline {
 pub fn decline_at(fault: Fault, place: usize) -> Decline
     ensures { result ≡ decline fault place }
 {
-    Decline {
-        fault: fault,
-        place: place,
-    }
+    Decline { fault, place }
 }
 
 // The number that document 01 gives to a fault.
-pub fn fault_number(fault: Fault) -> usize
-    ensures { result ≡ number_of fault }
-{
-    match fault {
-        Fault::Truncated => 1,
-        Fault::BadVersion => 2,
-        Fault::BadLength => 3,
-        Fault::BadCount => 4,
-        Fault::BadNumber => 5,
-        Fault::RepeatedCode => 6,
-        Fault::BadConstraint => 7,
-        Fault::TrailingBytes => 8,
-        Fault::ShortWork => 9,
-        Fault::ShortLists => 10,
-        Fault::BadTurnList => 11,
-        Fault::BadTurn => 12,
+impl From<Fault> for usize {
+    ghost from_gives = { λ fault n. n ≡ number_of fault };
+
+    fn from(fault: Fault) -> usize {
+        match fault {
+            Fault::Truncated => 1,
+            Fault::BadVersion => 2,
+            Fault::BadLength => 3,
+            Fault::BadCount => 4,
+            Fault::BadNumber => 5,
+            Fault::RepeatedCode => 6,
+            Fault::BadConstraint => 7,
+            Fault::TrailingBytes => 8,
+            Fault::ShortWork => 9,
+            Fault::ShortLists => 10,
+            Fault::BadTurnList => 11,
+            Fault::BadTurn => 12,
+        }
     }
 }

@@ -1,5 +1,5 @@
--- A table with a flag for each turn: a cell for each actor and action, with 1 or 0.
-use Rattle.std.specs.Prelude.{ℕ, ◌+◌, ◌*◌, List, get_or}
+-- A table with a flag for each turn: a cell for each actor and action.
+use Rattle.std.specs.Prelude.{ℕ, Bool, false, ◌+◌, ◌*◌, List, get_or}
 use Rattle.disac4.specs.Turn.{poll_action}
 use Rattle.format.specs.Limits.{max_workers}
 
@@ -16,5 +16,5 @@ abbrev pub cell_count : ℕ
 cell_count = actors * actions
 
 -- the cell of actor `k`'s action `d`
-abbrev pub cell_at : List ℕ → ℕ → ℕ → ℕ
-cell_at table k d = get_or table (k * actions + d) 0
+abbrev pub cell_at : List Bool → ℕ → ℕ → Bool
+cell_at table k d = get_or table (k * actions + d) false

@@ -1,8 +1,8 @@
-// A table with a flag for each turn: a cell for each actor and action, with 1 or 0.
+// A table with a flag for each turn: a cell for each actor and action.
 #![tactic(auto)]
 
-ghost use Rattle.std.specs.Prelude.{◌≡◌, ◌<◌, eqb, length};
-ghost use Rattle.flags.specs.Flags.{actors, actions, cell_count, cell_at};
+ghost use Rattle.std.specs.Prelude.{◌≡◌, ◌<◌};
+ghost use Rattle.flags.specs.Flags.{actors, actions, cell_at};
 
 use disac4::POLL_ACTION;
 use format::limits::MAX_WORKERS;
@@ -15,12 +15,12 @@ pub const ACTIONS: usize = 1 + POLL_ACTION;
 pub const CELLS: usize = ACTORS * ACTIONS;
 
 // The cells, actor after actor.
-pub type Table = [u8; CELLS];
+pub type Table = [bool; CELLS];
 
 // Whether the flag of actor k's action d is set.
 pub fn is_set(table: &Table, k: usize, d: usize) -> bool
-    requires { (length table.now ≡ cell_count) × (k < actors) × (d < actions) }
-    ensures { result ≡ eqb (cell_at table.now k d) 1 }
+    requires { (k < actors) × (d < actions) }
+    ensures { result ≡ cell_at table.now k d }
 {
-    table[k * ACTIONS + d] == 1
+    table[k * ACTIONS + d]
 }

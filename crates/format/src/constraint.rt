@@ -3,7 +3,9 @@ ghost use Rattle.std.specs.Prelude.{◌≡◌, suc, ◌+◌, ◌<◌, ◌≤◌,
 ghost use Rattle.format.specs.Version.{row_words, row_bytes};
 ghost use Rattle.format.specs.Format.{first_at, second_at, kind_at, table_row_start, rows_room, table_row_at, table_byte_at, limit_at, further_count, scope_at};
 
+use crate::kind::Kind;
 use crate::limits::WORD_BYTES;
+use crate::words::of_words;
 use reader::{byte_at, byte_inside, word_at};
 
 // A rule's first slot.
@@ -44,13 +46,7 @@ pub fn table_row(plan: &[u8], words: usize, at: usize, v: usize) -> usize
     ensures { result ≡ table_row_at plan.now at v }
 {
     let start = table_row_start(plan, words, at, v);
-    let mut row = 0;
-    let mut k = 0;
-    while k < words {
-        row = row * 65536 + word_at(plan, start + WORD_BYTES * k);
-        k += 1;
-    }
-    row
+    of_words(words, |k| word_at(plan, start + WORD_BYTES * k))
 }
 
 // One byte of such a row, the highest first. The row stands inside the plan, so there is no test for the plan's end.
@@ -74,7 +70,7 @@ pub fn further_count(plan: &[u8], at: usize) -> usize
     requires { at ≤ length plan.now }
     ensures { (result ≡ further_count plan.now at) × (result < 256) }
 {
-    if kind(plan, at) == 2 {
+    if Kind::at(plan, at) == Some(Kind::SetLimit) {
         byte_at(plan, at + 7)
     } else {
         0

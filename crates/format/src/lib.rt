@@ -3,7 +3,9 @@
 #![tactic(auto)]
 
 pub mod constraint;
+pub mod kind;
 pub mod limits;
 pub mod lists;
 pub mod read;
 pub mod version;
+mod words;

@@ -3,6 +3,8 @@ ghost use Rattle.std.specs.Prelude.{◌≡◌, ◌<◌, ◌≤◌, get_or};
 ghost use Rattle.format.specs.Limits.{max_words};
 ghost use Rattle.format.specs.Lists.{row_in};
 
+use crate::words::of_words;
+
 // The cell at i, 0 past the end.
 fn cell_at(cells: &[u16], i: usize) -> usize
     ensures { (result ≡ get_or cells.now i 0) × (result < 65536) }
@@ -20,11 +22,5 @@ pub fn row_at(cells: &[u16], words: usize, x: usize) -> usize
     ensures { result ≡ row_in words cells.now x }
 {
     let start = words * x;
-    let mut row = 0;
-    let mut k = 0;
-    while k < words {
-        row = row * 65536 + cell_at(cells, start + k);
-        k += 1;
-    }
-    row
+    of_words(words, |k| cell_at(cells, start + k))
 }

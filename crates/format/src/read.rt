@@ -1,5 +1,8 @@
 // The parts of the head, and those of a variable, read by the place of its section. Document 01 says kitchen for worker,
 // slot for variable, rule for constraint and dish for value.
+// A function for each part, here and in `constraint`: they differ in a place alone, and its name is what a reader needs.
+// A section is a plan and a place, and no type of its own: `first`, `kind`, `limit` and others that PROMISES names take every place within
+// the plan, so a type that says so would ask more of callers.
 ghost use Rattle.std.specs.Prelude.{◌≡◌, suc, ◌<◌, ◌≤◌, length};
 ghost use Rattle.format.specs.Format.{behind as behind_of, worker_count, variable_count, constraint_count, section_count, owner_at, size_at, code_at, figure_at, values_end};
 

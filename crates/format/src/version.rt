@@ -1,4 +1,5 @@
 // What a plan's version fixes: how wide a row of bits is, and which kinds of constraints there are.
+// That two of them are the same numbers is chance: each is a fact of the format by its own name, which one function would hide.
 ghost use Rattle.std.specs.Prelude.{◌≡◌, ◌<◌, ◌≤◌};
 ghost use Rattle.format.specs.Limits.{max_words};
 ghost use Rattle.format.specs.Version.{version, by_version, row_words, max_size, row_bytes, max_kind};
@@ -13,7 +14,7 @@ pub fn number(plan: &[u8]) -> usize
     byte_at(plan, 0)
 }
 
-// What version 1 has, or what version 2 has.
+// What version 1 has, or what version 2 has. The one place that asks for the version, so a type for it would serve nothing else.
 fn by_version(plan: &[u8], one: usize, two: usize) -> usize
     ensures { result ≡ by_version plan.now one two }
 {

@@ -18,7 +18,7 @@ use Rattle.flags.specs.Flags.{actors, actions, cell_count, cell_at}
 use Rattle.idle.specs.Table.{Puts, enables}
 
 -- one cell is stored
-pub puts_one : (v k d : ℕ) (table : List ℕ) → length table ≡ cell_count → k < actors → d < actions
+pub puts_one : (v : Bool) (k d : ℕ) (table : List Bool) → length table ≡ cell_count → k < actors → d < actions
     → Puts v (λ j a. eqb j k && eqb a d) table (set table (k * actions + d) v)
 puts_one v k d table l h e = record { long = length-set table (k * actions + d) v ∙ l; each = each }
   where
@@ -26,22 +26,22 @@ puts_one v k d table l h e = record { long = length-set table (k * actions + d) 
         → cell_at (set table (k * actions + d) v) j a ≡ cond (eqb j k && eqb a d) v (cell_at table j a)
     each j a m n =
         elim (ℕ_discrete (j * actions + a) (k * actions + d)) [
-          | yes same ↦ rw same (get_or-set_same table (k * actions + d) v 0 (omega (arith, l)))
+          | yes same ↦ rw same (get_or-set_same table (k * actions + d) v false (omega (arith, l)))
               ∙ sym (cond_true v (cell_at table j a) (and_intro (eq-eqb j k (omega arith)) (eq-eqb a d (omega arith))))
-          | no other ↦ get_or-set_other table (k * actions + d) (j * actions + a) v 0 other
+          | no other ↦ get_or-set_other table (k * actions + d) (j * actions + a) v false other
               ∙ sym (cond_false v (cell_at table j a) (pair_other k d j a (λ p q. other (omega arith))))
         ]
 
-module _ {v : ℕ} {p q : ℕ → ℕ → Bool} {before after : List ℕ} where
+module _ {v : Bool} {p q : ℕ → ℕ → Bool} {before after : List Bool} where
   -- two changes after each other are one
-  pub puts_both : {then : List ℕ} → Puts v p before then → Puts v q then after → Puts v (λ k d. p k d || q k d) before after
+  pub puts_both : {then : List Bool} → Puts v p before then → Puts v q then after → Puts v (λ k d. p k d || q k d) before after
   puts_both {then} f g = record {
     long = g.long;
     each = λ k d h e.
-        g.each k d h e ∙ ap (λ (n : ℕ). cond (q k d) v n) (f.each k d h e) ∙ either (p k d) (q k d) (cell_at before k d);
+        g.each k d h e ∙ ap (λ (n : Bool). cond (q k d) v n) (f.each k d h e) ∙ either (p k d) (q k d) (cell_at before k d);
   }
     where
-      either : (a b : Bool) (n : ℕ) → cond b v (cond a v n) ≡ cond (a || b) v n
+      either : (a b n : Bool) → cond b v (cond a v n) ≡ cond (a || b) v n
       either true true n = refl
       either true false n = refl
       either false b n = refl
@@ -86,13 +86,13 @@ all_reads k j a h =
 abbrev own : ℕ → ℕ → ℕ → ℕ → Bool
 own k d j a = (eqb j k && eqb a d) || (eqb j k && leb treat_action a)
 
-module _ (k d : ℕ) {before after : List ℕ} where
-  pub forgets_reads : treat_action < d → Puts 0 (λ j a. own k d j a || eqb a k) before after
-      → Puts 0 (λ j a. enables (turn k d) (turn j a)) before after
+module _ (k d : ℕ) {before after : List Bool} where
+  pub forgets_reads : treat_action < d → Puts false (λ j a. own k d j a || eqb a k) before after
+      → Puts false (λ j a. enables (turn k d) (turn j a)) before after
   unfolding enables
   forgets_reads h = puts_as (λ j a l m. ap (λ (t : Bool). own k d j a || (t && eqb a k)) (sym (lt-ltb treat_action d h)))
 
-  pub forgets_own : d ≤ treat_action → Puts 0 (own k d) before after → Puts 0 (λ j a. enables (turn k d) (turn j a)) before after
+  pub forgets_own : d ≤ treat_action → Puts false (own k d) before after → Puts false (λ j a. enables (turn k d) (turn j a)) before after
   unfolding enables
   forgets_own h =
       puts_as

@@ -4,7 +4,7 @@ use Rattle.disac4.specs.Turn.{Turn, treat_action}
 use Rattle.flags.specs.Flags.{actors, actions, cell_count, cell_at}
 
 -- the cells of some turns become `v`, the others stay
-pub record Puts (v : ℕ) (which : ℕ → ℕ → Bool) (before after : List ℕ) : Type 0 where
+pub record Puts (v : Bool) (which : ℕ → ℕ → Bool) (before after : List Bool) : Type 0 where
   pub long : length after ≡ cell_count
   pub each : (k d : ℕ) → k < actors → d < actions → cell_at after k d ≡ cond (which k d) v (cell_at before k d)
 

@@ -1,7 +1,7 @@
 -- The memory with the plan's constraints in it: after each of them, the pairs that have a number are those that it and those before it
 -- are over, and what stands for a pair is what these constraints say of it.
 use Prim.Native.Nat.{ℕ, suc, ◌+◌, ◌-◌, ◌<◌, ◌≤◌}
-use mathlib.Core.Bool.{Bool, true, false, cond, ◌&&◌, ◌||◌, not, or_comm, false≢true}
+use mathlib.Core.Bool.{Bool, true, false, cond, ◌&&◌, ◌||◌, not, or_assoc, or_comm, false≢true}
 use mathlib.Core.List.{List}
 use mathlib.Core.Logic.{◌⊎◌, inl, inr, ⊎_elim}
 use mathlib.Core.Option.{none}
@@ -10,7 +10,7 @@ use native.Mathlib.Nat.{le_refl}
 use native.Mathlib.Omega.{arith}
 use lib.Dec.{ltb, eqb}
 use Rattle.base.proofs.Below.{any_below_lem, some_below, any_below_ext}
-use Rattle.base.proofs.Bools.{decided, and_left, and_right, and_true, and_false_right, or_cases, or_left, or_right, or_assoc, bool_ext}
+use Rattle.base.proofs.Bools.{decided, and_left, and_right, and_true, and_false_right, or_cases, or_left, or_right, bool_ext}
 use Rattle.base.proofs.Choice.{cond_true, cond_false}
 use Rattle.base.proofs.Loops.{loop_carries, loop_same, loop_from}
 use Rattle.base.proofs.Sums.{sum_ext, sum_zero, sum_le, count_ext, one_mono}

@@ -53,7 +53,7 @@ unfolding counter_row
 row_pairs m n x y e = ap (λ (h : ℕ). 2 * h - 1 + one (ltb y x)) e
 
 -- cells stay ready while a loop goes on whose steps keep the index
-pub ready_done : (b : List ℕ) {f : ℕ → Mem → Mem} {n k : ℕ} {old new : List ℕ} → Ready b old → Done f n old k new
+pub ready_done : (b : List ℕ) {f : ℕ → Mem → Mem} {k : ℕ} {old new : List ℕ} → Ready b old → Done f old k new
     → ((j : ℕ) (m : Mem) → IndexKept m (f j m)) → Ready b new
 ready_done b {f = f} {k = k} {old = old} {new = new} r d step =
     ready_kept b old new r d.size d.mem (kept_repeated f step k (mem_of old))

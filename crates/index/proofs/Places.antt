@@ -133,7 +133,7 @@ located_kept b old new n l e p same = record {
 }
 
 -- so they are while a loop goes on whose steps leave these cells alone
-pub located_done : (b : List ℕ) {f : ℕ → Mem → Mem} {n k : ℕ} {old new : List ℕ} → Located b old → Done f n old k new
+pub located_done : (b : List ℕ) {f : ℕ → Mem → Mem} {k : ℕ} {old new : List ℕ} → Located b old → Done f old k new
     → ((j : ℕ) (m : Mem) (s : ℕ) → f j m PLACES 0 s ≡ m PLACES 0 s) → Located b new
 located_done b {f = f} {k = k} {old = old} {new = new} l d same =
     located_kept b old new _ l d.size d.mem (λ s. loop_same (λ m. m PLACES 0 s) k f (λ j h m. same j m s) (mem_of old))

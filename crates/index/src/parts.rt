@@ -1,4 +1,6 @@
 // What the index gives: where a section starts, a variable's owner and number of values, whether two are linked, and the row of their counters.
+// A plan and the cells that index it stay two parameters: `support_row`, `treat`, `write_lists`, `report` and others that README and docs
+// name take any two for which `Ready` holds, so a type for the two would ask more of callers. Cells are a slice: `cells::layout` says why.
 ghost use Rattle.std.specs.Prelude.{List, ◌≡◌, ℕ, ◌<◌, ◌≤◌, length};
 ghost use Rattle.disac4.specs.System.{system_at};
 ghost use Rattle.disac4.specs.Need.{work_need};

@@ -1,6 +1,7 @@
 // Writes the index of an accepted plan into the work cells: where its sections start; a number for each pair of linked variables, with
 // the tables over them as a chain and the lowest limit; and the variables of each worker that are linked with another one as a chain
 // too.
+// Plan and cells are two parameters: `index::parts` says why.
 #![tactic(auto)]
 
 ghost use Rattle.std.proofs.Math.Option.{none};
@@ -14,6 +15,7 @@ ghost use Rattle.cells.specs.Memory.{mem_of};
 ghost use Rattle.plan.specs.Decode.{plan_fault};
 
 use cells::layout;
+use format::kind::Kind;
 use format::{constraint, read};
 use index::parts;
 
@@ -26,11 +28,9 @@ fn index_places(plan: &[u8], cells: &mut [u16])
 {
     let count = read::section_count(plan);
     let mut at = 1;
-    let mut k = 0;
-    while k < count {
+    for k in 0..count {
         layout::put(cells, layout::PLACES, 0, k, at);
         at = read::behind(plan, at);
-        k += 1;
     }
 }
 
@@ -41,10 +41,8 @@ fn put_beside(plan: &[u8], cells: &mut [u16], at: usize, j: usize)
 {
     let limit = constraint::limit(plan, at);
     let y = constraint::scope_at(plan, at, j) - 1;
-    let mut i = 0;
-    while i < j {
+    for i in 0..j {
         pairs::put_limit(cells, limit, constraint::scope_at(plan, at, i) - 1, y);
-        i += 1;
     }
 }
 
@@ -54,10 +52,8 @@ fn put_limits(plan: &[u8], cells: &mut [u16], at: usize)
     ensures { mem_of cells.new ≡ limits_m plan.now at (mem_of cells.old) }
 {
     let size = 2 + constraint::further_count(plan, at);
-    let mut j = 0;
-    while j < size {
+    for j in 0..size {
         put_beside(plan, cells, at, j);
-        j += 1;
     }
 }
 
@@ -66,7 +62,7 @@ fn put_constraint(plan: &[u8], cells: &mut [u16], c: usize, at: usize)
     requires { Scoped plan.now at × (at ≡ constraint_start plan.now c) × (c < max_constraints) × (work_need ≤ length cells.old) }
     ensures { mem_of cells.new ≡ constraint_m plan.now c (mem_of cells.old) }
 {
-    if constraint::kind(plan, at) == 0 {
+    if Kind::at(plan, at) == Some(Kind::Table) {
         pairs::put_table(
             cells,
             constraint::first(plan, at) - 1,
@@ -85,11 +81,9 @@ fn index_constraints(plan: &[u8], cells: &mut [u16])
 {
     let variables = read::variable_count(plan);
     let count = read::constraint_count(plan);
-    let mut c = 0;
-    while c < count {
+    for c in 0..count {
         let at = parts::place(plan, cells, variables + c + 1);
         put_constraint(plan, cells, c, at);
-        c += 1;
     }
 }
 
@@ -110,10 +104,8 @@ fn leads(cells: &mut [u16], i: usize, x: usize, n: usize)
     requires { (i < max_workers) × (x < max_variables) × (n ≤ max_variables) × (work_need ≤ length cells.old) }
     ensures { mem_of cells.new ≡ loop n (lead_m i x) (mem_of cells.old) }
 {
-    let mut y = 0;
-    while y < n {
+    for y in 0..n {
         lead(cells, i, x, y);
-        y += 1;
     }
 }
 
@@ -123,9 +115,7 @@ fn index_own(plan: &[u8], cells: &mut [u16])
     ensures { mem_of cells.new ≡ own_m plan.now (mem_of cells.old) }
 {
     let n = read::variable_count(plan);
-    let mut x = n;
-    while x != 0 {
-        x -= 1;
+    for x in (0..n).rev() {
         leads(cells, parts::owner(plan, cells, x) - 1, x, n);
     }
 }

@@ -1,4 +1,5 @@
 // Pairs of variables in the index: their numbers, and what a table or a limit puts for a pair.
+// Cells are a slice: `cells::layout` says why.
 ghost use Rattle.std.specs.Prelude.{◌&&◌, not, ◌≡◌, ◌<◌, ◌≤◌, leb, eqb, length};
 ghost use Rattle.disac4.specs.Need.{work_need};
 ghost use Rattle.format.specs.Limits.{max_variables, max_constraints, max_pairs};
@@ -9,7 +10,7 @@ ghost use Rattle.cells.specs.Memory.{mem_of};
 use cells::layout;
 use format::limits::MAX_PAIRS;
 
-// The number of the pair that x and y are, 0 where they have none.
+// The number of the pair that x and y are, 0 where they have none: so the cells have it.
 fn pair(cells: &[u16], x: usize, y: usize) -> usize
     requires { (x < max_variables) × (y < max_variables) × (work_need ≤ length cells.now) }
     ensures { (result ≡ pair_in (mem_of cells.now) x y) × (result ≤ max_pairs) }

@@ -3,9 +3,7 @@ use Prim.Native.Nat.{ℕ, ◌+◌, ◌*◌, ◌/◌, ◌<◌}
 use mathlib.Core.Bool.{true, false}
 use mathlib.Core.List.{List}
 use mathlib.Core.Option.{none, some}
-use mathlib.Core.Path.{◌≡◌, sym, ◌∙◌, ap₂}
-use borrow.Author.Tests.{lt-ltb, le-ltb}
-use native.Mathlib.Omega.{arith}
+use mathlib.Core.Path.{◌≡◌, ap₂}
 use lib.ListN.{length}
 use Rattle.base.proofs.Below.{first_at_lem, first_more}
 use Rattle.base.proofs.Choice.{cond_true, cond_false}
@@ -14,6 +12,7 @@ use Rattle.base.specs.Bytes.{byte_at}
 use Rattle.disac4.proofs.Order.{allowed_below}
 use Rattle.disac4.specs.Turn.{turn, allowed, turn_at, turn_fault, fault_of}
 use Rattle.inputs.specs.Bad.{bad_turn}
+use Rattle.std.specs.Prelude.{Some, None}
 use Rattle.faults.specs.Fault.{decline}
 use Rattle.faults.specs.declared.Fault.TheVariants.{BadTurn}
 
@@ -31,18 +30,15 @@ module _ (p : ℕ) (list : List ℕ) where
 
   -- the first that is not
   pub first_fault_lem : (k : ℕ) → k < length list / 2 → first_below k (fault_of p list) ≡ none
-      → allowed p (turn_at list k) ≡ false → turn_fault p list ≡ bad_turn (length list / 2) k
+      → allowed p (turn_at list k) ≡ false → turn_fault p list ≡ bad_turn (Some k)
   unfolding turn_fault bad_turn
   first_fault_lem k h e a =
       first_at_lem (length list / 2) (fault_of p list) k (decline BadTurn k) h e (cond_false none (some (decline BadTurn k)) a)
-      ∙ sym (cond_true (some (decline BadTurn k)) none (lt-ltb k (length list / 2) h))
 
   -- no turn has a fault
-  pub no_fault : first_below (length list / 2) (fault_of p list) ≡ none
-      → turn_fault p list ≡ bad_turn (length list / 2) (length list / 2)
+  pub no_fault : first_below (length list / 2) (fault_of p list) ≡ none → turn_fault p list ≡ bad_turn None
   unfolding turn_fault bad_turn
-  no_fault e =
-      e ∙ sym (cond_false (some (decline BadTurn (length list / 2))) none (le-ltb (length list / 2) (length list / 2) (omega arith)))
+  no_fault e = e
 
   -- in a list without fault every turn is allowed
   pub is_allowed : turn_fault p list ≡ none → (k : ℕ) → k < length list / 2 → allowed p (turn_at list k) ≡ true

@@ -1,7 +1,7 @@
 // What a run tests beside its plan: the lent buffers, the length of a turn list, which turns are allowed, and the first that is not.
 #![tactic(auto)]
 
-ghost use Rattle.std.specs.Prelude.{[], ◌∷◌, ◌≡◌, ◌/◌, ◌≤◌, length};
+ghost use Rattle.std.specs.Prelude.{[], ◌∷◌, ◌≡◌, ◌/◌, ◌<◌, IfSome, length};
 ghost use Rattle.disac4.specs.Turn.{worker_may, controller_may, allowed as allowed_of, turn, turn_fault, turn_list_fits};
 ghost use Rattle.inputs.specs.Bad.{bad_turn};
 ghost use Rattle.inputs.specs.Judged.{Judges};
@@ -9,22 +9,19 @@ ghost use Rattle.faults.specs.CheckList.{first_fault, verdict_of};
 ghost use Rattle.lending.specs.Call.{buffer_checks};
 ghost use Rattle.disac4.specs.Outcome.{lent, work_buffer, list_buffer};
 
-use base::{between, byte_at, one_if};
+use base::between;
 use disac4::{ANSWER_ACTION, LIST_NEED, MAX_TURN_BYTES, POLL_ACTION, TREAT_ACTION, WORK_NEED};
-use faults::{Fault, Verdict};
+use faults::Fault;
 use flags::{ACTIONS, ACTORS, CELLS, Table, is_set};
+use lending::check_length;
+use reader::byte_at;
 
 // 9 and 10: whether both buffers are long enough, the work cells first.
-pub fn check_buffers(work: &[u16], lists: &[u16]) -> Verdict
+pub fn check_buffers(work: &[u16], lists: &[u16]) -> Result<(), Fault>
     ensures { result ≡ verdict_of (first_fault (buffer_checks (work_buffer ∷ list_buffer ∷ []) (lent work.now lists.now))) }
 {
-    if work.len() < WORK_NEED {
-        return Verdict::Fails(Fault::ShortWork);
-    }
-    if lists.len() < LIST_NEED {
-        return Verdict::Fails(Fault::ShortLists);
-    }
-    Verdict::Passes
+    check_length(work, WORK_NEED, Fault::ShortWork)?;
+    check_length(lists, LIST_NEED, Fault::ShortLists)
 }
 
 // Whether the turn list is of even length and not too long.
@@ -67,11 +64,9 @@ pub fn allowed(p: usize, actor: usize, action: usize) -> bool
 fn judge_all(p: usize) -> Table
     ensures { Judges p result }
 {
-    let mut table = [0; CELLS];
-    let mut i = 0;
-    while i < CELLS {
-        table[i] = one_if(allowed(p, i / ACTIONS, i % ACTIONS));
-        i += 1;
+    let mut table = [false; CELLS];
+    for i in 0..CELLS {
+        table[i] = allowed(p, i / ACTIONS, i % ACTIONS);
     }
     table
 }
@@ -89,18 +84,17 @@ fn judged(table: &Table, p: usize, actor: usize, action: usize) -> bool
     allowed(p, actor, action)
 }
 
-// The number of the first turn that p workers do not allow; where all are allowed, how many there are.
-pub fn first_bad(list: &[u8], p: usize) -> usize
-    ensures { (result ≤ length list.now / 2) × (turn_fault p list.now ≡ bad_turn (length list.now / 2) result) }
+// The number of the first turn that p workers do not allow, if there is one.
+pub fn first_bad(list: &[u8], p: usize) -> Option<usize>
+    ensures first { turn_fault p list.now ≡ bad_turn result }
+    ensures in_list { IfSome result (λ k. k < length list.now / 2) }
 {
     let count = list.len() / 2;
     let table = judge_all(p);
-    let mut k = 0;
-    while k < count {
+    for k in 0..count {
         if !judged(&table, p, byte_at(list, 2 * k), byte_at(list, 2 * k + 1)) {
-            return k;
+            return Some(k);
         }
-        k += 1;
     }
-    count
+    None
 }

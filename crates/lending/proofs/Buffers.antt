@@ -1,21 +1,21 @@
 -- When a call's buffers pass, and what it means for the call that they pass or fail.
-use mathlib.Core.Bool.{Bool, true}
+use Prim.Native.Nat.{ℕ}
+use mathlib.Core.Bool.{Bool, true, false}
 use mathlib.Core.List.{List, [], ◌∷◌}
 use mathlib.Core.Logic.{◌↔◌, inl, inr, ⊎_elim}
 use mathlib.Core.Option.{none, some}
-use mathlib.Core.Path.{◌≡◌, refl, sym}
+use mathlib.Core.Path.{◌≡◌, refl, sym, ◌∙◌}
+use native.Mathlib.Omega.{arith}
 use borrow.Author.Tests.{le-leb, lt-leb, leb-true, leb-false}
 use lib.Dec.{leb}
 use lib.ListN.{length}
 use Rattle.base.proofs.Bools.{and_left, and_right}
 use Rattle.base.proofs.Choice.{by_test, none≢some, some_same}
 use Rattle.base.specs.Choice.{all_of}
-use Rattle.faults.proofs.Checks.{verdict_passes, verdict_fails}
-use Rattle.faults.specs.CheckList.{first_fault, verdict_of}
-use Rattle.faults.specs.Fault.{decline}
+use Rattle.faults.specs.CheckList.{◌or_else◌, first_fault, fault_at, verdict_of}
+use Rattle.faults.specs.declared.Decline.{Decline}
 use Rattle.faults.specs.declared.Fault.{Fault}
-use Rattle.faults.specs.declared.Verdict.{Verdict}
-use Rattle.faults.specs.declared.Verdict.TheVariants.{Passes, Fails}
+use Rattle.std.specs.Prelude.{Result, Ok, Err}
 use Rattle.lending.specs.Call.{Buffer, buffer_checks, LongEnough, TooShort, Call, call_fault}
 
 module _ {L : Type 0} (l : L) where
@@ -67,19 +67,43 @@ module _ {L : Type 0} (l : L) where
       ⊎_elim (λ s. rw s.1 (and_left (t b.fault) others all))
       (λ s. short_among t buffers f (and_right (t b.fault) others all) s.1) h
 
--- a verdict on the buffers of a call
-module _ {A L : Type 0} (c : Call A L) (l : L) (v : Verdict)
-    (e : v ≡ verdict_of (first_fault (buffer_checks c.buffers l))) where
-  -- they pass: they are long enough
-  pub buffers_long : v ≡ Passes → LongEnough c.buffers l
-  buffers_long is = (pass_exactly l c.buffers).0 (verdict_passes (first_fault (buffer_checks c.buffers l)) v e is)
+-- the buffers tested one after the other: the first gives `v`
+module _ {L : Type 0} (l : L) (b : Buffer L) (buffers : List (Buffer L)) (v : Result (Unit {0}) Fault)
+    (e : v ≡ verdict_of (first_fault ((leb b.need (length (b.cells l)) or_else b.fault) ∷ []))) where
+  -- it is too short: that is what is found
+  pub first_short : (f : Fault) → v ≡ Err f → Err f ≡ verdict_of (first_fault (buffer_checks (b ∷ buffers) l))
+  unfolding buffer_checks
+  first_short f is = go (leb b.need (length (b.cells l))) (sym is ∙ e)
+    where
+      go : (t : Bool) → Err f ≡ verdict_of (first_fault ((t or_else b.fault) ∷ []))
+          → Err f ≡ verdict_of (first_fault ((t or_else b.fault) ∷ buffer_checks buffers l))
+      go true p = let z : ◌≡◌ {A = ℕ} 0 1 = cc in absurd (omega arith)
+      go false p = p
+
+  -- it is long enough: the others decide
+  pub first_long : (u : Unit {0}) → v ≡ Ok u
+      → verdict_of (first_fault (buffer_checks buffers l)) ≡ verdict_of (first_fault (buffer_checks (b ∷ buffers) l))
+  unfolding buffer_checks
+  first_long u is = go (leb b.need (length (b.cells l))) (sym is ∙ e)
+    where
+      go : (t : Bool) → Ok u ≡ verdict_of (first_fault ((t or_else b.fault) ∷ []))
+          → verdict_of (first_fault (buffer_checks buffers l))
+          ≡ verdict_of (first_fault ((t or_else b.fault) ∷ buffer_checks buffers l))
+      go true p = refl
+      go false p = let z : ◌≡◌ {A = ℕ} 0 1 = cc in absurd (omega arith)
+
+-- what is found in the buffers of a call
+module _ {A L : Type 0} (c : Call A L) (l : L) where
+  -- nothing: they are long enough
+  pub buffers_long : first_fault (buffer_checks c.buffers l) ≡ none → LongEnough c.buffers l
+  buffers_long = (pass_exactly l c.buffers).0
 
   -- and the call's fault is that of its other inputs
-  pub buffers_pass : v ≡ Passes → call_fault c l ≡ c.fault
+  pub buffers_pass : first_fault (buffer_checks c.buffers l) ≡ none → call_fault c l ≡ c.fault
   unfolding call_fault
-  buffers_pass is = rw (verdict_passes (first_fault (buffer_checks c.buffers l)) v e is)
+  buffers_pass e = rw e
 
-  -- they fail: it is theirs
-  pub buffers_fail : (f : Fault) → v ≡ Fails f → call_fault c l ≡ some (decline f 0)
+  -- a fault: it is the call's
+  pub buffers_fail : (d : Decline) → fault_at 0 (first_fault (buffer_checks c.buffers l)) ≡ some d → call_fault c l ≡ some d
   unfolding call_fault
-  buffers_fail f is = rw (verdict_fails (first_fault (buffer_checks c.buffers l)) v f e is)
+  buffers_fail d e = rw e

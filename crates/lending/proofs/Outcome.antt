@@ -1,9 +1,12 @@
 -- The outcome of any call: it does its work exactly if no fault is found, and otherwise declines that fault.
-use mathlib.Core.Logic.{◌↔◌, ◌⊎◌}
+use Prim.Native.Nat.{ℕ}
+use mathlib.Core.Logic.{◌↔◌, ◌⊎◌, inl, inr}
 use mathlib.Core.Option.{Option, none, some}
 use mathlib.Core.Path.{◌≡◌, refl, sym, ◌∙◌, ap}
+use native.Mathlib.Omega.{arith}
 use Rattle.base.proofs.Choice.{none≢some, some_same}
 use Rattle.faults.specs.declared.Decline.{Decline}
+use Rattle.std.specs.Prelude.{Result, Ok, Err}
 use Rattle.lending.specs.Call.{Outcome, Gives, Call, call_fault, outcome_by, outcome_of}
 
 module _ {A L : Type 0} (c : Call A L) (l : L) where
@@ -40,6 +43,20 @@ pub record Answers {A L S : Type 0} (c : Call A L) (success : S → A) : Type 0 
   pub apart : (s : S) (d : Decline) → success s ≡ c.declines d → ⊥
   pub own : (d e : Decline) → c.declines d ≡ c.declines e → d ≡ e
   pub does : (l : L) → (s : S) × ((c.does l).answer ≡ success s)
+
+-- a call whose answer is a `Result` has such answers: its successes are `Ok`, its declines `Err`
+pub result_answers : {L S : Type 0} (c : Call (Result S Decline) L) → ((d : Decline) → c.declines d ≡ Err d)
+    → ((l : L) → (s : S) × ((c.does l).answer ≡ Ok s)) → Answers c Ok
+result_answers {L} {S} c is does = record {
+  each = each;
+  apart = λ s d e. let p = e ∙ is d in let z : ◌≡◌ {A = ℕ} 0 1 = cc in omega arith;
+  own = λ d e p. let q = sym (is d) ∙ p ∙ is e in cc;
+  does = does;
+}
+  where
+    each : (a : Result S Decline) → ((s : S) × (a ≡ Ok s)) ⊎ ((d : Decline) × (a ≡ c.declines d))
+    each (Ok s) = inl (s, refl)
+    each (Err d) = inr (d, sym (is d))
 
 -- so a caller tells from the answer
 module _ {A L S : Type 0} (c : Call A L) (success : S → A) (answers : Answers c success) (l : L) where

@@ -1,12 +1,11 @@
 -- Writing over the first cells, at once or one after the other.
-use Prim.Native.Nat.{ℕ, suc, ◌+◌, ◌<◌, ◌≤◌}
-use mathlib.Core.List.{List, [], ◌∷◌, ◌++◌}
+use Prim.Native.Nat.{ℕ, ◌+◌, ◌<◌, ◌≤◌}
+use mathlib.Core.List.{List, ◌++◌}
 use mathlib.Core.Path.{◌≡◌, sym, ◌∙◌, ap, subst}
 use native.Mathlib.Nat.{le_dest}
-use native.Mathlib.Numerals.{add-one}
 use native.Mathlib.Omega.{arith}
-use lib.ListN.{length, get_or, set, take, drop, length-append, length-drop, get_or-append}
-use lib.Seq.{drop-cons, set_at, append_snoc, get_or-append-add, get_or-drop, take-append_seam, drop-append_seam}
+use lib.ListN.{length, get_or, take, drop, length-append, length-drop, get_or-append}
+use lib.Seq.{get_or-append-add, get_or-drop, take-append_seam, drop-append_seam}
 use Rattle.lending.specs.Call.{overwrite, StartsWith}
 
 -- the first cells hold what was written
@@ -56,10 +55,3 @@ module _ (p : List ℕ) (k : ℕ) (e : length p ≡ k) (cells : List ℕ) where
 
   pub written_length : k ≤ length cells → length (p ++ drop k cells) ≡ length cells
   written_length h = omega (arith, length-append p (drop k cells), length-drop k cells)
-
-  pub written_next : (v : ℕ) → k < length cells → set (p ++ drop k cells) k v ≡ (p ++ (v ∷ [])) ++ drop (k + 1) cells
-  written_next v h =
-      ap (λ (l : List ℕ). set (p ++ l) k v) (drop-cons cells k 0 h)
-      ∙ set_at p (get_or cells k 0) (drop (suc k) cells) v k e
-      ∙ sym (append_snoc p v (drop (suc k) cells))
-      ∙ ap (λ (n : ℕ). (p ++ (v ∷ [])) ++ drop n cells) (sym (add-one k))

@@ -13,10 +13,8 @@ pub fn put_row(lists: &mut [u16], words: usize, x: usize, row: usize)
 {
     let start = words * x;
     let mut rest = row;
-    let mut k = words;
-    while k != 0 {
-        k -= 1;
+    for k in (0..words).rev() {
         lists[start + k] = (rest % 65536) as u16;
-        rest = rest / 65536;
+        rest /= 65536;
     }
 }

@@ -2,13 +2,13 @@
 // What fails beside that, a file or the output, gets a line on standard error.
 #![tactic(auto)]
 
-ghost use Rattle.std.specs.Prelude.{◌≡◌, ◌≤◌, length, take};
+ghost use Rattle.std.specs.Prelude.{◌≤◌, length, IfOk, IfSome};
 
 use disac4::MAX_TURN_BYTES;
 use display::TEXT_ROOM;
 use std::fmt::InlineText;
 use std::fs::{File, OpenFile};
-use std::io::{Error, ErrorKind, Read};
+use std::io::{Error, ErrorKind};
 use std::rt::Files;
 use std::{fs, io};
 
@@ -21,14 +21,6 @@ const REASON_ROOM: usize = 256;
 // Standard output as a file of the system.
 const STANDARD_OUTPUT: &str = "/dev/stdout";
 
-// What a file gave: whether it could be opened, the read of it that failed, and how many bytes were read.
-#[derive(Clone, Copy)]
-struct Content {
-    opened: bool,
-    failure: Option<Error>,
-    count: usize,
-}
-
 // Writes a line to standard error: what failed, and the system's words for it, without their number.
 fn fail(rt: &impl Eprint, what: &str, error: &Error) {
     let text = InlineText::<REASON_ROOM>::of(error);
@@ -40,70 +32,29 @@ fn fail(rt: &impl Eprint, what: &str, error: &Error) {
     let _ = eprintln!(rt; "{what}: {words}");
 }
 
-// One read, of as many bytes as there are, none at the end of the file.
-fn read_some(file: &mut impl Read, buf: &mut [u8]) -> Content
-    ensures within { result.count ≤ length buf.new }
-    ensures first { result.count ≡ length (take result.count buf.new) }
-{
-    match file.read(buf) {
-        Ok(count) => Content {
-            opened: true,
-            failure: None,
-            count,
-        },
-        Err(error) => Content {
-            opened: true,
-            failure: Some(error),
-            count: 0,
-        },
-    }
-}
-
-// Reads until the buffer is full, the file ends or a read fails.
-fn fill(file: &mut impl Read, buf: &mut [u8]) -> Content
-    ensures within { result.count ≤ length buf.new }
-    ensures first { result.count ≡ length (take result.count buf.new) }
-{
-    let mut failure = None;
-    let mut count = 0;
-    while count < buf.len() {
-        let some = read_some(file, &mut buf[count..]);
-        if some.count == 0 {
-            failure = some.failure;
-            break;
-        }
-        count += some.count;
-    }
-    Content {
-        opened: true,
-        failure,
-        count,
-    }
-}
-
-// As many of the file's first bytes as the buffer holds; none where it cannot be opened. One open answers both, so that what
+// As many of the file's first bytes as the buffer holds, or None where it cannot be opened. One open answers both, so that what
 // was found is what is played, and a pipe loses no byte. Each failure gets its line, but that a file is not there is none.
-fn read_file(rt: &(impl Files + Eprint), path: &str, buf: &mut [u8]) -> Content
-    ensures within { result.count ≤ length buf.new }
-    ensures first { result.count ≡ length (take result.count buf.new) }
+fn read_file<'b>(
+    rt: &(impl Files + Eprint),
+    path: &str,
+    buf: &'b mut [u8],
+) -> io::Result<Option<&'b [u8]>>
+    ensures within { IfOk result (λ found. IfSome found (λ bytes. length bytes.now ≤ length buf.old)) }
 {
-    match fs::open(rt, path) {
-        Ok(mut file) => {
-            let content = fill(&mut file, buf);
-            if let Some(error) = &content.failure {
-                fail(rt, path, error);
-            }
-            content
-        }
+    let mut file = match fs::open(rt, path) {
+        Ok(file) => file,
         Err(error) => {
             if error.kind() != ErrorKind::NotFound {
                 fail(rt, path, &error);
             }
-            Content {
-                opened: false,
-                failure: None,
-                count: 0,
-            }
+            return Ok(None);
+        }
+    };
+    match input::fill(&mut file, buf) {
+        (bytes, Ok(())) => Ok(Some(bytes)),
+        (_, Err(error)) => {
+            fail(rt, path, &error);
+            Err(error)
         }
     }
 }
@@ -136,10 +87,10 @@ fn print(rt: &(impl Files + Print + Eprint), text: &[u8]) {
     }
 }
 
-// Prints what is shown of a plan and its turns.
-fn play(rt: &(impl Files + Print + Eprint), plan: &[u8], turns: &[u8], rounds: bool) {
+// Prints what is shown of a plan and its turns, of rounds where there is no turn list.
+fn play(rt: &(impl Files + Print + Eprint), plan: &[u8], turns: Option<&[u8]>) {
     let mut out = [0u8; TEXT_ROOM];
-    let n = display::show(plan, turns, rounds, &mut out);
+    let n = display::show(plan, turns, &mut out);
     print(rt, &out[..n]);
 }
 
@@ -150,9 +101,7 @@ fn main(rt: HostRuntime) {
     let mut turns = [0u8; MAX_TURN_BYTES + 1];
     let turn_file = read_file(&rt, "turns.bin", &mut turns);
     // Of a file that broke off nothing is played: its beginning may look whole.
-    if plan_file.failure.is_none() && turn_file.failure.is_none() {
-        let n = plan_file.count;
-        let m = turn_file.count;
-        play(&rt, &plan[..n], &turns[..m], !turn_file.opened);
+    if let (Ok(plan), Ok(turns)) = (plan_file, turn_file) {
+        play(&rt, plan.unwrap_or(&[]), turns);
     }
 }

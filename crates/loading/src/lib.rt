@@ -1,4 +1,5 @@
 // Loading the labels of a plan whose index stands in the cells: counters, domains, and the first deletions.
+// Plan and cells are two parameters: `index::parts` says why.
 #![tactic(auto)]
 
 ghost use Rattle.std.specs.Prelude.{true, not, ◌≡◌, ◌+◌, ◌<◌, eqb};
@@ -49,10 +50,8 @@ fn supported_row(plan: &[u8], cells: &[u16], x: usize) -> usize
 {
     let n = read::variable_count(plan);
     let mut row = power(parts::size(plan, cells, x)) - 1;
-    let mut y = 0;
-    while y < n {
+    for y in 0..n {
         row = suited_beside(plan, cells, x, y, row);
-        y += 1;
     }
     row
 }
@@ -75,10 +74,8 @@ fn list_values(plan: &[u8], cells: &mut [u16], x: usize, row: usize)
     ensures { mem_of cells.new ≡ list_values_m (system_at plan.now) x row (mem_of cells.old) }
 {
     let n = parts::size(plan, cells, x);
-    let mut v = 0;
-    while v < n {
+    for v in 0..n {
         list_label(plan, cells, x, v, row_holds(row, v));
-        v += 1;
     }
 }
 
@@ -97,10 +94,8 @@ fn list_plan(plan: &[u8], cells: &mut [u16])
     ensures { mem_of cells.new ≡ list_m (system_at plan.now) (mem_of cells.old) }
 {
     let n = read::variable_count(plan);
-    let mut x = 0;
-    while x < n {
+    for x in 0..n {
         list_variable(plan, cells, x);
-        x += 1;
     }
 }
 

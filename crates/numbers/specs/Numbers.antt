@@ -1,17 +1,13 @@
 -- The answers as numbers.
-use Rattle.std.specs.Prelude.{ℕ, cond, List, [], ◌∷◌, length, replicate}
+use Rattle.std.specs.Prelude.{ℕ, cond, List, [], ◌∷◌, length, replicate, Result, Ok, Err}
 use Rattle.base.specs.Row.{is_odd}
-use Rattle.disac4.specs.declared.Answer.{Answer}
-use Rattle.disac4.specs.declared.Answer.TheVariants.{Reported, Declined}
+use Rattle.disac4.specs.declared.Report.{Report}
 use Rattle.disac4.specs.declared.Status.{Status}
 use Rattle.disac4.specs.declared.Status.TheVariants.{Open, Closed, Bare}
 use Rattle.faults.specs.Fault.{number_of}
-use Rattle.plan.specs.declared.Checked as checked
-use Rattle.plan.specs.declared.Checked.{Checked}
+use Rattle.plan.specs.declared.Counts.{Counts}
 use Rattle.faults.specs.declared.Decline.{Decline}
 use Rattle.sweeping.specs.Outcome.{TwoLists, last_sweep}
-use Rattle.sweeping.specs.declared.Swept as swept
-use Rattle.sweeping.specs.declared.Swept.{Swept}
 
 -- a number for each status
 abbrev pub status_number : Status → ℕ
@@ -24,19 +20,19 @@ abbrev pub decline_numbers : ℕ → Decline → List ℕ
 decline_numbers zeros d = number_of d.fault ∷ d.place ∷ replicate zeros 0
 
 -- 0, p, n, the number of rules and L; or a decline
-unfoldable pub checked_numbers : Checked → List ℕ
-checked_numbers (checked.TheVariants.Accepted f) = 0 ∷ f.workers ∷ f.variables ∷ f.constraints ∷ f.labels ∷ []
-checked_numbers (checked.TheVariants.Declined d) = decline_numbers 3 d
+unfoldable pub checked_numbers : Result Counts Decline → List ℕ
+checked_numbers (Ok f) = 0 ∷ f.workers ∷ f.variables ∷ f.constraints ∷ f.labels ∷ []
+checked_numbers (Err d) = decline_numbers 3 d
 
 -- 0 and the report in its order; or a decline
-unfoldable pub answer_numbers : Answer → List ℕ
-answer_numbers (Reported r) = 0 ∷ status_number r.status ∷ r.changes ∷ r.sends ∷ r.polls ∷ r.empty ∷ []
-answer_numbers (Declined d) = decline_numbers 4 d
+unfoldable pub answer_numbers : Result Report Decline → List ℕ
+answer_numbers (Ok r) = 0 ∷ status_number r.status ∷ r.changes ∷ r.sends ∷ r.polls ∷ r.empty ∷ []
+answer_numbers (Err d) = decline_numbers 4 d
 
 -- 0 and the number of sweeps; or a decline
-unfoldable pub swept_numbers : Swept → List ℕ
-swept_numbers (swept.TheVariants.Sweeps k) = 0 ∷ k ∷ []
-swept_numbers (swept.TheVariants.Declined d) = decline_numbers 0 d
+unfoldable pub swept_numbers : Result ℕ Decline → List ℕ
+swept_numbers (Ok k) = 0 ∷ k ∷ []
+swept_numbers (Err d) = decline_numbers 0 d
 
 -- 0, the buffer that holds the last sweep, 1 or 2, and the cells of the part
 unfoldable pub part_numbers : ℕ → ℕ → List ℕ

@@ -4,10 +4,11 @@
 ghost use Rattle.std.specs.Prelude.{◌≡◌};
 ghost use Rattle.numbers.specs.Numbers.{status_number, checked_numbers, answer_numbers, swept_numbers, part_numbers};
 
-use disac4::{Answer, Status};
-use plan::Checked;
-use sweeping::Swept;
+use disac4::{Report, Status};
+use faults::Decline;
+use plan::Counts;
 
+// C's number for a status. No `From`: that could only stand beside `Status`, in a crate that knows nothing of C.
 fn status_number(status: Status) -> usize
     ensures { result ≡ status_number status }
 {
@@ -19,51 +20,39 @@ fn status_number(status: Status) -> usize
 }
 
 // 0, p, n, the number of rules and L; or the decline.
-pub fn checked_numbers(checked: Checked) -> [usize; 5]
+pub fn checked_numbers(checked: Result<Counts, Decline>) -> [usize; 5]
     ensures { result ≡ checked_numbers checked }
 {
     match checked {
-        Checked::Accepted(f) => [0, f.workers, f.variables, f.constraints, f.labels],
-        Checked::Declined(d) => {
-            let fault = d.fault;
-            [faults::fault_number(fault), d.place, 0, 0, 0]
-        }
+        Ok(f) => [0, f.workers, f.variables, f.constraints, f.labels],
+        Err(d) => [usize::from(d.fault), d.place, 0, 0, 0],
     }
 }
 
 // 0 and the report in its order; or the decline.
-pub fn answer_numbers(answer: Answer) -> [usize; 6]
+pub fn answer_numbers(answer: Result<Report, Decline>) -> [usize; 6]
     ensures { result ≡ answer_numbers answer }
 {
     match answer {
-        Answer::Reported(r) => {
-            let status = r.status;
-            [
-                0,
-                status_number(status),
-                r.changes,
-                r.sends,
-                r.polls,
-                r.empty,
-            ]
-        }
-        Answer::Declined(d) => {
-            let fault = d.fault;
-            [faults::fault_number(fault), d.place, 0, 0, 0, 0]
-        }
+        Ok(r) => [
+            0,
+            status_number(r.status),
+            r.changes,
+            r.sends,
+            r.polls,
+            r.empty,
+        ],
+        Err(d) => [usize::from(d.fault), d.place, 0, 0, 0, 0],
     }
 }
 
 // 0 and the number of sweeps; or the decline.
-pub fn swept_numbers(answer: Swept) -> [usize; 2]
+pub fn swept_numbers(answer: Result<usize, Decline>) -> [usize; 2]
     ensures { result ≡ swept_numbers answer }
 {
     match answer {
-        Swept::Sweeps(k) => [0, k],
-        Swept::Declined(d) => {
-            let fault = d.fault;
-            [faults::fault_number(fault), d.place]
-        }
+        Ok(k) => [0, k],
+        Err(d) => [usize::from(d.fault), d.place],
     }
 }
 

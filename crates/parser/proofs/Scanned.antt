@@ -1,6 +1,6 @@
 -- What the scan knows behind the sections that passed, and how one section more changes it.
 use Prim.Native.Nat.{ℕ, suc, ◌+◌, ◌-◌, ◌<◌, ◌≤◌, min}
-use mathlib.Core.Bool.{true, false}
+use mathlib.Core.Bool.{false}
 use mathlib.Core.Logic.{⊎_elim}
 use mathlib.Core.List.{List}
 use mathlib.Core.Option.{none, some}
@@ -13,10 +13,10 @@ use lib.ListN.{length, set, get_or}
 use lib.Seq.{get_or-set_same, get_or-set_other}
 use Rattle.base.proofs.Below.{below_cases, first_at_lem, first_more}
 use Rattle.base.proofs.Bools.{clash}
-use Rattle.base.proofs.Choice.{between_intro, between_low, between_high}
+use Rattle.base.proofs.Choice.{between_intro}
 use Rattle.base.specs.Below.{first_below}
 use Rattle.base.specs.Choice.{between}
-use Rattle.format.specs.Format.{behind, section_start, constraint_start, variable_count, section_count, size_at, numbered_size}
+use Rattle.format.specs.Format.{behind, section_start, constraint_start, variable_count, section_count, numbered_size}
 use Rattle.format.specs.Limits.{max_variables, max_values, max_labels}
 use Rattle.format.specs.Version.{max_size}
 use Rattle.format.proofs.Widths.{size_range}
@@ -29,13 +29,12 @@ use Rattle.network.specs.Network.{label_count}
 use Rattle.plan.proofs.PlanCounts.{labels_read}
 use Rattle.plan.specs.Decode.{trailing_fault, sections_fault, plan_of}
 use Rattle.plan.specs.Network.{network_of}
-use Rattle.faults.specs.Fault.{decline}
+use Rattle.faults.specs.declared.Decline.{Decline}
 use Rattle.sections.specs.Known.{VariablesKnown, start_count}
 use Rattle.touching.specs.Touching.{Touching}
 use Rattle.parser.specs.Known.{PassedBefore, labels_before, constraints_before}
 use Rattle.plan.specs.Answer.{check_of}
-use Rattle.plan.specs.declared.Checked.TheVariants.{Declined}
-use Rattle.faults.specs.declared.Fault.{Fault}
+use Rattle.std.specs.Prelude.{Err}
 
 -- the section behind section k starts where that one ends
 pub next_start : (b : List ℕ) (k at next : ℕ) → at ≡ section_start b k → next ≡ behind b at → next ≡ section_start b (k + 1)
@@ -48,23 +47,6 @@ labels_none b = ap (labels_to b) none_yet
   where
     none_yet : 0 ≡ min (0 - 1) (variable_count b)
     none_yet = omega arith
-
--- a variable's values join the labels
-pub labels_more : (b : List ℕ) (k at labels size : ℕ) {n : ℕ} → variable_count b ≡ n → between 1 n k ≡ true → at ≡ section_start b k
-    → labels ≡ labels_before b k → size ≡ size_at b at → labels + size ≡ labels_before b (k + 1)
-labels_more b k at labels size {n} r h e p q =
-    let low : 1 ≤ k = between_low 1 n k h in
-    let high : k ≤ n = between_high 1 n k h in
-    let before : min (k - 1) (variable_count b) ≡ k - 1 = omega arith in
-    let with_it : min (k + 1 - 1) (variable_count b) ≡ suc (k - 1) = omega arith in
-    let its : suc (k - 1) ≡ k = omega arith in
-    omega (
-      arith,
-      ap (labels_to b) before,
-      ap (labels_to b) with_it,
-      ap (numbered_size b) its,
-      ap (size_at b) e,
-    )
 
 -- other sections have none
 pub labels_same : (b : List ℕ) (k : ℕ) {n : ℕ} → variable_count b ≡ n → between 1 n k ≡ false → labels_before b k ≡ labels_before b (k + 1)
@@ -87,8 +69,8 @@ labels_to_lem b k r h = ap (labels_to b) same
     same = omega arith
 
 -- before the first section no constraint touches a pair
-pub touching_none : (b : List ℕ) {rows : List ℕ} → Touching b 0 rows 0 → Touching b (constraints_before b 0) rows 0
-touching_none b {rows} = subst (λ (c : ℕ). Touching b c rows 0) (omega arith)
+pub touching_none : (b : List ℕ) {rows : List ℕ} {pairs : ℕ} → Touching b 0 rows pairs → Touching b (constraints_before b 0) rows pairs
+touching_none b {rows} {pairs} = subst (λ (c : ℕ). Touching b c rows pairs) (omega arith)
 
 -- up to the last variable there is no constraint
 module _ (b : List ℕ) (k : ℕ) {n : ℕ} (r : n ≡ variable_count b) where
@@ -169,17 +151,14 @@ module _ (b starts : List ℕ) (k : ℕ) (known : PassedBefore b starts k) where
   }
 
   -- section k has the plan's first fault
-  pub first_fault_lem : (n : ℕ) (f : Fault) → k < n → first_fault (section_checks b k) ≡ some f
-      → first_below n (section_fault b) ≡ some (decline f (section_start b k))
-  unfolding section_fault
-  first_fault_lem n f h p =
-      first_at_lem n (section_fault b) k (decline f (section_start b k)) h known.passed (ap (fault_at (section_start b k)) p)
+  pub first_fault_lem : (n : ℕ) (d : Decline) → k < n → section_fault b k ≡ some d → first_below n (section_fault b) ≡ some d
+  first_fault_lem n d h p = first_at_lem n (section_fault b) k d h known.passed p
 
   -- the answer of a plan whose first fault is in section k
-  pub fault_answer : (n at : ℕ) (f : Fault) → n ≡ section_count b → k < n → at ≡ section_start b k
-      → first_fault (section_checks b k) ≡ some f → Declined (decline f at) ≡ check_of b (sections_fault b)
-  unfolding check_of sections_fault
-  fault_answer n at f c h e p = rw (first_fault_lem (section_count b) f (omega arith) p, e)
+  pub fault_answer : (n at : ℕ) (d : Decline) → n ≡ section_count b → k < n → at ≡ section_start b k
+      → fault_at at (first_fault (section_checks b k)) ≡ some d → Err d ≡ check_of b (sections_fault b)
+  unfolding check_of sections_fault section_fault
+  fault_answer n at d c h e p = rw (first_fault_lem (section_count b) d (omega arith) (rw e at p))
 
   -- the answer of a plan whose sections all pass
   pub end_answer : k ≡ section_count b → check_of b (trailing_fault b) ≡ check_of b (sections_fault b)

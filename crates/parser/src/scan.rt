@@ -13,12 +13,12 @@ ghost use Rattle.plan.specs.Network.{network_of};
 ghost use Rattle.plan.specs.Answer.{check_of};
 
 use base::between;
-use faults::{Fault, Verdict};
+use faults::{Decline, Fault, decline_at};
 use format::read;
-use plan::{Checked, Counts, declined};
+use plan::Counts;
 use sections::section::{STARTS, Starts};
 use sections::{constraint, section, variable};
-use touching::{Touched, none_touched};
+use touching::Touched;
 
 // Room for the places of the head and the variables.
 fn no_starts() -> Starts
@@ -49,8 +49,8 @@ fn labels_with(plan: &[u8], k: usize, at: usize, labels: usize) -> usize
     }
 }
 
-// The checks of section k: of the head, a variable or a constraint. `labels` are those up to it; `touched` and `pairs` come as the
-// constraints before it left them.
+// The checks of section k: of the head, a variable or a constraint. `labels` are those up to it; `touched` comes as the constraints
+// before it left it.
 fn check_section(
     plan: &[u8],
     k: usize,
@@ -58,10 +58,9 @@ fn check_section(
     labels: usize,
     starts: &Starts,
     touched: &mut Touched,
-    pairs: &mut usize,
-) -> Verdict
-    requires { PassedBefore plan.now starts.now k × (at ≡ section_start plan.now k) × (at ≤ length plan.now) × (1 ≤ length plan.now) × (labels ≡ labels_before plan.now (k + 1)) × Touching plan.now (constraints_before plan.now k) touched.old pairs.old }
-    ensures { Judged plan.now (constraints_before plan.now (k + 1)) (section_checks plan.now k) result touched.new pairs.new }
+) -> Result<(), Fault>
+    requires { PassedBefore plan.now starts.now k × (at ≡ section_start plan.now k) × (at ≤ length plan.now) × (1 ≤ length plan.now) × (labels ≡ labels_before plan.now (k + 1)) × Touching plan.now (constraints_before plan.now k) touched.old.rows touched.old.pairs }
+    ensures { Judged plan.now (constraints_before plan.now (k + 1)) (section_checks plan.now k) result touched.new.rows touched.new.pairs }
 {
     if k == 0 {
         return section::check_head(plan, at);
@@ -69,18 +68,18 @@ fn check_section(
     if k <= read::variable_count(plan) {
         return variable::check_variable(plan, at, labels);
     }
-    constraint::check_constraint(plan, at, starts, touched, pairs)
+    constraint::check_constraint(plan, at, starts, touched)
 }
 
 // What is left to check behind the last section, which ends at `at`.
-fn check_end(plan: &[u8], at: usize, labels: usize) -> Checked
+fn check_end(plan: &[u8], at: usize, labels: usize) -> Result<Counts, Decline>
     requires { (at ≡ plan_end plan.now) × (labels ≡ label_count (network_of (plan_of plan.now))) }
     ensures { result ≡ check_of plan.now (trailing_fault plan.now) }
 {
     if at < plan.len() {
-        return declined(Fault::TrailingBytes, at);
+        return Err(decline_at(Fault::TrailingBytes, at));
     }
-    Checked::Accepted(Counts {
+    Ok(Counts {
         workers: read::worker_count(plan),
         variables: read::variable_count(plan),
         constraints: read::constraint_count(plan),
@@ -89,26 +88,22 @@ fn check_end(plan: &[u8], at: usize, labels: usize) -> Checked
 }
 
 // The sections in turn, and what follows them. A head out of range ends the scan at once, so that its counts can be trusted.
-pub fn check_sections(plan: &[u8]) -> Checked
+pub fn check_sections(plan: &[u8]) -> Result<Counts, Decline>
     requires { 1 ≤ length plan.now }
     ensures { result ≡ check_of plan.now (sections_fault plan.now) }
 {
     let count = read::section_count(plan);
     let mut starts = no_starts();
-    let mut touched = none_touched();
-    let mut pairs = 0;
+    let mut touched = Touched::none();
     let mut labels = 0;
     let mut at = 1;
-    let mut k = 0;
-    while k < count {
+    for k in 0..count {
         labels = labels_with(plan, k, at, labels);
-        let verdict = check_section(plan, k, at, labels, &starts, &mut touched, &mut pairs);
-        if let Verdict::Fails(fault) = verdict {
-            return declined(fault, at);
-        }
+        check_section(plan, k, at, labels, &starts, &mut touched).map_err(|fault| decline_at(
+            fault, at,
+        ))?;
         keep_start(&mut starts, k, at);
         at = read::behind(plan, at);
-        k += 1;
     }
     check_end(plan, at, labels)
 }

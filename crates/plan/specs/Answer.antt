@@ -1,12 +1,10 @@
 -- The plan check's whole outcome.
-use Rattle.std.specs.Prelude.{ℕ, List, length}
+use Rattle.std.specs.Prelude.{ℕ, List, length, Result, Ok, Err}
 use Rattle.std.proofs.Math.Option.{Option}
 use Rattle.network.specs.Network.{label_count}
 use Rattle.plan.specs.Decode.{Decoded, accepted, declined, plan_of, decoded_as, decode}
 use Rattle.plan.specs.Network.{network_of}
 use Rattle.plan.specs.Plan.{Plan}
-use Rattle.plan.specs.declared.Checked.{Checked}
-use Rattle.plan.specs.declared.Checked.TheVariants.{Accepted, Declined}
 use Rattle.faults.specs.declared.Decline.{Decline}
 use Rattle.plan.specs.declared.Counts.{Counts}
 
@@ -20,14 +18,14 @@ counts_of plan = record {
 }
 
 -- what was decoded, as the plan check's answer: the counts of an accepted plan, or the fault and its place
-abbrev pub checked_as : Decoded → Checked
-checked_as (accepted plan) = Accepted (counts_of plan)
-checked_as (declined d) = Declined d
+abbrev pub checked_as : Decoded → Result Counts Decline
+checked_as (accepted plan) = Ok (counts_of plan)
+checked_as (declined d) = Err d
 
 -- the answer of a check that finds this fault, or none
-unfoldable pub check_of : List ℕ → Option Decline → Checked
+unfoldable pub check_of : List ℕ → Option Decline → Result Counts Decline
 check_of b fault = checked_as (decoded_as (plan_of b) fault)
 
 -- the plan check alone: "on success returns p, n, the number of rules and L"
-unfoldable pub plan_check : List ℕ → Checked
+unfoldable pub plan_check : List ℕ → Result Counts Decline
 plan_check b = checked_as (decode b)

@@ -1,5 +1,5 @@
 -- What is known of the turns that are idle.
-use Rattle.std.specs.Prelude.{ℕ, ◌<◌, List, ◌≡◌, length}
+use Rattle.std.specs.Prelude.{ℕ, Bool, true, ◌<◌, List, ◌≡◌, length}
 use Rattle.std.proofs.Math.Option.{none}
 use Rattle.controller.specs.Controller.{Machine, machine}
 use Rattle.disac4.specs.Turn.{turn}
@@ -13,6 +13,6 @@ abbrev pub Idle : List ℕ → Machine → ℕ → ℕ → Type 0
 Idle b s k d = step_m (system_at b) s (turn k d) ≡ none
 
 -- the turns whose flags a table has set are idle
-pub record KnownIdle (b cells : List ℕ) (t : Tally) (table : List ℕ) : Type 0 where
+pub record KnownIdle (b cells : List ℕ) (t : Tally) (table : List Bool) : Type 0 where
   pub long : length table ≡ cell_count
-  pub idle : (k d : ℕ) → k < actors → d < actions → cell_at table k d ≡ 1 → Idle b (machine cells t) k d
+  pub idle : (k d : ℕ) → k < actors → d < actions → cell_at table k d ≡ true → Idle b (machine cells t) k d

@@ -4,67 +4,51 @@
 ghost use Rattle.std.specs.Prelude.{true, [], ◌∷◌, ◌≡◌};
 ghost use Rattle.std.proofs.Math.Option.{none};
 ghost use Rattle.disac4.specs.Turn.{allowed, turn, turn_fault, turns_of};
+ghost use Rattle.engine.specs.Play.{Underway, Advances};
 ghost use Rattle.playing.specs.Known.{KnownIdle};
-ghost use Rattle.refinement.specs.Run.{Going, Plays};
-ghost use Rattle.format.specs.Format.{worker_count};
 
 use crate::settle::settle;
-use base::byte_at;
-use disac4::Progress;
-use engine::run;
+use engine::run::Run;
 use flags::{Table, is_set};
+use reader::byte_at;
 
 mod settle;
 
 // One turn more, which is passed over where it is known to be idle.
-fn next_turn(
-    plan: &[u8],
-    cells: &mut [u16],
-    g: Progress,
-    p: usize,
-    table: &mut Table,
-    actor: usize,
-    action: usize,
-) -> Progress
-    requires { Going plan.now cells.old g × (p ≡ worker_count plan.now) × (allowed p (turn actor action) ≡ true) × KnownIdle plan.now cells.old g.tally table.old }
-    ensures { Plays plan.now (turn actor action ∷ []) cells.old g cells.new result × KnownIdle plan.now cells.new result.tally table.new }
+fn next_turn(run: &mut Run, table: &mut Table, actor: usize, action: usize)
+    requires { Underway run.old × (allowed run.old.workers (turn actor action) ≡ true) × KnownIdle run.old.plan.now run.old.cells.now run.old.progress.tally table.old }
+    ensures { Advances (turn actor action ∷ []) run.old run.new × KnownIdle run.old.plan.now run.new.cells.now run.new.progress.tally table.new }
 {
     if is_set(table, actor, action) {
-        return g;
+        return;
     }
-    let after = run::advance(plan, cells, g, p, actor, action);
-    if after.changes == g.changes {
+    let changes = run.progress.changes;
+    run.advance(actor, action);
+    if run.progress.changes == changes {
         idle::note(table, actor, action, true);
-        return after;
+        return;
     }
     idle::forget(table, actor, action);
     if actor != 0 {
-        let t = after.tally;
-        settle(cells, t, table, actor, action);
+        let cells = &mut *run.cells;
+        settle(cells, run.progress.tally, table, actor, action);
     }
-    after
 }
 
-// Plays the turns of the list, which are all allowed.
-pub fn play_turns(plan: &[u8], list: &[u8], cells: &mut [u16], g: Progress, p: usize) -> Progress
-    requires { Going plan.now cells.old g × (p ≡ worker_count plan.now) × (turn_fault p list.now ≡ none) }
-    ensures { Plays plan.now (turns_of list.now) cells.old g cells.new result }
+// Plays the turns of the list, which are all allowed. A turn is read by its place, as the definition `turn_at` reads it.
+pub fn play_turns(run: &mut Run, list: &[u8])
+    requires { Underway run.old × (turn_fault run.old.workers list.now ≡ none) }
+    ensures same_cells { run.new.cells.ghost_name ≡ run.old.cells.ghost_name }
+    ensures played { Advances (turns_of list.now) run.old run.new }
 {
     let count = list.len() / 2;
     let mut table = idle::none_known();
-    let mut at = g;
-    let mut i = 0;
-    while i < count {
-        at = next_turn(
-            plan,
-            cells,
-            at,
-            p,
+    for i in 0..count {
+        next_turn(
+            run,
             &mut table,
             byte_at(list, 2 * i),
             byte_at(list, 2 * i + 1),
         );
-        i += 1;
     }
-    at
 }

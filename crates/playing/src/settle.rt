@@ -1,4 +1,5 @@
 // What the cells show at once after a changing turn: which actions of its worker are idle.
+// Cells are a slice: `cells::layout` says why.
 ghost use Rattle.std.specs.Prelude.{true, List, ◌≡◌, ℕ, ◌<◌, ◌≤◌, length};
 ghost use Rattle.std.proofs.Math.Option.{none};
 ghost use Rattle.format.specs.Limits.{max_workers};
@@ -7,7 +8,6 @@ ghost use Rattle.cells.specs.Memory.{mem_of};
 ghost use Rattle.disac4.specs.System.{System};
 ghost use Rattle.disac4.specs.Turn.{treat_action};
 ghost use Rattle.disac4.specs.Need.{work_need};
-ghost use Rattle.flags.specs.Flags.{cell_count};
 ghost use Rattle.playing.specs.Known.{KnownIdle};
 ghost use Rattle.refinement.specs.Run.{read_on};
 ghost use Rattle.sends.specs.Sends.{send_m};
@@ -49,7 +49,7 @@ fn no_answer(cells: &[u16], i: usize) -> bool
     let held = layout::get(cells, layout::WORKERS, i, layout::HELD);
     let head = layout::get(cells, layout::WORKERS, i, layout::HEAD);
     let tail = layout::get(cells, layout::WORKERS, i, layout::TAIL);
-    (held == 0) | (head != tail)
+    held == 0 || head != tail
 }
 
 // Row i has nothing to read from actor d.
@@ -58,9 +58,8 @@ fn all_read(cells: &[u16], t: Tally, i: usize, d: usize) -> bool
     ensures { result ≡ true → read_on t i d (mem_of cells.now) ≡ none }
 {
     if d == 0 {
-        let last = t.timestamp;
         let polls = layout::get(cells, layout::WORKERS, i, layout::POLLS);
-        return polls >= last.0 as usize;
+        return polls >= t.timestamp.0 as usize;
     }
     let read = layout::get(cells, layout::CURSORS, d - 1, i);
     let sends = layout::get(cells, layout::WORKERS, d - 1, layout::SENDS);
@@ -69,7 +68,7 @@ fn all_read(cells: &[u16], t: Tally, i: usize, d: usize) -> bool
 
 // Notes which actions of worker k the cells show to be idle, after its action d.
 pub fn settle(cells: &[u16], t: Tally, table: &mut Table, k: usize, d: usize)
-    requires { (work_need ≤ length cells.now) × (length table.old ≡ cell_count) × (0 < k) × (k ≤ max_workers) }
+    requires { (work_need ≤ length cells.now) × (0 < k) × (k ≤ max_workers) }
     ensures { (b : List ℕ) → KnownIdle b cells.now t table.old → KnownIdle b cells.now t table.new }
 {
     let i = k - 1;

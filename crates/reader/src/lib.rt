@@ -10,12 +10,15 @@ pub struct Reader<'a> {
     pub at: usize,
 }
 
-// The byte at the reader's place, which is inside its bytes.
-pub fn byte<'a>(reader: Reader<'a>) -> usize
-    requires { reader.at < length reader.bytes.now }
-    ensures { (result ≡ byte_at reader.entry.bytes.now reader.entry.at) × (result < 256) }
-{
-    base::byte_inside(reader.bytes, reader.at)
+impl<'a> Reader<'a> {
+    // The byte at the reader's place, which is inside its bytes.
+    #[tactic(auto, unfolding(base::specs::Bytes::byte_at))]
+    pub fn byte(self) -> usize
+        requires { self.at < length self.bytes.now }
+        ensures { (result ≡ byte_at self.entry.bytes.now self.entry.at) × (result < 256) }
+    {
+        usize::from(self.bytes[self.at])
+    }
 }
 
 // The byte at a place inside the bytes. A reader is made here, so that whoever calls this needs only bytes and a place.
@@ -23,7 +26,7 @@ pub fn byte_inside(b: &[u8], at: usize) -> usize
     requires { at < length b.now }
     ensures { (result ≡ byte_at b.now at) × (result < 256) }
 {
-    byte(Reader { bytes: b, at })
+    Reader { bytes: b, at }.byte()
 }
 
 // The byte at a place, 0 past the end.

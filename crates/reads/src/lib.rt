@@ -1,4 +1,5 @@
-// Reads of a worker in the cells: the next list message of a worker, or the next poll. 1 where it changed something, 0 where it was idle.
+// Reads of a worker in the cells: the next list message of a worker, or the next poll. Each says whether it changed something.
+// Cells are a slice: `cells::layout` says why.
 #![tactic(auto)]
 
 ghost use Rattle.std.specs.Prelude.{◌≡◌, ◌-◌, ◌<◌, ◌≤◌, length};
@@ -45,29 +46,23 @@ fn take_list(
 }
 
 // Read: row `i` takes the next list message of row `j`.
-pub fn read_list(cells: &mut [u16], j: usize, i: usize) -> usize
+pub fn read_list(cells: &mut [u16], j: usize, i: usize) -> bool
     requires { (work_need ≤ length cells.old) × (j < max_workers) × (i < max_workers) }
     ensures { Acts (read_list_m j i) (mem_of cells.old) (mem_of cells.new) result }
 {
     let read = get(cells, CURSORS, j, i);
     let sends = get(cells, WORKERS, j, SENDS);
-    if read >= sends {
-        return 0;
-    }
-    if read >= SENDROOM {
-        return 0;
+    if read >= sends || read >= SENDROOM {
+        return false;
     }
     let to = get(cells, BOUNDS, j, read + 1);
-    if to > LABELROOM {
-        return 0;
-    }
     let lists = get(cells, WORKERS, i, LISTS);
-    if lists >= LISTSMAX {
-        return 0;
+    if to > LABELROOM || lists >= LISTSMAX {
+        return false;
     }
     let from = get(cells, BOUNDS, j, read);
     take_list(cells, j, i, read, from, to, lists);
-    1
+    true
 }
 
 // The poll of this number is the last that row `i` has read, and the one that it holds.
@@ -81,15 +76,15 @@ fn hold(cells: &mut [u16], i: usize, number: Timestamp)
 }
 
 // Read: row `i` takes the next poll, up to the last that was sent, and holds it.
-pub fn read_poll(cells: &mut [u16], i: usize, last: Timestamp) -> usize
+pub fn read_poll(cells: &mut [u16], i: usize, last: Timestamp) -> bool
     requires { (work_need ≤ length cells.old) × (i < max_workers) }
     ensures { Acts (read_poll_m i last.0) (mem_of cells.old) (mem_of cells.new) result }
 {
     let n = last.0 as usize;
     let polls = get(cells, WORKERS, i, POLLS);
     if polls >= n {
-        return 0;
+        return false;
     }
     hold(cells, i, Timestamp(polls as u16 + 1));
-    1
+    true
 }

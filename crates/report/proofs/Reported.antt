@@ -3,8 +3,10 @@ use Prim.Native.Nat.{ℕ, suc, ◌+◌, ◌<◌}
 use mathlib.Core.Bool.{cond}
 use mathlib.Core.List.{List}
 use mathlib.Core.Option.{Option, none, some, get_or}
-use mathlib.Core.Path.{◌≡◌, sym, ◌∙◌, ap, ap₂}
+use mathlib.Core.Path.{◌≡◌, refl, sym, ◌∙◌, ap, ap₂}
 use native.Mathlib.Numerals.{add-one}
+use borrow.Author.Tests.{ne_eqb}
+use native.Mathlib.Omega.{arith}
 use lib.Dec.{eqb}
 use Rattle.base.proofs.Below.{first_at_lem, first_more}
 use Rattle.base.proofs.Choice.{cond_true, cond_false}
@@ -29,6 +31,7 @@ use Rattle.format.specs.Format.{variable_count}
 use Rattle.format.specs.Version.{row_words}
 use Rattle.plan.specs.Network.{network_of}
 use Rattle.plan.specs.Plan.{size_of}
+use Rattle.std.specs.Prelude.{Option as RustOption, Some, None, IfSome, is_none, unwrap_or}
 
 -- the row of a variable's domain
 abbrev pub domain_row : List ℕ → Mem → ℕ → ℕ
@@ -81,10 +84,17 @@ module _ (b : List ℕ) (m : Mem) (x : ℕ) (before : first_below x (empty_at b 
 abbrev pub reported : Progress → Status → ℕ → Report
 reported g s e = record { status = s; changes = g.changes; sends = g.sends; polls = g.polls; empty = e }
 
-pub report_law : (b : List ℕ) (m : Mem) (g : Progress) (s : Status) (e : ℕ)
-    → s ≡ cond g.tally.closed (cond (eqb e 0) Closed Bare) Open
-    → e ≡ lowest_empty (system_at b) (view (system_at b) m g.tally)
-    → reported g s e ≡ report_m (system_at b) m g
+-- an empty domain is numbered from 1, so that 0 stands for none
+numbered : (o : RustOption ℕ) → IfSome o (λ x. 0 < x) → eqb (unwrap_or o 0) 0 ≡ is_none o
+numbered None h = refl
+numbered (Some x) h = ne_eqb x 0 (λ e. omega arith)
+
+pub report_law : (b : List ℕ) (m : Mem) (g : Progress) (s : Status) (o : RustOption ℕ) → IfSome o (λ x. 0 < x)
+    → s ≡ cond g.tally.closed (cond (is_none o) Closed Bare) Open
+    → unwrap_or o 0 ≡ lowest_empty (system_at b) (view (system_at b) m g.tally)
+    → reported g s (unwrap_or o 0) ≡ report_m (system_at b) m g
 unfolding report_m status_of view
-report_law b m g s e p q =
-    ap₂ (reported g) (p ∙ ap (λ (n : ℕ). cond g.tally.closed (cond (eqb n 0) Closed Bare) Open) q) q
+report_law b m g s o h p q =
+    let status : s ≡ cond g.tally.closed (cond (eqb (unwrap_or o 0) 0) Closed Bare) Open =
+    rw (numbered o h) p in
+    ap₂ (reported g) (status ∙ ap (λ (n : ℕ). cond g.tally.closed (cond (eqb n 0) Closed Bare) Open) q) q

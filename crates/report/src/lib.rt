@@ -1,7 +1,8 @@
 // What a finished run gives: the list cells of its variables, and its report.
+// Plan and cells are two parameters: `index::parts` says why.
 #![tactic(auto)]
 
-ghost use Rattle.std.specs.Prelude.{cond, ◌≡◌, ◌<◌, ◌≤◌, eqb, length};
+ghost use Rattle.std.specs.Prelude.{cond, ◌≡◌, ◌<◌, ◌≤◌, IfSome, is_none, unwrap_or, length};
 ghost use Rattle.base.specs.Row.{row_of};
 ghost use Rattle.lending.specs.Call.{overwrite};
 ghost use Rattle.disac4.specs.Need.{list_need};
@@ -14,7 +15,6 @@ ghost use Rattle.refinement.specs.Run.{report_m};
 ghost use Rattle.cells.specs.View.{in_domain, view};
 ghost use Rattle.plan.specs.Decode.{plan_of};
 ghost use Rattle.format.specs.Format.{variable_count};
-ghost use Rattle.format.specs.Limits.{max_variables};
 ghost use Rattle.format.specs.Version.{row_words};
 ghost use Rattle.plan.specs.Plan.{size_of};
 
@@ -41,41 +41,34 @@ pub fn write_lists(plan: &[u8], cells: &[u16], lists: &mut [u16])
 {
     let words = row_words(plan);
     let variables = read::variable_count(plan);
-    let mut x = 0;
-    while x < variables {
+    for x in 0..variables {
         put_row(lists, words, x, domain_row(plan, cells, x));
-        x += 1;
     }
 }
 
-// One more than the lowest variable whose domain is empty, 0 for none.
-fn lowest_empty(plan: &[u8], cells: &[u16]) -> usize
+// The number of the lowest variable whose domain is empty, from 1.
+fn lowest_empty(plan: &[u8], cells: &[u16]) -> Option<usize>
     requires { Ready plan.now cells.now }
-    ensures { ((t : Tally) → result ≡ lowest_empty (system_at plan.now) (view (system_at plan.now) (mem_of cells.now) t)) × (result ≤ max_variables) }
+    ensures lowest { (t : Tally) → unwrap_or result 0 ≡ lowest_empty (system_at plan.now) (view (system_at plan.now) (mem_of cells.now) t) }
+    ensures from_one { IfSome result (λ x. 0 < x) }
 {
     let variables = read::variable_count(plan);
-    let mut x = 0;
-    while x < variables {
+    for x in 0..variables {
         if domain_row(plan, cells, x) == 0 {
-            return x + 1;
+            return Some(x + 1);
         }
-        x += 1;
     }
-    0
+    None
 }
 
 // Where a run ends, by whether its plan is closed and by the lowest empty domain.
-fn status_of(closed: bool, empty: usize) -> Status
-    ensures { result ≡ cond closed (cond (eqb empty 0) Status.Closed Status.Bare) Status.Open }
+fn status_of(closed: bool, empty: Option<usize>) -> Status
+    ensures { result ≡ cond closed (cond (is_none empty) Status.Closed Status.Bare) Status.Open }
 {
-    if closed {
-        if empty == 0 {
-            Status::Closed
-        } else {
-            Status::Bare
-        }
-    } else {
-        Status::Open
+    match (closed, empty) {
+        (false, _) => Status::Open,
+        (true, None) => Status::Closed,
+        (true, Some(_)) => Status::Bare,
     }
 }
 
@@ -91,6 +84,6 @@ pub fn report(plan: &[u8], cells: &[u16], g: Progress) -> Report
         changes: g.changes,
         sends: g.sends,
         polls: g.polls,
-        empty: empty,
+        empty: empty.unwrap_or(0),
     }
 }

@@ -1,5 +1,6 @@
 // Revises the list of a variable against that of another one, which stands in a lent list buffer: which of its values have a
 // support there.
+// Plan and cells are two parameters: `index::parts` says why.
 #![tactic(auto)]
 
 ghost use Rattle.std.specs.Prelude.{true, ◌&&◌, ◌≡◌, ◌<◌};
@@ -17,7 +18,7 @@ ghost use Rattle.plan.specs.Network.{share_constraint};
 ghost use Rattle.plan.specs.Plan.{size_of};
 ghost use Rattle.rows.specs.Permits.{Loaded};
 
-use base::{row_holds, row_if};
+use base::{row_holds, row_where};
 use format::lists::row_at;
 use format::version::row_words;
 use index::parts;
@@ -57,11 +58,5 @@ pub fn revised_row(
 {
     let values = parts::size(plan, cells, x);
     let other = row_at(lists, row_words(plan), y);
-    let mut kept = 0;
-    let mut v = 0;
-    while v < values {
-        kept += row_if(keeps(plan, cells, x, v, y, row, other), v);
-        v += 1;
-    }
-    kept
+    row_where(values, |v| keeps(plan, cells, x, v, y, row, other))
 }

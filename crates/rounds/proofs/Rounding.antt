@@ -2,8 +2,7 @@
 use Prim.Native.Nat.{ℕ, ◌<◌}
 use mathlib.Core.Bool.{true, false}
 use mathlib.Core.List.{List, [], ◌++◌, append_assoc, append-nil}
-use mathlib.Core.Path.{◌≡◌, refl, sym, ◌∙◌, ap, subst}
-use lib.ListN.{length}
+use mathlib.Core.Path.{◌≡◌, sym, ◌∙◌, ap, subst}
 use Rattle.disac4.proofs.Fold.{play_append}
 use Rattle.disac4.proofs.Potential.{potential}
 use Rattle.disac4.proofs.RoundRun.{Reached, round_on}
@@ -15,9 +14,12 @@ use Rattle.disac4.specs.State.{State}
 use Rattle.disac4.specs.System.{System, Sound, system_at}
 use Rattle.disac4.specs.Turn.{Turn, step, play}
 use Rattle.rounds.proofs.RoundsLeft.{left, left_loaded, left_closed, left_lowers, left_open}
+use Rattle.engine.proofs.Further.{advances_none, advances_then, underway_after}
+use Rattle.engine.specs.Play.{Underway, Advances}
+use Rattle.engine.specs.declared.run.Run.{Run}
 use Rattle.engine.proofs.RunLaws.{workers_are}
 use Rattle.refinement.proofs.Start.{fits_regions}
-use Rattle.refinement.proofs.Underway.{under_view, going_view, plays_none, plays_then, goes_after}
+use Rattle.refinement.proofs.Underway.{under_view, going_view, goes_after}
 use Rattle.rounds.specs.Rounds.{Begun}
 use Rattle.refinement.specs.Run.{view_of, Going, Plays}
 use Rattle.controller.specs.Controller.{machine}
@@ -30,13 +32,15 @@ abbrev pub state_at : List ℕ → List ℕ → Progress → State
 state_at b cells g = view_of (system_at b) (machine cells g.tally)
 
 -- the loop's invariant
-pub record Rounding (b cells₀ : List ℕ) (g₀ : Progress) (cells : List ℕ) (g : Progress) : Type 0 where
-  pub same : length cells ≡ length cells₀
+pub record Rounding (r₀ r : Run) : Type 0 where
   pub turns : List Turn
-  pub plays : Plays b turns cells₀ g₀ cells g
-  pub whole : turns ++ left (system_at b) (state_at b cells g) ≡ round_run_turns (system_at b)
+  pub advances : Advances turns r₀ r
+  pub whole : turns ++ left (system_at r₀.plan.now) (state_at r₀.plan.now r.cells.now r.progress) ≡ round_run_turns (system_at r₀.plan.now)
 
-module _ (b cells₀ : List ℕ) (g₀ : Progress) (start : Begun b cells₀ g₀) where
+module _ (r₀ : Run) (start : Begun r₀.plan.now r₀.cells.now r₀.progress) (counted : r₀.workers ≡ worker_count r₀.plan.now) where
+  abbrev b : List ℕ
+  b = r₀.plan.now
+
   abbrev sys : System
   sys = system_at b
 
@@ -44,77 +48,79 @@ module _ (b cells₀ : List ℕ) (g₀ : Progress) (start : Begun b cells₀ g�
   sound = (fits_regions b start.going.sound).sound
 
   -- where the loop begins
-  pub no_round : Rounding b cells₀ g₀ cells₀ g₀
+  pub no_round : Rounding r₀ r₀
   unfolding final play_by
   no_round = record {
-    same = refl;
     turns = [];
-    plays = plays_none b cells₀ g₀;
+    advances = advances_none r₀;
     whole =
         ap (left sys)
-        (going_view b cells₀ g₀ start.going ∙ ap (final sys) start.fresh)
+        (going_view b r₀.cells.now r₀.progress start.going ∙ ap (final sys) start.fresh)
         ∙ left_loaded sys sound;
   }
 
-  module _ (cells : List ℕ) (g : Progress) (r : Rounding b cells₀ g₀ cells g) where
-    pub rounding_goes : Going b cells g
-    rounding_goes =
-        goes_after b r.turns cells₀ cells g₀ g start.going r.same r.plays
+  module _ (r : Run) (rounding : Rounding r₀ r) where
+    abbrev s : State
+    s = state_at b r.cells.now r.progress
 
-    abbrev played : List Turn
-    played = rounding_goes.turns
+    pub rounding_goes : Underway r
+    rounding_goes = underway_after (record { going = start.going; counted = counted }) rounding.advances
 
-    seen : state_at b cells g ≡ play sys (load sys) played
+    going : Going b r.cells.now r.progress
+    going = goes_after b rounding.turns _ _ _ _ start.going rounding.advances.long rounding.advances.plays
+
+    seen : s ≡ play sys (load sys) going.turns
     unfolding final
-    seen = going_view b cells g rounding_goes
+    seen = going_view b r.cells.now r.progress going
 
-    reached : Reached sys (state_at b cells g)
-    reached = (played, sym seen)
+    reached : Reached sys s
+    reached = (going.turns, sym seen)
 
     -- a closed plan has played all of the round run
-    pub rounds_done : g.tally.closed ≡ true → Plays b (round_run_turns sys) cells₀ g₀ cells g
+    pub rounds_done : r.progress.tally.closed ≡ true → Advances (round_run_turns sys) r₀ r
     unfolding view
     rounds_done e =
-        subst (λ (us : List Turn). Plays b us cells₀ g₀ cells g)
-        (sym (append-nil r.turns)
-        ∙ ap (λ (us : List Turn). r.turns ++ us) (sym (left_closed sys sound (state_at b cells g) e))
-        ∙ r.whole)
-        r.plays
+        subst (λ (us : List Turn). Advances us r₀ r)
+        (sym (append-nil rounding.turns)
+        ∙ ap (λ (us : List Turn). rounding.turns ++ us) (sym (left_closed sys sound s e))
+        ∙ rounding.whole)
+        rounding.advances
 
-    module _ (running : g.tally.closed ≡ false) (p : ℕ) (e : p ≡ worker_count b) (cells' : List ℕ) (g' : Progress)
-        (q : Plays b (round p) cells g cells' g') where
-      -- the round of the system
-      whole_round : Plays b (round sys.workers) cells g cells' g'
-      whole_round = subst (λ (n : ℕ). Plays b (round n) cells g cells' g') (e ∙ sym (workers_are b)) q
+    module _ (running : r.progress.tally.closed ≡ false) (r' : Run) (q : Advances (round r.workers) r r') where
+      as_counted : r.workers ≡ sys.workers
+      as_counted = rounding.advances.workers ∙ counted ∙ sym (workers_are b)
 
-      is_open : (state_at b cells g).controller.closed ≡ false
+      is_open : s.controller.closed ≡ false
       unfolding view
       is_open = running
 
-      moved : state_at b cells' g' ≡ round_on sys (state_at b cells g)
+      -- the round of the system
+      whole_round : Plays b (round sys.workers) r.cells.now r.progress r'.cells.now r'.progress
+      whole_round = rw (rounding.advances.plan, as_counted) at q.plays
+
+      moved : state_at b r'.cells.now r'.progress ≡ round_on sys s
       unfolding final Plays
       moved =
-          under_view b start.going.sound rounding_goes.before (played ++ round sys.workers) cells' g'
-          (whole_round rounding_goes.before played rounding_goes.at)
-          ∙ play_append (step sys) played (round sys.workers) (load sys)
+          under_view b start.going.sound going.before (going.turns ++ round sys.workers) r'.cells.now r'.progress
+          (whole_round going.before going.turns going.at)
+          ∙ play_append (step sys) going.turns (round sys.workers) (load sys)
           ∙ ap (round_on sys) (sym seen)
 
       -- so the loop ends
-      pub round_falls : potential sys (state_at b cells' g') < potential sys (state_at b cells g)
+      pub round_falls : potential sys (state_at b r'.cells.now r'.progress) < potential sys s
       round_falls =
-          subst (λ (st : State). potential sys st < potential sys (state_at b cells g)) (sym moved)
-          (left_lowers sys sound (state_at b cells g) reached is_open)
+          subst (λ (st : State). potential sys st < potential sys s) (sym moved)
+          (left_lowers sys sound s reached is_open)
 
-      pub round_more : length cells' ≡ length cells → Rounding b cells₀ g₀ cells' g'
-      round_more s = record {
-        same = s ∙ r.same;
-        turns = r.turns ++ round sys.workers;
-        plays =
-            plays_then b r.turns (round sys.workers) cells₀ cells cells' g₀ g g' r.plays whole_round;
+      pub round_more : Rounding r₀ r'
+      round_more = record {
+        turns = rounding.turns ++ round r₀.workers;
+        advances = advances_then round rounding.advances q;
         whole =
-            append_assoc r.turns (round sys.workers) (left sys (state_at b cells' g'))
-            ∙ ap (λ (us : List Turn). r.turns ++ us)
+            rw (counted ∙ sym (workers_are b))
+            (append_assoc rounding.turns (round sys.workers) (left sys (state_at b r'.cells.now r'.progress))
+            ∙ ap (λ (us : List Turn). rounding.turns ++ us)
             (ap (λ (st : State). round sys.workers ++ left sys st) moved
-            ∙ sym (left_open sys sound (state_at b cells g) reached is_open))
-            ∙ r.whole;
+            ∙ sym (left_open sys sound s reached is_open))
+            ∙ rounding.whole);
       }

@@ -2,26 +2,26 @@
 #![tactic(auto)]
 
 ghost use Rattle.std.specs.Prelude.{cond, [], ◌∷◌, map, ◌≡◌, suc, ◌<◌, ◌≤◌, eqb};
-ghost use Rattle.base.specs.Below.{gather_below, list_below};
+ghost use Rattle.base.specs.Below.{gather_below, list_below, one};
 ghost use Rattle.disac4.specs.Round.{others, worker_round, round, round_run_turns};
 ghost use Rattle.disac4.specs.System.{system_at};
 ghost use Rattle.disac4.specs.Turn.{turn};
 ghost use Rattle.rounds.specs.Rounds.{Begun};
-ghost use Rattle.engine.specs.Play.{Running, Works};
-ghost use Rattle.refinement.specs.Run.{Going, Plays};
+ghost use Rattle.engine.specs.Play.{Running, Works, Underway, Advances};
 ghost use Rattle.format.specs.Format.{worker_count};
 ghost use Rattle.format.specs.Limits.{max_workers};
 
-use disac4::{ANSWER_ACTION, POLL_ACTION, Progress, SEND_ACTION, TREAT_ACTION, Tally};
+use disac4::{ANSWER_ACTION, POLL_ACTION, SEND_ACTION, TREAT_ACTION, Tally};
 use engine::run;
+use engine::run::Run;
 
-// Worker k reads from actor j, unless that is itself: 1 where that changed something.
-fn read_other(plan: &[u8], cells: &mut [u16], t: Tally, p: usize, k: usize, j: usize) -> usize
+// Worker k reads from actor j, unless that is itself. It says whether that changed something.
+fn read_other(plan: &[u8], cells: &mut [u16], t: Tally, p: usize, k: usize, j: usize) -> bool
     requires { Running plan.now cells.old t × (p ≡ worker_count plan.now) × (0 < k) × (k ≤ p) × (j ≤ p) }
-    ensures { Works plan.now (map (turn k) (cond (eqb j k) [] (j ∷ []))) cells.old t cells.new result 0 × (result ≤ 1) }
+    ensures { Works plan.now (map (turn k) (cond (eqb j k) [] (j ∷ []))) cells.old t cells.new (one result) 0 }
 {
     if j == k {
-        return 0;
+        return false;
     }
     run::read_turn(plan, cells, t, p, k, j)
 }
@@ -32,78 +32,66 @@ fn reads(plan: &[u8], cells: &mut [u16], t: Tally, p: usize, k: usize) -> usize
     ensures { Works plan.now (map (turn k) (others p k)) cells.old t cells.new result 0 × (result ≤ suc max_workers) }
 {
     let mut changes = 0;
-    let mut j = 0;
-    while j <= p {
-        changes += read_other(plan, cells, t, p, k, j);
-        j += 1;
+    for j in 0..=p {
+        changes += usize::from(read_other(plan, cells, t, p, k, j));
     }
     changes
 }
 
 // Worker k reads, treats, sends and answers.
-fn worker_round(plan: &[u8], cells: &mut [u16], g: Progress, p: usize, k: usize) -> Progress
-    requires { Going plan.now cells.old g × (p ≡ worker_count plan.now) × (0 < k) × (k ≤ p) }
-    ensures { Plays plan.now (worker_round p k) cells.old g cells.new result }
+fn worker_round(run: &mut Run, k: usize)
+    requires { Underway run.old × (0 < k) × (k ≤ run.old.workers) }
+    ensures { Advances (worker_round run.old.workers k) run.old run.new }
 {
-    let t = g.tally;
+    let plan = run.plan;
+    let cells = &mut *run.cells;
+    let t = run.progress.tally;
+    let p = run.workers;
     let read = reads(plan, cells, t, p, k);
-    let treated = run::work_turn(plan, cells, t, p, k, TREAT_ACTION);
-    let sent = run::work_turn(plan, cells, t, p, k, SEND_ACTION);
-    let answered = run::work_turn(plan, cells, t, p, k, ANSWER_ACTION);
-    Progress {
-        tally: t,
-        changes: g.changes + read + treated + sent + answered,
-        sends: g.sends + sent,
-        polls: g.polls,
-    }
+    let treated = usize::from(run::work_turn(plan, cells, t, p, k, TREAT_ACTION));
+    let sent = usize::from(run::work_turn(plan, cells, t, p, k, SEND_ACTION));
+    let answered = usize::from(run::work_turn(plan, cells, t, p, k, ANSWER_ACTION));
+    run.progress.changes += read + treated + sent + answered;
+    run.progress.sends += sent;
 }
 
 // The workers in turn.
-fn workers_round(plan: &[u8], cells: &mut [u16], g: Progress, p: usize) -> Progress
-    requires { Going plan.now cells.old g × (p ≡ worker_count plan.now) }
-    ensures { Plays plan.now (gather_below p (λ i. worker_round p (suc i))) cells.old g cells.new result }
+fn workers_round(run: &mut Run)
+    requires { Underway run.old }
+    ensures { Advances (gather_below run.old.workers (λ i. worker_round run.old.workers (suc i))) run.old run.new }
 {
-    let mut at = g;
-    let mut i = 0;
-    while i < p {
-        at = worker_round(plan, cells, at, p, i + 1);
-        i += 1;
+    for i in 0..run.workers {
+        worker_round(run, i + 1);
     }
-    at
 }
 
 // The controller reads from every worker.
-fn read_all(plan: &[u8], cells: &mut [u16], g: Progress, p: usize) -> Progress
-    requires { Going plan.now cells.old g × (p ≡ worker_count plan.now) }
-    ensures { Plays plan.now (list_below p (λ i. turn 0 (suc i))) cells.old g cells.new result }
+fn read_all(run: &mut Run)
+    requires { Underway run.old }
+    ensures { Advances (list_below run.old.workers (λ i. turn 0 (suc i))) run.old run.new }
 {
-    let mut at = g;
-    let mut i = 0;
-    while i < p {
-        at = run::control(plan, cells, at, p, i + 1);
-        i += 1;
+    for i in 0..run.workers {
+        run.control(i + 1);
     }
-    at
 }
 
 // One round: the workers, and then the controller, which reads and polls.
-fn play_round(plan: &[u8], cells: &mut [u16], g: Progress, p: usize) -> Progress
-    requires { Going plan.now cells.old g × (p ≡ worker_count plan.now) }
-    ensures { Plays plan.now (round p) cells.old g cells.new result }
+fn play_round(run: &mut Run)
+    requires { Underway run.old }
+    ensures { Advances (round run.old.workers) run.old run.new }
 {
-    let worked = workers_round(plan, cells, g, p);
-    let read = read_all(plan, cells, worked, p);
-    run::control(plan, cells, read, p, POLL_ACTION)
+    workers_round(run);
+    read_all(run);
+    run.control(POLL_ACTION);
 }
 
 // Rounds until the plan is closed.
-pub fn play_rounds(plan: &[u8], cells: &mut [u16], g: Progress, p: usize) -> Progress
-    requires { Begun plan.now cells.old g × (p ≡ worker_count plan.now) }
-    ensures { Plays plan.now (round_run_turns (system_at plan.now)) cells.old g cells.new result }
+pub fn play_rounds(run: &mut Run)
+    requires { Begun run.old.plan.now run.old.cells.now run.old.progress × (run.old.workers ≡ worker_count run.old.plan.now) }
+    ensures same_cells { run.new.cells.ghost_name ≡ run.old.cells.ghost_name }
+    ensures played { Advances (round_run_turns (system_at run.old.plan.now)) run.old run.new }
 {
-    let mut at = g;
-    while !at.tally.closed {
-        at = play_round(plan, cells, at, p);
+    while !run.progress.tally.closed {
+        play_round(run);
     }
-    at
 }

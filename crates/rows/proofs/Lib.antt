@@ -1,4 +1,3 @@
 pub mod Accepted
 pub mod Rows
 pub mod Scopes
-pub mod Upper

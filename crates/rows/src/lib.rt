@@ -9,7 +9,7 @@ ghost use Rattle.base.specs.Row.{bit, row_of};
 ghost use Rattle.plan.specs.Network.{within_limit};
 ghost use Rattle.rows.specs.Permits.{table_permits, limited, in_column, Readable};
 
-use base::{row_holds, row_if};
+use base::{row_holds, row_where};
 use format::limits::{MAX_WORDS, WORD_BYTES};
 use format::version::row_words;
 use format::{constraint, read};
@@ -37,44 +37,29 @@ fn room_beside(limit: usize, f: usize) -> usize
 }
 
 // The row of the values of the variable at `place` whose figures a limit permits with figure f; it has `values` of them.
-// From the last one down the row is doubled: that is quicker than to shift each bit to its place.
 pub fn limit_row(plan: &[u8], limit: usize, f: usize, place: usize, values: usize) -> usize
     requires { (values_end place values ≤ length plan.now) × (values ≤ max_values) × (limit < 65536) }
     ensures { result ≡ row_of values (limited plan.now limit f place) }
 {
     let room = room_beside(limit, f);
-    let mut row = 0;
-    let mut w = values;
-    while w != 0 {
-        w -= 1;
-        row = 2 * row + row_if(read::figure(plan, place, w) < room, 0);
-    }
-    row
+    row_where(values, |w| read::figure(plan, place, w) < room)
 }
 
 // The row of the values of a table's first variable whose rows hold value v of the second; it has `values` of them.
-// It is doubled in the same way. Value v stands in one byte of each row, so no other is read.
+// Value v stands in one byte of each row, so no other is read.
 fn table_column(plan: &[u8], words: usize, at: usize, v: usize, values: usize) -> usize
     requires { (words ≡ row_words plan.now) × (v < max_size plan.now) × (values ≤ max_values) × (table_row_start plan.now at values ≤ length plan.now) }
     ensures { result ≡ row_of values (in_column plan.now at v) }
 {
     let part = WORD_BYTES * words - 1 - v / 8;
     let k = v % 8;
-    let mut row = 0;
-    let mut w = values;
-    while w != 0 {
-        w -= 1;
-        row = 2 * row
-            + row_if(
-                row_holds(constraint::table_byte(plan, words, at, w, part), k),
-                0,
-            );
-    }
-    row
+    row_where(values, |w| {
+        row_holds(constraint::table_byte(plan, words, at, w, part), k)
+    })
 }
 
-// The row of the values that the table at `at` permits with value v of its first variable where `leads`, else of its second; the
-// other variable has `values` of them. A row for v is read at once.
+// The row of the values that the table at `at` permits with value v of its first variable where `leads`, else of its second: the order
+// of the two variables says which. The other variable has `values` of them. A row for v is read at once.
 fn table_values(plan: &[u8], words: usize, at: usize, leads: bool, v: usize, values: usize) -> usize
     requires { (words ≡ row_words plan.now) × Readable plan.now at leads v values }
     ensures { (w : ℕ) → w < values → bit result w ≡ table_permits plan.now at leads v w }

@@ -5,12 +5,15 @@ use mathlib.Core.Option.{none}
 use mathlib.Core.Path.{◌≡◌, refl, ◌∙◌, ap, ap₂}
 use lib.ListN.{length}
 use Rattle.lending.specs.Call.{outcome, Gives}
-use Rattle.disac4.specs.Outcome.{lent, written}
+use Rattle.engine.specs.Play.{Underway}
+use Rattle.engine.specs.declared.run.Run.{Run}
+use Rattle.format.specs.Format.{worker_count}
+use Rattle.disac4.specs.Outcome.{Lent, lent, RunOutcome, written}
 use Rattle.disac4.specs.Need.{work_need}
 use Rattle.disac4.specs.Report.{report_of}
 use Rattle.disac4.specs.System.{system_at}
 use Rattle.disac4.specs.Turn.{Turn}
-use Rattle.disac4.specs.declared.Answer.TheVariants.{Reported}
+use Rattle.std.specs.Prelude.{Ok}
 use Rattle.disac4.specs.declared.Report.{Report}
 use Rattle.runs.proofs.Finishing.{work_of_turns}
 use Rattle.cells.specs.Memory.{Mem, mem_of}
@@ -27,15 +30,24 @@ begun b m cells g sound long at = record {
   fresh = refl;
 }
 
--- a run that has played its turns from there, and ends
-pub ends : (b : List ℕ) → plan_fault b ≡ none → (work cells cells' lists work' lists' : List ℕ) (us : List Turn) (g g' : Progress) (r : Report)
+-- a loaded run is under way
+pub loaded : {m : Mem} {r : Run} → plan_fault r.plan.now ≡ none → work_need ≤ length r.cells.now
+    → r.workers ≡ worker_count r.plan.now → At r.plan.now m [] r.cells.now r.progress → Underway r
+loaded sound long counted at = record { going = (begun _ _ _ _ sound long at).going; counted = counted }
+
+-- the outcome of turns that were played
+abbrev outcome_of_turns : List ℕ → List Turn → Lent → RunOutcome
+outcome_of_turns b us l = outcome (Ok (report_of (system_at b) us)) (written b us l)
+
+-- a run that has played its turns from there, and ends: the caller has the run's cells back
+pub ends : (b : List ℕ) → plan_fault b ≡ none → (work cells cells' lists work' lists' : List ℕ) (us : List Turn) (g g' : Progress) (r : Report) {back : List ℕ}
     → At b (mem_of work) [] cells g → Plays b us cells g cells' g' → length cells' ≡ length work → length cells' < 2 ^ 64
-    → Finishes b cells' lists g' work' lists' r
-    → Gives (outcome (Reported (report_of (system_at b) us)) (written b us (lent work lists))) (Reported r) (lent work' lists')
+    → Finishes b cells' lists g' work' lists' r → back ≡ work'
+    → Gives (outcome_of_turns b us (lent work lists)) (Ok r) (lent back lists')
 unfolding written Plays
-ends b sound work cells cells' lists work' lists' us g g' r at plays same few f =
+ends b sound work cells cells' lists work' lists' us g g' r at plays same few f e =
     let now = plays (mem_of work) [] at in
     record {
-      answer = ap Reported (f.reported (mem_of work) us now);
-      cells = ap₂ lent (f.cleared ∙ work_of_turns b sound work us cells' g' now same few) (f.listed (mem_of work) us now);
+      answer = ap Ok (f.reported (mem_of work) us now);
+      cells = ap₂ lent (e ∙ f.cleared ∙ work_of_turns b sound work us cells' g' now same few) (f.listed (mem_of work) us now);
     }

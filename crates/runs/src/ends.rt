@@ -1,5 +1,6 @@
 // The two ends of a run: the plan is loaded, whatever the cells held; at the end the lists are written, the report is made, and
 // the needed work cells become 0.
+// Cells are a slice: `cells::layout` says why.
 ghost use Rattle.std.specs.Prelude.{[], ◌≡◌, ◌≤◌, length};
 ghost use Rattle.std.proofs.Math.Option.{none};
 ghost use Rattle.disac4.specs.Need.{work_need, list_need};
@@ -10,6 +11,7 @@ ghost use Rattle.refinement.specs.Run.{fresh_tally, start_m, At, Going, Finishes
 
 use cells::clear;
 use disac4::{ListCounter, Progress, Report, Tally, Timestamp};
+use engine::run::Run;
 
 // The tally as loaded.
 fn fresh() -> Tally
@@ -50,12 +52,15 @@ pub fn load(plan: &[u8], work: &mut [u16]) -> Progress
 }
 
 // Ends a run that has played its turns.
-pub fn finish(plan: &[u8], cells: &mut [u16], lists: &mut [u16], g: Progress) -> Report
-    requires { Going plan.now cells.old g × (list_need ≤ length lists.old) }
-    ensures { Finishes plan.now cells.old lists.old g cells.new lists.new result }
+pub fn finish(run: &mut Run, lists: &mut [u16]) -> Report
+    requires { Going run.old.plan.now run.old.cells.now run.old.progress × (list_need ≤ length lists.old) }
+    ensures same_cells { run.new.cells.ghost_name ≡ run.old.cells.ghost_name }
+    ensures ended { Finishes run.old.plan.now run.old.cells.now lists.old run.old.progress run.new.cells.now lists.new result }
 {
+    let plan = run.plan;
+    let cells = &mut *run.cells;
     report::write_lists(plan, cells, lists);
-    let r = report::report(plan, cells, g);
+    let r = report::report(plan, cells, run.progress);
     clear::clear(cells);
     r
 }

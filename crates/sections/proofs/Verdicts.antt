@@ -5,12 +5,12 @@ use mathlib.Core.Path.{◌≡◌}
 use native.Mathlib.Omega.{arith}
 use Rattle.faults.specs.CheckList.{Check, first_fault, verdict_of}
 use Rattle.faults.specs.declared.Fault.{Fault}
-use Rattle.faults.specs.declared.Verdict.TheVariants.{Fails}
+use Rattle.std.specs.Prelude.{Err}
 use Rattle.sections.specs.Judged.{Judged}
 
 -- one that fails leaves nothing to say of them
 pub judged_fails : (b : List ℕ) (r : ℕ) (checks : List Check) (f : Fault) (rows : List ℕ) (pairs : ℕ)
-    → Fails f ≡ verdict_of (first_fault checks) → Judged b r checks (Fails f) rows pairs
+    → Err f ≡ verdict_of (first_fault checks) → Judged b r checks (Err f) rows pairs
 judged_fails b r checks f rows pairs e = record {
   verdict = e;
   touching = λ p. absurd (let z : ◌≡◌ {A = ℕ} 0 1 = cc in omega arith);

@@ -1,8 +1,9 @@
-// The checks of a constraint's section (document 01: a rule).
+// The checks of a constraint's section (document 01: a rule). A section is a plan and a place (`format::read` says why), and so are the
+// places of the variables' sections: `check_constraint`, which PROMISES names, takes any for which `VariablesKnown` holds.
 ghost use Rattle.std.specs.Prelude.{◌≡◌, true, ℕ, suc, ◌≤◌, ◌<◌, ◌^◌, ltb, length, drop};
 ghost use Rattle.base.specs.Below.{all_below};
 ghost use Rattle.format.specs.Format.{constraint_start, table_row_at};
-ghost use Rattle.format.specs.Limits.{max_variables, max_values, max_pairs};
+ghost use Rattle.format.specs.Limits.{max_values, max_pairs};
 ghost use Rattle.format.specs.Version.{row_words};
 ghost use Rattle.plan.specs.Check.{variables_in_order, has_count, constraint_length, table_fits, constraint_checks};
 ghost use Rattle.touching.specs.Touching.{Touching};
@@ -14,18 +15,19 @@ use crate::section;
 use crate::section::Starts;
 use crate::variable::numbered_size;
 use base::power;
-use faults::{Fault, Verdict};
+use faults::Fault;
+use format::kind::Kind;
 use format::limits::{MAX_FURTHER, MAX_WORDS};
 use format::{constraint, version};
 use reader::word_at;
-use touching::{Touched, few_pairs};
+use touching::Touched;
 
 // A set rule has room for its limit and its count.
 fn has_count(plan: &[u8], at: usize) -> bool
     requires { at ≤ length plan.now }
     ensures { result ≡ has_count plan.now at }
 {
-    if constraint::kind(plan, at) != 2 {
+    if Kind::at(plan, at) != Some(Kind::SetLimit) {
         return true;
     }
     6 <= word_at(plan, at)
@@ -36,28 +38,26 @@ fn constraint_length(plan: &[u8], at: usize, starts: &Starts) -> usize
     requires { VariablesKnown plan.now starts.now × (at ≤ length plan.now) × (variables_in_order plan.now at ≡ true) }
     ensures { result ≡ constraint_length plan.now at }
 {
-    let kind = constraint::kind(plan, at);
-    if kind == 0 {
-        3 + version::row_bytes(plan) * numbered_size(plan, starts, constraint::first(plan, at))
-    } else if kind == 2 {
-        6 + constraint::further_count(plan, at)
-    } else {
-        5
+    match Kind::at(plan, at) {
+        Some(Kind::Table) => {
+            3 + version::row_bytes(plan) * numbered_size(plan, starts, constraint::first(plan, at))
+        }
+        Some(Kind::Limit) => 5,
+        Some(Kind::SetLimit) => 6 + constraint::further_count(plan, at),
+        None => 5, // no such kind: declined before
     }
 }
 
-// No row of a table holds a value from `width` on.
+// No row of a table holds a value from `width` on. A loop, since no short proof ties `all` of a range to the definition.
 fn rows_fit(plan: &[u8], words: usize, at: usize, rows: usize, width: usize) -> bool
     requires { (words ≡ row_words plan.now) × (at ≤ length plan.now) × (rows ≤ max_values) × (width ≤ max_values) }
     ensures { result ≡ all_below rows (λ v. ltb (table_row_at plan.now at v) (2 ^ width)) }
 {
     let limit = power(width);
-    let mut v = 0;
-    while v < rows {
+    for v in 0..rows {
         if limit <= constraint::table_row(plan, words, at, v) {
             return false;
         }
-        v += 1;
     }
     true
 }
@@ -68,7 +68,7 @@ fn table_fits(plan: &[u8], at: usize, starts: &Starts) -> bool
     requires { VariablesKnown plan.now starts.now × (at ≤ length plan.now) × (variables_in_order plan.now at ≡ true) }
     ensures { result ≡ table_fits plan.now at }
 {
-    if constraint::kind(plan, at) != 0 {
+    if Kind::at(plan, at) != Some(Kind::Table) {
         return true;
     }
     let rows = numbered_size(plan, starts, constraint::first(plan, at));
@@ -86,63 +86,61 @@ fn check_content(
     at: usize,
     starts: &Starts,
     touched: &mut Touched,
-    pairs: &mut usize,
-) -> Verdict
-    requires { VariablesKnown plan.now starts.now × (at ≤ length plan.now) × (variables_in_order plan.now at ≡ true) × (length touched.old ≡ max_variables) × (pairs.old ≤ max_pairs) }
-    ensures { (r : ℕ) → at ≡ constraint_start plan.now r → Touching plan.now r touched.old pairs.old → Judged plan.now (suc r) (drop 4 (constraint_checks plan.now (suc r) at)) result touched.new pairs.new }
+) -> Result<(), Fault>
+    requires { VariablesKnown plan.now starts.now × (at ≤ length plan.now) × (variables_in_order plan.now at ≡ true) × (touched.old.pairs ≤ max_pairs) }
+    ensures { (r : ℕ) → at ≡ constraint_start plan.now r → Touching plan.now r touched.old.rows touched.old.pairs → Judged plan.now (suc r) (drop 4 (constraint_checks plan.now (suc r) at)) result touched.new.rows touched.new.pairs }
 {
     let length = word_at(plan, at);
     let further = constraint::further_count(plan, at);
     let called_for = constraint_length(plan, at, starts);
     if !has_count(plan, at) {
-        return Verdict::Fails(Fault::BadLength); // no room for the count
+        return Err(Fault::BadLength); // no room for the count
     }
     if MAX_FURTHER < further {
-        return Verdict::Fails(Fault::BadCount); // too many further
+        return Err(Fault::BadCount); // too many further
     }
     if length != called_for {
-        return Verdict::Fails(Fault::BadLength); // not as the content
+        return Err(Fault::BadLength); // not as the content
     }
     if !further_in_order(plan, at) {
-        return Verdict::Fails(Fault::BadNumber);
+        return Err(Fault::BadNumber);
     }
     let fits = table_fits(plan, at, starts);
-    let few = few_pairs(plan, at, touched, pairs);
+    let few = touched.few_pairs(plan, at);
     if !fits {
-        return Verdict::Fails(Fault::BadConstraint); // a bit too far
+        return Err(Fault::BadConstraint); // a bit too far
     }
     if !few {
-        return Verdict::Fails(Fault::BadCount); // too many pairs
+        return Err(Fault::BadCount); // too many pairs
     }
-    Verdict::Passes
+    Ok(())
 }
 
-// A constraint's section: 1, 3 (length under 3), 7 (kind), 5 (first two variables), and what its content is checked for. `touched` and
-// `pairs` come as the constraints before it left them, and take its own pairs in.
+// A constraint's section: 1, 3 (length under 3), 7 (kind), 5 (first two variables), and what its content is checked for. `touched`
+// comes as the constraints before it left it, and takes its own pairs in.
 pub fn check_constraint(
     plan: &[u8],
     at: usize,
     starts: &Starts,
     touched: &mut Touched,
-    pairs: &mut usize,
-) -> Verdict
-    requires { VariablesKnown plan.now starts.now × (at ≤ length plan.now) × (length touched.old ≡ max_variables) × (pairs.old ≤ max_pairs) }
-    ensures { (r : ℕ) → at ≡ constraint_start plan.now r → Touching plan.now r touched.old pairs.old → Judged plan.now (suc r) (constraint_checks plan.now (suc r) at) result touched.new pairs.new }
+) -> Result<(), Fault>
+    requires { VariablesKnown plan.now starts.now × (at ≤ length plan.now) × (touched.old.pairs ≤ max_pairs) }
+    ensures { (r : ℕ) → at ≡ constraint_start plan.now r → Touching plan.now r touched.old.rows touched.old.pairs → Judged plan.now (suc r) (constraint_checks plan.now (suc r) at) result touched.new.rows touched.new.pairs }
 {
     let length = word_at(plan, at);
     let kind = constraint::kind(plan, at);
     let most = version::max_kind(plan);
     if !section::complete(plan, at) {
-        return Verdict::Fails(Fault::Truncated);
+        return Err(Fault::Truncated);
     }
     if length < 3 {
-        return Verdict::Fails(Fault::BadLength); // no room for the kind
+        return Err(Fault::BadLength); // no room for the kind
     }
     if most < kind {
-        return Verdict::Fails(Fault::BadConstraint); // no such kind
+        return Err(Fault::BadConstraint); // no such kind
     }
     if !variables_in_order(plan, at) {
-        return Verdict::Fails(Fault::BadNumber);
+        return Err(Fault::BadNumber);
     }
-    check_content(plan, at, starts, touched, pairs)
+    check_content(plan, at, starts, touched)
 }

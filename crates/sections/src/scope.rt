@@ -30,8 +30,7 @@ pub fn further_in_order(plan: &[u8], at: usize) -> bool
     let further = constraint::further_count(plan, at);
     let most = read::variable_count(plan);
     let mut last = constraint::scope_at(plan, at, 1);
-    let mut i = 0;
-    while i < further {
+    for i in 0..further {
         let number = constraint::scope_at(plan, at, i + 2);
         if number <= last {
             return false;
@@ -40,7 +39,6 @@ pub fn further_in_order(plan: &[u8], at: usize) -> bool
             return false;
         }
         last = number;
-        i += 1;
     }
     true
 }

@@ -4,7 +4,7 @@ ghost use Rattle.plan.specs.Check.{complete as complete_of, head_in_range, head_
 ghost use Rattle.faults.specs.CheckList.{first_fault, verdict_of};
 
 use base::between;
-use faults::{Fault, Verdict};
+use faults::Fault;
 use format::limits::{MAX_CONSTRAINTS, MAX_VARIABLES, MAX_WORKERS};
 use format::read;
 use reader::word_at;
@@ -37,18 +37,18 @@ fn head_in_range(plan: &[u8]) -> bool
 }
 
 // The head: 1, 3, 4.
-pub fn check_head(plan: &[u8], at: usize) -> Verdict
+pub fn check_head(plan: &[u8], at: usize) -> Result<(), Fault>
     requires { at ≤ length plan.now }
     ensures { result ≡ verdict_of (first_fault (head_checks plan.now at)) }
 {
     if !complete(plan, at) {
-        return Verdict::Fails(Fault::Truncated);
+        return Err(Fault::Truncated);
     }
     if word_at(plan, at) != 3 {
-        return Verdict::Fails(Fault::BadLength);
+        return Err(Fault::BadLength);
     }
     if !head_in_range(plan) {
-        return Verdict::Fails(Fault::BadCount);
+        return Err(Fault::BadCount);
     }
-    Verdict::Passes
+    Ok(())
 }

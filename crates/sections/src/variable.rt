@@ -9,7 +9,7 @@ ghost use Rattle.sections.specs.Known.{VariablesKnown};
 use crate::section;
 use crate::section::Starts;
 use base::between;
-use faults::{Fault, Verdict};
+use faults::Fault;
 use format::limits::MAX_LABELS;
 use format::{read, version};
 use reader::word_at;
@@ -21,24 +21,20 @@ fn repeats_code(plan: &[u8], at: usize) -> bool
 {
     let size = read::size(plan, at);
     let mut found = false;
-    let mut v = 0;
-    'scan: while v < size {
+    'scan: for v in 0..size {
         let code = read::code(plan, at, v);
-        let mut u = 0;
-        while u < v {
+        for u in 0..v {
             if read::code(plan, at, u) == code {
                 found = true;
                 break 'scan;
             }
-            u += 1;
         }
-        v += 1;
     }
     found
 }
 
 // The section of a variable, with which there are so many labels: 1, 3 (length under 2), 4 (its own count), 4 (the labels), 3, 5, 6.
-pub fn check_variable(plan: &[u8], at: usize, labels: usize) -> Verdict
+pub fn check_variable(plan: &[u8], at: usize, labels: usize) -> Result<(), Fault>
     requires { at ≤ length plan.now }
     ensures { (s : ℕ) → labels ≡ labels_to plan.now s → result ≡ verdict_of (first_fault (variable_checks plan.now s at)) }
 {
@@ -47,27 +43,27 @@ pub fn check_variable(plan: &[u8], at: usize, labels: usize) -> Verdict
     let most = version::max_size(plan);
     let called_for = 2 + 4 * size;
     if !section::complete(plan, at) {
-        return Verdict::Fails(Fault::Truncated);
+        return Err(Fault::Truncated);
     }
     if length < 2 {
-        return Verdict::Fails(Fault::BadLength); // no room for the count
+        return Err(Fault::BadLength); // no room for the count
     }
     if most < size {
-        return Verdict::Fails(Fault::BadCount); // too many for the version
+        return Err(Fault::BadCount); // too many for the version
     }
     if MAX_LABELS < labels {
-        return Verdict::Fails(Fault::BadCount); // too many with it
+        return Err(Fault::BadCount); // too many with it
     }
     if length != called_for {
-        return Verdict::Fails(Fault::BadLength); // not as the count calls for
+        return Err(Fault::BadLength); // not as the count calls for
     }
     if !between(1, read::worker_count(plan), read::owner(plan, at)) {
-        return Verdict::Fails(Fault::BadNumber);
+        return Err(Fault::BadNumber);
     }
     if repeats_code(plan, at) {
-        return Verdict::Fails(Fault::RepeatedCode);
+        return Err(Fault::RepeatedCode);
     }
-    Verdict::Passes
+    Ok(())
 }
 
 // How many values the variable with number s has, from 1; `starts` has the places of the sections.

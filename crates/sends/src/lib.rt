@@ -1,4 +1,5 @@
-// Send in the cells: the labels that a worker deleted go to all, as one list message. 1 where it changed something, 0 where it was idle.
+// Send in the cells: the labels that a worker deleted go to all, as one list message. It says whether it changed something.
+// Cells are a slice: `cells::layout` says why.
 #![tactic(auto)]
 
 ghost use Rattle.std.specs.Prelude.{◌≡◌, ◌<◌, ◌≤◌, length};
@@ -27,27 +28,24 @@ fn put_list(cells: &mut [u16], i: usize, sends: usize, end: usize, outs: usize, 
 }
 
 // Send: the labels behind row `i`'s last list message go to all, as one list message.
-pub fn send(cells: &mut [u16], i: usize) -> usize
+pub fn send(cells: &mut [u16], i: usize) -> bool
     requires { (work_need ≤ length cells.old) × (i < max_workers) }
     ensures { Acts (send_m i) (mem_of cells.old) (mem_of cells.new) result }
 {
     let sends = get(cells, WORKERS, i, SENDS);
     if sends >= SENDROOM {
-        return 0;
+        return false;
     }
     let start = get(cells, BOUNDS, i, sends);
     let end = get(cells, WORKERS, i, LOGEND);
     if start == end {
-        return 0;
+        return false;
     }
     let outs = get(cells, WORKERS, i, OUTEND);
-    if outs >= OUTROOM {
-        return 0;
-    }
     let lists = get(cells, WORKERS, i, LISTS);
-    if lists >= LISTSMAX {
-        return 0;
+    if outs >= OUTROOM || lists >= LISTSMAX {
+        return false;
     }
     put_list(cells, i, sends, end, outs, lists);
-    1
+    true
 }

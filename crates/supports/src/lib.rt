@@ -1,4 +1,5 @@
 // Rows of supports: the values that an accepted plan allows with a label, read through its index in the work cells.
+// Plan and cells are two parameters: `index::parts` says why.
 #![tactic(auto)]
 
 ghost use Rattle.std.specs.Prelude.{true, ◌≡◌, suc, ◌≤◌, length};

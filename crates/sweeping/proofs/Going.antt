@@ -4,7 +4,6 @@ use mathlib.Core.Bool.{true, false}
 use mathlib.Core.List.{List}
 use mathlib.Core.Logic.{◌↔◌}
 use mathlib.Core.Path.{◌≡◌, sym, ◌∙◌, ap, subst}
-use native.Mathlib.Nat.{not-suc-le-zero}
 use native.Mathlib.Numerals.{add-one}
 use Rattle.base.proofs.Below.{up_to}
 use Rattle.base.proofs.Bools.{refuted}
@@ -16,17 +15,13 @@ use Rattle.network.specs.Network.{Network, loaded, label_count}
 use Rattle.network.specs.Sweep.{rests, swept, sweep_count}
 use Rattle.sweeping.specs.Outcome.{TwoLists, two_lists, holding, write_other, after_sweeps, sweep_outcome}
 use Rattle.sweeping.specs.Sweeping.{SweepsAt}
-use Rattle.sweeping.specs.declared.Swept.TheVariants.{Sweeps}
+use Rattle.std.specs.Prelude.{Ok}
 use Rattle.sweeping.proofs.Alternating.{holding_shows}
 
 -- after `k` sweeps, each of which deleted something
 pub record Going (words : ℕ) (net : Network) (start : TwoLists) (k : ℕ) (l : TwoLists) : Type 0 where
   pub held : l ≡ after_sweeps words net k start
   pub deleted : (j : ℕ) → j < k → rests net (swept net j) ≡ false
-
--- at first there is none
-pub going_none : {words : ℕ} {net : Network} {start l : TwoLists} → l ≡ after_sweeps words net 0 start → Going words net start 0 l
-going_none e = record { held = e; deleted = λ j h. absurd (not-suc-le-zero h) }
 
 module _ {words : ℕ} {net : Network} {start : TwoLists} {k : ℕ} {l : TwoLists} where
   -- there are at most L of them
@@ -62,8 +57,8 @@ module _ {words : ℕ} {net : Network} {start : TwoLists} {k : ℕ} {l : TwoList
 pub all_given : (words : ℕ) (net : Network) (start : TwoLists) (first : List ℕ) (r : ℕ) (l' : TwoLists)
     → first ≡ overwrite (domain_cells words net (loaded net)) start.first
     → (two_lists first start.second ≡ after_sweeps words net 0 start → (r ≡ sweep_count net) × (l' ≡ after_sweeps words net r start))
-    → Gives (sweep_outcome words net start) (Sweeps r) l'
+    → Gives (sweep_outcome words net start) (Ok r) l'
 unfolding sweep_outcome after_sweeps
 all_given words net start first r l' e Swept-all =
     let end = Swept-all (ap (λ (a : List ℕ). two_lists a start.second) e) in
-    record { answer = ap Sweeps end.0; cells = end.1 ∙ ap (λ (k : ℕ). after_sweeps words net k start) end.0 }
+    record { answer = ap Ok end.0; cells = end.1 ∙ ap (λ (k : ℕ). after_sweeps words net k start) end.0 }

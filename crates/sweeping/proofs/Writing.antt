@@ -1,14 +1,19 @@
 -- A sweep on its way through the variables: the rows that it has written, and whether it has deleted anything.
 use Prim.Native.Nat.{ℕ, ◌+◌, ◌<◌, ◌≤◌}
-use mathlib.Core.Bool.{true}
+use mir.Val.{bool_byte}
+use borrow.Author.Tests.{eq-eqb, ne_eqb}
+use mathlib.Core.Bool.{Bool, true, not}
 use mathlib.Core.List.{List}
 use mathlib.Core.Logic.{◌↔◌}
 use mathlib.Core.Path.{◌≡◌, refl, sym, ◌∙◌, ap, ap₂}
 use native.Mathlib.Nat.{not-suc-le-zero}
+use native.Mathlib.Decide.{ℕ_discrete}
 use native.Mathlib.Omega.{arith}
+use lib.Dec.{eqb}
 use lib.ListN.{length}
 use Rattle.base.proofs.Below.{up_to}
 use Rattle.base.proofs.Row.{row_bit, row_ext}
+use Rattle.base.proofs.Sums.{one_byte, one_le}
 use Rattle.base.specs.Row.{bit}
 use Rattle.disac4.specs.Need.{list_need}
 use Rattle.disac4.specs.Report.{domain_cells, row_from}
@@ -75,3 +80,17 @@ module _ (words : ℕ) (net : Network) (d : Domains) where
         λ r. w.counted.1 (λ z h. rests_stay r z (omega arith)),
       ),
     )
+
+-- two rows, and 1 where they differ
+pub differ : (a b : ℕ) {n : ℕ} → n ≡ bool_byte (not (eqb a b)) → (n ≤ 1) × ((n ≡ 0) ↔ (a ≡ b))
+differ a b {n} e = (omega (arith, e ∙ one_byte (not (eqb a b)), one_le (not (eqb a b))), (same, none))
+  where
+    same : n ≡ 0 → a ≡ b
+    same z =
+        elim (ℕ_discrete a b) [
+          | yes p ↦ p
+          | no q ↦ absurd (omega (arith, z, e ∙ ap (λ (t : Bool). bool_byte (not t)) (ne_eqb a b q)))
+        ]
+
+    none : a ≡ b → n ≡ 0
+    none p = e ∙ ap (λ (t : Bool). bool_byte (not t)) (eq-eqb a b p)

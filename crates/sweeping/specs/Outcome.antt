@@ -1,18 +1,17 @@
 -- The slow engine (document 02, job 2): the whole outcome of the sweeps, the answer and every cell of the two lent list buffers; and the part
 -- of a buffer that holds the last sweep.
-use Rattle.std.specs.Prelude.{ℕ, zero, suc, Bool, cond, List, [], ◌∷◌, leb, length, take}
+use Rattle.std.specs.Prelude.{ℕ, zero, suc, Bool, cond, List, [], ◌∷◌, leb, length, take, Result, Ok, Err}
 use Rattle.base.specs.Row.{is_odd}
 use Rattle.disac4.specs.Need.{list_need}
 use Rattle.disac4.specs.Report.{domain_cells}
 use Rattle.disac4.specs.System.{network_at}
 use Rattle.format.specs.Version.{row_words}
+use Rattle.faults.specs.declared.Decline.{Decline}
 use Rattle.faults.specs.declared.Fault.TheVariants.{ShortLists}
 use Rattle.lending.specs.Call.{Outcome, outcome, overwrite, Buffer, Call}
 use Rattle.network.specs.Network.{Network, loaded}
 use Rattle.network.specs.Sweep.{swept, sweep_count}
 use Rattle.plan.specs.Decode.{plan_fault}
-use Rattle.sweeping.specs.declared.Swept.{Swept}
-use Rattle.sweeping.specs.declared.Swept.TheVariants.{Sweeps, Declined}
 
 -- the two list buffers that are lent to the sweeps, before them or after them
 pub record TwoLists : Type 0 where
@@ -57,16 +56,16 @@ abbrev pub second_buffer : Buffer TwoLists
 second_buffer = record { cells = λ l. l.second; need = list_need; fault = ShortLists }
 
 -- sweeps until the first that deletes nothing: their number, and what they leave
-unfoldable pub sweep_outcome : ℕ → Network → TwoLists → Outcome Swept TwoLists
-sweep_outcome words net l = outcome (Sweeps (sweep_count net)) (after_sweeps words net (sweep_count net) l)
+unfoldable pub sweep_outcome : ℕ → Network → TwoLists → Outcome (Result ℕ Decline) TwoLists
+sweep_outcome words net l = outcome (Ok (sweep_count net)) (after_sweeps words net (sweep_count net) l)
 
 -- the first call: the sweeps of a plan
-abbrev pub sweep_call : List ℕ → Call Swept TwoLists
+abbrev pub sweep_call : List ℕ → Call (Result ℕ Decline) TwoLists
 sweep_call bytes = record {
   buffers = first_buffer ∷ second_buffer ∷ [];
   fault = plan_fault bytes;
   does = sweep_outcome (row_words bytes) (network_at bytes);
-  declines = Declined;
+  declines = Err;
 }
 
 -- that many cells from the start, or an empty part if there are fewer

@@ -1,5 +1,6 @@
 // The slow engine on an accepted plan: sweeps between two lent buffers, until one deletes nothing. A variable's domain stands in
 // them as its list, the row of its values.
+// Plan and cells are two parameters: `index::parts` says why.
 #![tactic(auto)]
 
 ghost use Rattle.std.specs.Prelude.{◌↔◌, ◌≡◌, ◌<◌, ◌≤◌, length};
@@ -19,7 +20,6 @@ ghost use Rattle.sweeping.specs.Outcome.{TwoLists, two_lists, after_sweeps, swee
 ghost use Rattle.sweeping.specs.Sweeping.{SweepsTo, SweepsAt};
 
 use disac4::WORK_NEED;
-use faults::Decline;
 use format::limits::MAX_LABELS;
 use format::lists::row_at;
 use format::read;
@@ -28,13 +28,6 @@ use index::parts;
 use listing::put_row;
 use revising::revised_row;
 
-// The answer of the sweeps: how many there were, or why the call was declined.
-#[derive(Drop)]
-pub enum Swept {
-    Sweeps(usize),
-    Declined(Decline),
-}
-
 // The row of the values of x that a sweep of the lists keeps.
 fn sweep_row(plan: &[u8], cells: &[u16], lists: &[u16], x: usize) -> usize
     requires { Ready plan.now cells.now × (x < variable_count plan.now) }
@@ -42,21 +35,12 @@ fn sweep_row(plan: &[u8], cells: &[u16], lists: &[u16], x: usize) -> usize
 {
     let variables = read::variable_count(plan);
     let mut row = row_at(lists, row_words(plan), x);
-    let mut y = 0;
-    while y < variables {
+    for y in 0..variables {
         if parts::linked(cells, x, y) {
             row = revised_row(plan, cells, lists, x, y, row);
         }
-        y += 1;
     }
     row
-}
-
-// 1 where two rows differ, else 0.
-fn rows_differ(a: usize, b: usize) -> usize
-    ensures { (result ≤ 1) × ((result ≡ 0) ↔ (a ≡ b)) }
-{
-    if a == b { 0 } else { 1 }
 }
 
 // One sweep: reads the one buffer and writes the other. It counts the lists that it shortens, so that 0 says that it deletes
@@ -68,12 +52,10 @@ fn sweep(plan: &[u8], cells: &[u16], from: &[u16], to: &mut [u16]) -> usize
     let words = row_words(plan);
     let variables = read::variable_count(plan);
     let mut shorter = 0;
-    let mut x = 0;
-    while x < variables {
+    for x in 0..variables {
         let row = sweep_row(plan, cells, from, x);
-        shorter += rows_differ(row, row_at(from, words, x));
+        shorter += usize::from(row != row_at(from, words, x));
         put_row(to, words, x, row);
-        x += 1;
     }
     shorter
 }
@@ -97,15 +79,13 @@ fn put_loaded(plan: &[u8], cells: &[u16], lists: &mut [u16])
 {
     let words = row_words(plan);
     let variables = read::variable_count(plan);
-    let mut x = 0;
-    while x < variables {
+    for x in 0..variables {
         put_row(
             lists,
             words,
             x,
             base::power(parts::size(plan, cells, x)) - 1,
         );
-        x += 1;
     }
 }
 
@@ -115,22 +95,20 @@ fn sweep_all(plan: &[u8], cells: &[u16], first: &mut [u16], second: &mut [u16]) 
     requires { Ready plan.now cells.now × (list_need ≤ length first.old) × (list_need ≤ length second.old) }
     ensures { (l : TwoLists) → two_lists first.old second.old ≡ after_sweeps (row_words plan.now) (network_at plan.now) 0 l → (result ≡ sweep_count (network_at plan.now)) × (two_lists first.new second.new ≡ after_sweeps (row_words plan.now) (network_at plan.now) result l) }
 {
-    let mut k = 0;
-    while k <= MAX_LABELS {
+    for k in 0..=MAX_LABELS {
         let shorter = sweep_at(plan, cells, k, first, second);
-        k += 1;
         if shorter == 0 {
-            return k;
+            return k + 1;
         }
     }
-    k
+    MAX_LABELS + 1
 }
 
 // The sweeps of an accepted plan. No work cells are lent to them, so the plan's index is written into a local array of as many
 // cells as a run needs.
 pub fn sweep_plan(plan: &[u8], first: &mut [u16], second: &mut [u16]) -> usize
     requires { (plan_fault plan.now ≡ none) × (list_need ≤ length first.old) × (list_need ≤ length second.old) }
-    ensures { Gives (sweep_outcome (row_words plan.now) (network_at plan.now) (two_lists first.old second.old)) (Swept.Sweeps result) (two_lists first.new second.new) }
+    ensures { Gives (sweep_outcome (row_words plan.now) (network_at plan.now) (two_lists first.old second.old)) (Ok result) (two_lists first.new second.new) }
 {
     let mut cells = [0u16; WORK_NEED];
     indexing::index_plan(plan, &mut cells);

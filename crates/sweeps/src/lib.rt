@@ -8,35 +8,25 @@ ghost use Rattle.lending.specs.Call.{Gives, buffer_checks, outcome_of};
 ghost use Rattle.sweeping.specs.Outcome.{two_lists, first_buffer, second_buffer, sweep_call, part_of, last_sweep};
 
 use disac4::LIST_NEED;
-use faults::{Fault, Verdict, decline_at};
-use plan::Checked;
-use sweeping::{Swept, sweep_plan};
+use faults::{Decline, Fault, decline_at};
+use lending::check_length;
+use sweeping::sweep_plan;
 
 // 10: whether both buffers are long enough.
-fn check_lists(first: &[u16], second: &[u16]) -> Verdict
+fn check_lists(first: &[u16], second: &[u16]) -> Result<(), Fault>
     ensures { result ≡ verdict_of (first_fault (buffer_checks (first_buffer ∷ second_buffer ∷ []) (two_lists first.now second.now))) }
 {
-    if first.len() < LIST_NEED {
-        return Verdict::Fails(Fault::ShortLists);
-    }
-    if second.len() < LIST_NEED {
-        return Verdict::Fails(Fault::ShortLists);
-    }
-    Verdict::Passes
+    check_length(first, LIST_NEED, Fault::ShortLists)?;
+    check_length(second, LIST_NEED, Fault::ShortLists)
 }
 
 // Plays the sweeps of a plan between two list buffers, and gives their number; declines 10, then as the plan check does.
-pub fn run_sweeps(plan: &[u8], first: &mut [u16], second: &mut [u16]) -> Swept
+pub fn run_sweeps(plan: &[u8], first: &mut [u16], second: &mut [u16]) -> Result<usize, Decline>
     ensures { Gives (outcome_of (sweep_call plan.now) (two_lists first.old second.old)) result (two_lists first.new second.new) }
 {
-    let verdict = check_lists(first, second);
-    if let Verdict::Fails(fault) = verdict {
-        return Swept::Declined(decline_at(fault, 0));
-    }
-    match parser::check_plan(plan) {
-        Checked::Declined(d) => Swept::Declined(d),
-        Checked::Accepted(f) => Swept::Sweeps(sweep_plan(plan, first, second)),
-    }
+    check_lists(first, second).map_err(|fault| decline_at(fault, 0))?;
+    parser::check_plan(plan)?;
+    Ok(sweep_plan(plan, first, second))
 }
 
 // That many cells from the start, or an empty part if there are fewer.

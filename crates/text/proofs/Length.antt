@@ -28,7 +28,7 @@ use Rattle.disac4.proofs.RunFits.{RunFits, run_fits}
 use Rattle.disac4.specs.Report.{report_of}
 use Rattle.disac4.specs.System.{system_at}
 use Rattle.disac4.specs.Turn.{Turn}
-use Rattle.disac4.specs.declared.Answer.TheVariants.{Reported, Declined}
+use Rattle.std.specs.Prelude.{Ok, Err}
 use Rattle.disac4.specs.declared.Report.{Report}
 use Rattle.disac4.specs.declared.Status.{Status}
 use Rattle.disac4.specs.declared.Status.TheVariants.{Open, Closed, Bare}
@@ -103,7 +103,7 @@ domain_length number owner size row code a b h =
     ))
 
 module _ (b lists : List ℕ) where
-  pub decline_short : (d : Decline) → d.place < 2 ^ 64 → length (printed (Declined d) b lists) ≤ text_room
+  pub decline_short : (d : Decline) → d.place < 2 ^ 64 → length (printed (Err d) b lists) ≤ text_room
   unfolding printed decline_line declined_word
   decline_short d h =
       simp length-append
@@ -147,13 +147,13 @@ module _ (b lists : List ℕ) where
               (omega (arith, fits.workers_high, (fits.each_variable x h).owner_high)) (code_small x h)),
         )
 
-    report_short : (r : Report) → Report64 r → length (printed (Reported r) b lists) ≤ text_room
+    report_short : (r : Report) → Report64 r → length (printed (Ok r) b lists) ≤ text_room
     unfolding printed
     report_short r h = simp length-append (omega (arith, report_length r h, lines_length))
 
 -- the text of a run's report, whatever its turns
 pub run_short : (b lists : List ℕ) (plan : Plan) → decode b ≡ accepted plan → ((i : ℕ) → byte_at b i < 256) → (ts : List Turn)
-    → length (printed (Reported (report_of (system_at b) ts)) b lists) ≤ text_room
+    → length (printed (Ok (report_of (system_at b) ts)) b lists) ≤ text_room
 unfolding report_of
 run_short b lists plan e bytes ts =
     let read = decode_plan b plan e in

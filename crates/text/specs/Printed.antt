@@ -1,11 +1,9 @@
 -- What the program prints (document 01, "Plans worked by hand"), as ASCII bytes.
-use Rattle.std.specs.Prelude.{ℕ, List, [], ◌∷◌, ◌++◌}
+use Rattle.std.specs.Prelude.{ℕ, List, [], ◌∷◌, ◌++◌, Result, Ok, Err}
 use Rattle.plan.specs.Decode.{plan_of}
 use Rattle.format.specs.Version.{row_words}
 use Rattle.faults.specs.Fault.{number_of}
 use Rattle.faults.specs.declared.Decline.{Decline}
-use Rattle.disac4.specs.declared.Answer.{Answer}
-use Rattle.disac4.specs.declared.Answer.TheVariants.{Reported, Declined}
 use Rattle.disac4.specs.declared.Report.{Report}
 use Rattle.disac4.specs.declared.Status.{Status}
 use Rattle.disac4.specs.declared.Status.TheVariants.{Open, Closed, Bare}
@@ -32,9 +30,9 @@ unfoldable pub decline_line : Decline → List ℕ
 decline_line d = declined_word ++ spaced (number_of d.fault) ++ spaced d.place ++ newline
 
 -- an answer with the plan's bytes and the list cells: the report and a line for each variable, or the line of a decline
-unfoldable pub printed : Answer → List ℕ → List ℕ → List ℕ
-printed (Reported r) b lists = report_line r ++ variable_lines (row_words b) (plan_of b) lists
-printed (Declined d) b lists = decline_line d
+unfoldable pub printed : Result Report Decline → List ℕ → List ℕ → List ℕ
+printed (Ok r) b lists = report_line r ++ variable_lines (row_words b) (plan_of b) lists
+printed (Err d) b lists = decline_line d
 
 -- the bytes that every text of a run fits
 abbrev pub text_room : ℕ

@@ -1,42 +1,42 @@
 // The first line of a report, and the line of a decline.
-ghost use Rattle.buffer.specs.Buffer.{Adds};
+ghost use Rattle.std.specs.Prelude.{◌≡◌};
+ghost use Rattle.buffer.specs.Taken.{Takes};
 ghost use Rattle.text.specs.Printed.{status_word, report_line, decline_line};
 
-use buffer::{push, push_spaced, push_word};
+use buffer::Text;
 use disac4::{Report, Status};
 use faults::Decline;
 
 // A status as its word.
-fn push_status(out: &mut [u8], at: usize, status: Status) -> usize
-    ensures { Adds (status_word status) out.old at out.new result }
+#[tactic(auto, unfolding(crate::specs::Printed::status_word))]
+fn word(status: Status) -> &'static str
+    ensures { result.now ≡ status_word status }
 {
     match status {
-        Status::Open => push_word(out, at, b"open"),
-        Status::Closed => push_word(out, at, b"closed"),
-        Status::Bare => push_word(out, at, b"bare"),
+        Status::Open => "open",
+        Status::Closed => "closed",
+        Status::Bare => "bare",
     }
 }
 
 // The report in its order.
-pub fn push_report(out: &mut [u8], at: usize, report: Report) -> usize
-    ensures { Adds (report_line report) out.old at out.new result }
+pub fn push_report(text: &mut Text<'_>, report: Report)
+    ensures { Takes (report_line report) text.old text.new }
 {
-    let status = report.status;
-    let mut place = push_status(out, at, status);
-    place = push_spaced(out, place, report.changes);
-    place = push_spaced(out, place, report.sends);
-    place = push_spaced(out, place, report.polls);
-    place = push_spaced(out, place, report.empty);
-    push(out, place, b'\n')
+    text.push_word(word(report.status));
+    text.push_spaced(report.changes);
+    text.push_spaced(report.sends);
+    text.push_spaced(report.polls);
+    text.push_spaced(report.empty);
+    text.push(b'\n');
 }
 
 // `declined`, number, place.
-pub fn push_decline(out: &mut [u8], at: usize, decline: Decline) -> usize
-    ensures { Adds (decline_line decline) out.old at out.new result }
+pub fn push_decline(text: &mut Text<'_>, decline: Decline)
+    ensures { Takes (decline_line decline) text.old text.new }
 {
-    let fault = decline.fault;
-    let mut place = push_word(out, at, b"declined");
-    place = push_spaced(out, place, faults::fault_number(fault));
-    place = push_spaced(out, place, decline.place);
-    push(out, place, b'\n')
+    text.push_word("declined");
+    text.push_spaced(usize::from(decline.fault));
+    text.push_spaced(decline.place);
+    text.push(b'\n');
 }

@@ -24,8 +24,6 @@ use Rattle.disac4.specs.Report.{final, lowest_empty, status_of, report_of}
 use Rattle.disac4.specs.Round.{round_run_turns}
 use Rattle.disac4.specs.System.{System, system_of, system_at}
 use Rattle.disac4.specs.Turn.{Turn, allowed, turns_of}
-use Rattle.disac4.specs.declared.Answer.{Answer}
-use Rattle.disac4.specs.declared.Answer.TheVariants.{Reported}
 use Rattle.disac4.specs.declared.Report.{Report}
 use Rattle.disac4.specs.declared.Status.{Status}
 use Rattle.disac4.specs.declared.Status.TheVariants.{Open, Closed, Bare}
@@ -38,10 +36,9 @@ use Rattle.plan.proofs.WellFormed.{read_well_formed}
 use Rattle.plan.specs.Answer.{plan_check, checked_as, counts_of}
 use Rattle.plan.specs.Decode.{plan_of, decode, accepted, declined}
 use Rattle.plan.specs.Network.{network_of}
-use Rattle.plan.specs.declared.Checked as checked
-use Rattle.plan.specs.declared.Checked.{Checked}
 use Rattle.faults.specs.declared.Decline.{Decline}
 use Rattle.plan.specs.declared.Counts.{Counts}
+use Rattle.std.specs.Prelude.{Result, Ok, Err}
 use Rattle.tinshrew.proofs.Calls.{call_tells}
 use Rattle.tinshrew.proofs.Faults.{declined_plan, in_table, no_turns_fit, in_short_table}
 use Rattle.tinshrew.specs.Conclusions.{AcceptedPlan, DeclinedPlan, turn_given, round_given, PlanAndBuffersFit, TurnsFit, list_length, ReportedRun, RunTells}
@@ -49,8 +46,8 @@ use Rattle.tinshrew.specs.Conclusions.{AcceptedPlan, DeclinedPlan, turn_given, r
 -- ---- the plan check
 
 -- the plan check accepts a plan exactly if it has none of the faults 1 to 8
-pub check_accepts : (b : List ℕ) (r : Checked) → r ≡ plan_check b
-    → ((f : Counts) × (r ≡ checked.TheVariants.Accepted f)) ↔ (decode b ≡ accepted (plan_of b))
+pub check_accepts : (b : List ℕ) (r : Result Counts Decline) → r ≡ plan_check b
+    → ((f : Counts) × (r ≡ Ok f)) ↔ (decode b ≡ accepted (plan_of b))
 unfolding plan_check
 check_accepts b r g = (
   λ s. decoded b (no_fault b _ s.0 (sym s.1 ∙ g ∙ plan_check_lem b)).0,
@@ -58,7 +55,7 @@ check_accepts b r g = (
 )
 
 -- and then gives p, n, the number of rules and L
-pub check_accepted : (b : List ℕ) (f : Counts) → checked.TheVariants.Accepted f ≡ plan_check b → AcceptedPlan b f
+pub check_accepted : (b : List ℕ) (f : Counts) → Ok f ≡ plan_check b → AcceptedPlan b f
 unfolding counts_of
 check_accepted b f g =
     let sound = no_fault b _ f (g ∙ plan_check_lem b) in
@@ -75,13 +72,13 @@ check_accepted b f g =
     })
 
 -- it declines a plan exactly for its first fault
-pub check_declines : (b : List ℕ) (r : Checked) → r ≡ plan_check b
-    → (d : Decline) → (r ≡ checked.TheVariants.Declined d) ↔ (decode b ≡ declined d)
+pub check_declines : (b : List ℕ) (r : Result Counts Decline) → r ≡ plan_check b
+    → (d : Decline) → (r ≡ Err d) ↔ (decode b ≡ declined d)
 unfolding plan_check
 check_declines b r g d = (λ e. not_decoded b d (its_fault b _ d (sym e ∙ g ∙ plan_check_lem b)), λ e. g ∙ ap checked_as e)
 
 -- whose number is from 1 to 8
-pub check_declined : (b : List ℕ) (d : Decline) → checked.TheVariants.Declined d ≡ plan_check b → DeclinedPlan b d
+pub check_declined : (b : List ℕ) (d : Decline) → Err d ≡ plan_check b → DeclinedPlan b d
 check_declined b d g = declined_plan b d ((check_declines b _ g d).0 refl)
 
 -- ---- the status
@@ -104,7 +101,7 @@ abbrev Writes : Run → Lent → Type 0
 Writes run l = Written l run.plan run.turns (run.leaves l)
 
 module _ (run : Run) (l after : Lent) (r : Report) (accepts : decode run.plan ≡ accepted (plan_of run.plan))
-    (writes : Writes run l) (g : Gives (played run l) (Reported r) after) where
+    (writes : Writes run l) (g : Gives (played run l) (Ok r) after) where
   abbrev sys : System
   sys = system_at run.plan
 
@@ -186,10 +183,10 @@ list_allowed b ts l fits =
     (each_gather (λ t. allowed (system_at b).workers t ≡ true) (length ts / 2) _ (λ i h. (fits.all_allowed i h, tt)))
 
 -- it reports exactly if none of the listed faults is there; otherwise it declines the first of them, with a number from 1 to 12
-pub turn_run_tells : (b ts : List ℕ) (l : Lent) (a : Answer) (after : Lent) → Gives (run_of (turn_run b ts) l) a after
+pub turn_run_tells : (b ts : List ℕ) (l : Lent) (a : Result Report Decline) (after : Lent) → Gives (run_of (turn_run b ts) l) a after
     → let here = turn_given b ts l in RunTells (PlanAndBuffersFit here × TurnsFit here) (turn_run b ts) here (outcome a after)
 turn_run_tells b ts l a after g =
-    call_tells (call_of (turn_run b ts)) Reported (run_answers (turn_run b ts)) b ts refl (between 1 12) l a after g _ (λ h. h, λ h. h)
+    call_tells (call_of (turn_run b ts)) Ok (run_answers (turn_run b ts)) b ts refl (between 1 12) l a after g _ (λ h. h, λ h. h)
     (in_table (turn_given b ts l) refl (λ k low high. between_intro 1 12 k low (omega arith)) (λ h. refl) (λ h. refl)) _
     (λ r fits turns did.
     reported_run (turn_run b ts) l after r fits.accepts (both_written b l fits.buffers fits.accepts (turns_of ts)) did
@@ -198,11 +195,11 @@ turn_run_tells b ts l a after g =
 -- ---- the round run
 
 -- it reports exactly if the buffers are long enough and the plan is accepted; otherwise the number is from 1 to 10, never 11 or 12
-pub round_run_tells : (b : List ℕ) (l : Lent) (a : Answer) (after : Lent) → Gives (run_of (round_run b) l) a after
+pub round_run_tells : (b : List ℕ) (l : Lent) (a : Result Report Decline) (after : Lent) → Gives (run_of (round_run b) l) a after
     → RunTells (PlanAndBuffersFit (round_given b l)) (round_run b) (round_given b l) (outcome a after)
 round_run_tells b l a after g =
     let c = call_of (round_run b) in
-    call_tells c Reported (run_answers (round_run b)) b [] (sym (no_turn_list b)) (between 1 10) l a after g _
+    call_tells c Ok (run_answers (round_run b)) b [] (sym (no_turn_list b)) (between 1 10) l a after g _
     (λ h. (h, no_turns_fit c b (between 1 10) l), λ h. h.0)
     (in_short_table c b (between 1 10) l refl (λ k low high. between_intro 1 10 k low (omega arith))) _
     (λ r fits turns did.
@@ -223,6 +220,6 @@ round_ends b l after r ran =
     )
 
 -- so of what the call gives
-pub round_run_ends : (b : List ℕ) (l : Lent) (r : Report) (after : Lent) → Gives (run_of (round_run b) l) (Reported r) after
+pub round_run_ends : (b : List ℕ) (l : Lent) (r : Report) (after : Lent) → Gives (run_of (round_run b) l) (Ok r) after
     → RoundCloses (system_at b) × (r.status ≡ Open → ⊥)
 round_run_ends b l r after g = round_ends b l after r ((round_run_tells b l _ after g).told r refl)

@@ -9,17 +9,16 @@ use Rattle.lending.proofs.Outcome.{Answers}
 use Rattle.lending.specs.Call.{Outcome, outcome, Gives, Call}
 use Rattle.disac4.proofs.Outcome.{run_answers}
 use Rattle.disac4.specs.Outcome.{Lent, Run, call_of, run_of, turn_run, round_run}
-use Rattle.disac4.specs.declared.Answer.{Answer}
-use Rattle.disac4.specs.declared.Answer.TheVariants.{Reported}
 use Rattle.disac4.specs.declared.Status.{Status}
 use Rattle.disac4.specs.declared.Status.TheVariants.{Open, Closed, Bare}
 use Rattle.plan.specs.Answer.{plan_check}
 use Rattle.faults.specs.Fault.{number_of}
-use Rattle.plan.specs.declared.Checked as checked
-use Rattle.plan.specs.declared.Checked.{Checked}
+use Rattle.disac4.specs.declared.Report.{Report}
+use Rattle.plan.specs.declared.Counts.{Counts}
 use Rattle.faults.specs.declared.Decline.{Decline}
 use Rattle.faults.proofs.FaultNumbers.{number_range}
 use Rattle.numbers.specs.Numbers.{answer_numbers, checked_numbers, status_number}
+use Rattle.std.specs.Prelude.{Result, Ok, Err}
 use Rattle.tinshrew.proofs.Conclusions.{check_accepts, check_accepted, check_declined, turn_run_tells, round_run_tells, round_ends}
 use Rattle.tinshrew.specs.Conclusions.{Given, turn_given, PlanAndBuffersFit, TurnsFit, DeclinedCall, CallTells, RunTells}
 use Rattle.tinshrew.specs.Numbers.{GivesNumbers, NumbersTell, CheckNumbers, RunNumbers, RoundNumbers}
@@ -75,10 +74,10 @@ module _ {A L S : Type 0} (c : Call A L) (success : S → A) (answers : Answers 
       (tells.declined_call d.0 d.1))) (answers.each a)
 
 -- those of any run
-run_numbers : {Fitting : Type 0} {run : Run} {g : Given Lent} {after : Lent} (a : Answer) → RunTells Fitting run g (outcome a after)
+run_numbers : {Fitting : Type 0} {run : Run} {g : Given Lent} {after : Lent} (a : Result Report Decline) → RunTells Fitting run g (outcome a after)
     → RunNumbers (answer_numbers a) Fitting run g after
 unfolding answer_numbers
-run_numbers {run = run} = call_numbers (call_of run) Reported (run_answers run) answer_numbers (λ r. refl) (λ d. refl)
+run_numbers {run = run} = call_numbers (call_of run) Ok (run_answers run) answer_numbers (λ r. refl) (λ d. refl)
 
 -- of the turn run
 pub turn_numbers : (b ts : List ℕ) (l : Lent) (out : List ℕ) (after : Lent) → GivesNumbers answer_numbers (run_of (turn_run b ts) l) out after
@@ -111,9 +110,9 @@ pub check_numbers : (b out : List ℕ) → out ≡ checked_numbers (plan_check b
 unfolding checked_numbers
 check_numbers b out e = rw e (go (plan_check b) refl)
   where
-    go : (r : Checked) → r ≡ plan_check b → CheckNumbers b (checked_numbers r)
-    go (checked.TheVariants.Accepted f) is =
+    go : (r : Result Counts Decline) → r ≡ plan_check b → CheckNumbers b (checked_numbers r)
+    go (Ok f) is =
         let plan = check_accepted b f is in
         success_tells (λ f. refl) (λ d. refl) f plan.accepts plan
-    go (checked.TheVariants.Declined d) is =
+    go (Err d) is =
         decline_tells (λ f. refl) (λ d. refl) d (check_accepts b _ is).1 (check_declined b d is)

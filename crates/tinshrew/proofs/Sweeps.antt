@@ -26,7 +26,7 @@ use Rattle.disac4.specs.Turn.{Turn}
 use Rattle.disac4.specs.declared.Report.{Report}
 use Rattle.disac4.specs.declared.Status.TheVariants.{Open}
 use Rattle.faults.specs.declared.Decline.{Decline}
-use Rattle.lending.proofs.Outcome.{Answers}
+use Rattle.lending.proofs.Outcome.{Answers, result_answers}
 use Rattle.lending.proofs.Overwritten.{overwrite_starts}
 use Rattle.lending.specs.Call.{outcome, Gives, outcome_of}
 use Rattle.format.specs.Version.{row_words}
@@ -43,8 +43,7 @@ use Rattle.plan.specs.Decode.{plan_of}
 use Rattle.plan.specs.Network.{network_of}
 use Rattle.sweeping.proofs.Ended.{ended, alike_part}
 use Rattle.sweeping.specs.Outcome.{TwoLists, one_of, holding, swept_cells, after_sweeps, sweep_outcome, sweep_call, part_of, last_sweep}
-use Rattle.sweeping.specs.declared.Swept.{Swept}
-use Rattle.sweeping.specs.declared.Swept.TheVariants.{Sweeps, Declined}
+use Rattle.std.specs.Prelude.{Result, Ok}
 use Rattle.tinshrew.proofs.Calls.{call_tells}
 use Rattle.tinshrew.proofs.Conclusions.{reported_closed}
 use Rattle.tinshrew.proofs.Faults.{no_turns_fit, in_short_table}
@@ -137,29 +136,20 @@ module _ (b : List ℕ) (l : TwoLists) (fits : PlanAndBuffersFit (sweeps_given b
 
 -- ---- the first call
 
--- its answers are numbers of sweeps and declines
-number_or_decline : (a : Swept) → ((k : ℕ) × (a ≡ Sweeps k)) ⊎ ((d : Decline) × (a ≡ Declined d))
-number_or_decline (Sweeps k) = inl (k, refl)
-number_or_decline (Declined d) = inr (d, refl)
-
-sweep_answers : (b : List ℕ) → Answers (sweep_call b) Sweeps
+-- it answers as a call does
+sweep_answers : (b : List ℕ) → Answers (sweep_call b) Ok
 unfolding sweep_outcome
-sweep_answers b = record {
-  each = number_or_decline;
-  apart = λ s d e. let z : ◌≡◌ {A = ℕ} 0 1 = cc in omega arith;
-  own = λ d e p. cc;
-  does = λ l. (sweep_count (network_at b), refl);
-}
+sweep_answers b = result_answers (sweep_call b) (λ d. refl) (λ l. (sweep_count (network_at b), refl))
 
 -- it gives the number of sweeps exactly if both buffers are long enough and the plan is accepted; otherwise it declines, with a
 -- number from 1 to 8 or with 10
-pub run_sweeps_tells : (b : List ℕ) (l : TwoLists) (a : Swept) (after : TwoLists) → Gives (outcome_of (sweep_call b) l) a after
+pub run_sweeps_tells : (b : List ℕ) (l : TwoLists) (a : Result ℕ Decline) (after : TwoLists) → Gives (outcome_of (sweep_call b) l) a after
     → SweepsTell b l (outcome a after)
 unfolding sweep_outcome
 run_sweeps_tells b l a after g =
     let c = sweep_call b in
     let numbers = (sweeps_given b l).numbers in
-    call_tells c Sweeps (sweep_answers b) b [] (sym (no_turn_list b)) numbers l a after g _
+    call_tells c Ok (sweep_answers b) b [] (sym (no_turn_list b)) numbers l a after g _
     (λ h. (h, no_turns_fit c b numbers l), λ h. h.0)
     (in_short_table c b numbers l refl (λ k low high. or_left (eqb k 10) (between_intro 1 8 k low high))) _
     (λ k fits turns did.
@@ -172,7 +162,7 @@ pub sweep_numbers : (b : List ℕ) (l : TwoLists) (out : List ℕ) (after : TwoL
 unfolding swept_numbers
 sweep_numbers b l out after g =
     rw g.numbers
-    (call_numbers (sweep_call b) Sweeps (sweep_answers b) swept_numbers (λ k. refl) (λ d. refl) _
+    (call_numbers (sweep_call b) Ok (sweep_answers b) swept_numbers (λ k. refl) (λ d. refl) _
     (run_sweeps_tells b l _ after (with_answer _ _ out after g)))
 
 -- ---- the second call
@@ -215,7 +205,7 @@ largest_part b l after k part told e =
     rw e (record { whole = ap length told.part_cells ∙ told.lists_length; largest = told.part_largest })
 
 -- a caller of both
-pub both_tell : (b : List ℕ) (l after : TwoLists) (k : ℕ) (part : List ℕ) → Gives (outcome_of (sweep_call b) l) (Sweeps k) after
+pub both_tell : (b : List ℕ) (l after : TwoLists) (k : ℕ) (part : List ℕ) → Gives (outcome_of (sweep_call b) l) (Ok k) after
     → part ≡ last_sweep k (list_length b) after → LargestPart b part
 both_tell b l after k part g = largest_part b l after k part ((run_sweeps_tells b l _ after g).told k refl)
 

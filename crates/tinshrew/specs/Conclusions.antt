@@ -1,6 +1,6 @@
 -- What a caller may conclude from what a call gives, as claims. `proofs/Conclusions.antt` proves them from the calls' contracts. What
 -- C's numbers tell is in `Numbers.antt`, and all of the slow engine's in `Sweeps.antt`.
-use Rattle.std.specs.Prelude.{ℕ, ◌*◌, ◌/◌, ◌<◌, ◌≤◌, Bool, true, false, List, [], ◌↔◌, ◌≡◌, length}
+use Rattle.std.specs.Prelude.{ℕ, ◌*◌, ◌/◌, ◌<◌, ◌≤◌, Bool, true, false, List, [], ◌↔◌, ◌≡◌, length, Ok, Err}
 use Rattle.format.specs.Limits.{max_version, max_workers, max_variables, max_labels, max_constraints}
 use Rattle.format.specs.Version.{version, row_words}
 use Rattle.base.specs.Choice.{between, all_of}
@@ -11,7 +11,6 @@ use Rattle.disac4.specs.Outcome.{Lent, RunOutcome, Run, call_of, turn_run, round
 use Rattle.disac4.specs.Report.{final, report_of}
 use Rattle.disac4.specs.System.{System, bound_of, system_at}
 use Rattle.disac4.specs.Turn.{allowed, turn_at, turn_list_fits}
-use Rattle.disac4.specs.declared.Answer.TheVariants.{Reported, Declined}
 use Rattle.disac4.specs.declared.Report.{Report}
 use Rattle.disac4.specs.declared.Status.TheVariants.{Open}
 use Rattle.network.specs.Consistency.{Within, Largest}
@@ -185,4 +184,4 @@ module _ (run : Run) (before after : Lent) where
 
 -- all that a run tells
 abbrev pub RunTells : Type 0 → Run → Given Lent → RunOutcome → Type 0
-RunTells Fitting run g o = CallTells g Reported Declined Fitting (ReportedRun run g.before o.left) o
+RunTells Fitting run g o = CallTells g Ok Err Fitting (ReportedRun run g.before o.left) o

@@ -1,15 +1,13 @@
 -- What a call for C leaves its caller: numbers in `out`, and the lent buffers. And what a caller may conclude from them, as claims
 -- that `proofs/Numbers.antt` proves.
-use Rattle.std.specs.Prelude.{ℕ, List, ◌↔◌, ◌⊎◌, ◌≡◌, get_or}
+use Rattle.std.specs.Prelude.{ℕ, List, ◌↔◌, ◌⊎◌, ◌≡◌, get_or, Ok, Err}
 use Rattle.disac4.specs.Demands.{RoundCloses}
 use Rattle.lending.specs.Call.{Outcome}
 use Rattle.disac4.specs.Outcome.{Lent, Run, round_run}
 use Rattle.disac4.specs.System.{system_at}
-use Rattle.disac4.specs.declared.Answer.TheVariants.{Reported, Declined}
 use Rattle.disac4.specs.declared.Status.TheVariants.{Open, Closed, Bare}
 use Rattle.numbers.specs.Numbers.{answer_numbers, checked_numbers, status_number}
 use Rattle.plan.specs.Decode.{decode, accepted, plan_of}
-use Rattle.plan.specs.declared.Checked as checked
 use Rattle.faults.specs.declared.Decline.{Decline}
 use Rattle.tinshrew.specs.Conclusions.{AcceptedPlan, DeclinedPlan, Given, round_given, PlanAndBuffersFit, DeclinedCall, ReportedRun}
 
@@ -32,13 +30,13 @@ pub record NumbersTell {A S : Type 0} (numbers : A → List ℕ) (success : S �
 -- those of the plan check: 0 and the counts exactly if the plan is accepted
 abbrev pub CheckNumbers : List ℕ → List ℕ → Type 0
 CheckNumbers b out =
-    NumbersTell checked_numbers checked.TheVariants.Accepted checked.TheVariants.Declined out (decode b ≡ accepted (plan_of b))
+    NumbersTell checked_numbers Ok Err out (decode b ≡ accepted (plan_of b))
     (AcceptedPlan b) (DeclinedPlan b)
 
 -- those of a run: 0 and the report exactly if plan, turns and buffers are fit for it
 abbrev pub RunNumbers : List ℕ → Type 0 → Run → Given Lent → Lent → Type 0
 RunNumbers out Fitting run g after =
-    NumbersTell answer_numbers Reported Declined out Fitting (ReportedRun run g.before after) (DeclinedCall g after)
+    NumbersTell answer_numbers Ok Err out Fitting (ReportedRun run g.before after) (DeclinedCall g after)
 
 -- those of a round run
 pub record RoundNumbers (b : List ℕ) (l : Lent) (out : List ℕ) (after : Lent) : Type 0 where

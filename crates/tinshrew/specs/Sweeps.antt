@@ -1,5 +1,5 @@
 -- What a caller may conclude from the slow engine's two calls, as claims. `proofs/Sweeps.antt` proves them from the contracts.
-use Rattle.std.specs.Prelude.{ℕ, suc, ◌<◌, ◌≤◌, true, ◌||◌, List, [], ◌↔◌, ◌⊎◌, ◌≡◌, eqb, length, get_or, take}
+use Rattle.std.specs.Prelude.{ℕ, suc, ◌<◌, ◌≤◌, true, ◌||◌, List, [], ◌↔◌, ◌⊎◌, ◌≡◌, eqb, length, get_or, take, Result, Ok, Err}
 use Rattle.base.specs.Choice.{between}
 use Rattle.disac4.specs.Demands.{closed_after}
 use Rattle.disac4.specs.Outcome.{Lent, Run, final_cells}
@@ -7,6 +7,7 @@ use Rattle.disac4.specs.Report.{final}
 use Rattle.disac4.specs.Round.{round_run_turns}
 use Rattle.disac4.specs.System.{network_at, system_at}
 use Rattle.disac4.specs.Turn.{Turn}
+use Rattle.faults.specs.declared.Decline.{Decline}
 use Rattle.disac4.specs.declared.Report.{Report}
 use Rattle.disac4.specs.declared.Status.TheVariants.{Open}
 use Rattle.format.specs.Version.{row_words}
@@ -18,8 +19,6 @@ use Rattle.network.specs.Sweep.{swept, sweep_count}
 use Rattle.numbers.specs.Numbers.{swept_numbers}
 use Rattle.plan.specs.Decode.{decode, accepted, plan_of}
 use Rattle.sweeping.specs.Outcome.{TwoLists, one_of, holding, swept_cells, sweep_call, last_sweep}
-use Rattle.sweeping.specs.declared.Swept.{Swept}
-use Rattle.sweeping.specs.declared.Swept.TheVariants.{Sweeps, Declined}
 use Rattle.tinshrew.specs.Conclusions.{Given, given, PlanAndBuffersFit, DeclinedCall, CallTells, list_length, ReportedRun}
 use Rattle.tinshrew.specs.Numbers.{NumbersTell}
 
@@ -76,14 +75,14 @@ module _ (b : List ℕ) (before after : TwoLists) where
         → (i : ℕ) → i < list_length b → get_or l'.lists i 0 ≡ get_or (part k) i 0
 
 -- all that the sweeps tell
-abbrev pub SweepsTell : List ℕ → TwoLists → Outcome Swept TwoLists → Type 0
+abbrev pub SweepsTell : List ℕ → TwoLists → Outcome (Result ℕ Decline) TwoLists → Type 0
 SweepsTell b l o =
-    CallTells (sweeps_given b l) Sweeps Declined (PlanAndBuffersFit (sweeps_given b l)) (SweptPlan b l o.left) o
+    CallTells (sweeps_given b l) Ok Err (PlanAndBuffersFit (sweeps_given b l)) (SweptPlan b l o.left) o
 
 -- the same from the numbers that C gets
 abbrev pub SweepNumbers : List ℕ → TwoLists → List ℕ → TwoLists → Type 0
 SweepNumbers b l out after =
-    NumbersTell swept_numbers Sweeps Declined out (PlanAndBuffersFit (sweeps_given b l)) (SweptPlan b l after)
+    NumbersTell swept_numbers Ok Err out (PlanAndBuffersFit (sweeps_given b l)) (SweptPlan b l after)
     (DeclinedCall (sweeps_given b l) after)
 
 -- the buffer of that number: 1 is the first, 2 the second

@@ -76,7 +76,7 @@ pub fn tinshrew_version() -> usize
     VERSION
 }
 
-// How many cells of a lent buffer the calls need; 0 for a number that no buffer has.
+// How many cells of a lent buffer the calls need; 0 for a number that no buffer has. For C buffers have numbers.
 pub fn tinshrew_cells(buffer: usize) -> usize
     ensures { result ≡ cells_needed buffer }
 {

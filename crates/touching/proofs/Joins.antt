@@ -1,6 +1,6 @@
 -- Rows of bits that take in pairs of variables: row by row, and constraint by constraint.
 use Prim.Native.Nat.{ℕ, zero, suc, ◌+◌, ◌<◌, ◌≤◌}
-use mathlib.Core.Bool.{Bool, false, ◌||◌, or_assoc}
+use mathlib.Core.Bool.{Bool, false, ◌||◌}
 use mathlib.Core.List.{List}
 use mathlib.Core.Path.{◌≡◌, refl, sym, ◌∙◌, ap}
 use native.Mathlib.Omega.{arith}
@@ -26,18 +26,6 @@ module _ (n : ℕ) where
     room = r;
     held = λ x y l p. or_none (bit (get_or rows y 0) x) (t x y) (h x y);
     counted = omega arith;
-  }
-
-  -- some taken in, and then others
-  pub joined_more : (t u v : ℕ → ℕ → Bool) (before rows after : List ℕ) (fresh more : ℕ) → Joined n t before rows fresh
-      → Joined n u rows after more → ((x y : ℕ) → v x y ≡ t x y || u x y) → Joined n v before after (fresh + more)
-  joined_more t u v before rows after fresh more j k h = record {
-    room = k.room;
-    held = λ x y l p.
-        k.held x y l p ∙ ap (λ (a : Bool). a || u x y) (j.held x y l p)
-        ∙ or_assoc (bit (get_or before y 0) x) (t x y) (u x y)
-        ∙ ap (λ (a : Bool). bit (get_or before y 0) x || a) (sym (h x y));
-    counted = omega (arith, j.counted, k.counted);
   }
 
   -- the same pairs by another test

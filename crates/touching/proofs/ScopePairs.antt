@@ -53,9 +53,6 @@ module _ (b : List ℕ) (at : ℕ) where
   unfolding joins_at among_first
   joins_none x y = and_false_right (eqb (suc y) (scope_at b at 0)) refl
 
-  pub joins_more : (j x y : ℕ) → joins_below b at (j + 1) x y ≡ joins_below b at j x y || joins_at b at j x y
-  joins_more j x y = rw add-one
-
   module _ (up : Ascends b at) where
     numbers_ascend : (i j x y : ℕ) → i < scope_size b at → j < scope_size b at → scope_at b at i ≡ suc x → scope_at b at j ≡ suc y
         → x < y → i < j

@@ -1,4 +1,5 @@
 // Treating a label: which labels lose it as a support, and which of them are deleted.
+// Plan and cells are two parameters: `index::parts` says why.
 #![tactic(auto)]
 
 ghost use Rattle.std.specs.Prelude.{true, ◌≡◌, ℕ, ◌^◌, ◌<◌, ◌≤◌, length};
@@ -84,20 +85,18 @@ fn touch_variables(plan: &[u8], cells: &mut [u16], i: usize, y: usize, w: usize)
     }
 }
 
-// Row i takes the oldest label from its work list: 1 if there is one, and 0 if not.
-pub fn treat(plan: &[u8], cells: &mut [u16], i: usize) -> usize
+// Row i takes the oldest label from its work list. It says whether there is one.
+pub fn treat(plan: &[u8], cells: &mut [u16], i: usize) -> bool
     requires { Ready plan.now cells.old × (i < max_workers) × HeadLoaded plan.now (mem_of cells.old) i }
     ensures { Acts (treat_m (system_at plan.now) i) (mem_of cells.old) (mem_of cells.new) result }
 {
     let head = layout::get(cells, layout::WORKERS, i, layout::HEAD);
-    if head >= layout::get(cells, layout::WORKERS, i, layout::TAIL) {
-        return 0;
-    }
-    if head >= layout::LABELROOM {
-        return 0;
+    let tail = layout::get(cells, layout::WORKERS, i, layout::TAIL);
+    if head >= tail || head >= layout::LABELROOM {
+        return false;
     }
     let c = layout::get(cells, layout::WORK, i, head);
     layout::put(cells, layout::WORKERS, i, layout::HEAD, head + 1);
     touch_variables(plan, cells, i, c / VALUEROOM, c % VALUEROOM);
-    1
+    true
 }

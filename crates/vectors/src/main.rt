@@ -3,10 +3,7 @@
 // program has to give were worked out by hand from documents 01 and 02.
 #![tactic(auto)]
 
-ghost use Rattle.std.specs.Prelude.{◌≡◌, ◌≤◌, ◌<◌, length, take};
-
-use plan::Checked;
-use std::io::Read;
+ghost use Rattle.std.specs.Prelude.{◌≤◌, ◌<◌, length};
 
 // The bytes of the input that are read.
 const TEXT_ROOM: usize = 65536;
@@ -15,123 +12,68 @@ const TEXT_ROOM: usize = 65536;
 fn value(c: u8) -> u8
     ensures { result < 16 }
 {
-    if c < b'0' {
-        return 0;
+    match c {
+        b'0'..=b'9' => c - b'0',
+        b'A'..=b'F' => c - b'A' + 10,
+        _ => 0,
     }
-    if c <= b'9' {
-        return c - b'0';
-    }
-    if c < b'A' {
-        return 0;
-    }
-    if c <= b'F' {
-        return c - b'A' + 10;
-    }
-    0
 }
 
-// Writes the bytes that a line spells to `plan`, and returns how many they are.
-fn parse(line: &[u8], plan: &mut [u8]) -> usize
-    ensures { result ≤ length plan.new }
+// The bytes that a line spells, put into `plan` as far as it holds them.
+fn parse<'b>(line: &[u8], plan: &'b mut [u8]) -> &'b [u8]
+    ensures { length result.now ≤ length plan.old }
 {
     let mut used = 0;
-    let mut i = 0;
-    while i + 1 < line.len() {
-        if line[i] == b' ' {
-            i += 1;
+    let mut rest = line;
+    while let [high, low, ..] = rest {
+        if *high == b' ' {
+            rest = &rest[1..];
             continue;
         }
         if used == plan.len() {
-            return used;
+            break;
         }
-        plan[used] = value(line[i]) * 16 + value(line[i + 1]);
+        plan[used] = value(*high) * 16 + value(*low);
         used += 1;
-        i += 2;
+        rest = &rest[2..];
     }
-    used
-}
-
-fn number(rt: &impl Print, n: usize) {
-    let _ = print!(rt; " {n}");
+    &plan[..used]
 }
 
 fn accepted(rt: &impl Print, f: plan::Counts) {
-    let _ = print!(rt; "accepted");
-    number(rt, f.workers);
-    number(rt, f.variables);
-    number(rt, f.constraints);
-    number(rt, f.labels);
-    let _ = println!(rt);
+    let _ = println!(rt;
+        "accepted {} {} {} {}",
+        f.workers, f.variables, f.constraints, f.labels
+    );
 }
 
 fn declined(rt: &impl Print, d: faults::Decline) {
-    let fault = d.fault;
-    let _ = print!(rt; "declined");
-    number(rt, faults::fault_number(fault));
-    number(rt, d.place);
-    let _ = println!(rt);
+    let _ = println!(rt; "declined {} {}", usize::from(d.fault), d.place);
 }
 
 fn answer(rt: &impl Print, bytes: &[u8]) {
     match parser::check_plan(bytes) {
-        Checked::Accepted(f) => accepted(rt, f),
-        Checked::Declined(d) => declined(rt, d),
+        Ok(f) => accepted(rt, f),
+        Err(d) => declined(rt, d),
     }
 }
 
 fn answer_line(rt: &impl Print, line: &[u8]) {
-    if 0 < line.len() {
-        if line[0] == b'#' {
-            return;
-        }
+    if !line.starts_with(b"#") {
+        let mut bytes = [0u8; 8192];
+        answer(rt, parse(line, &mut bytes));
     }
-    let mut bytes = [0u8; 8192];
-    let n = parse(line, &mut bytes);
-    answer(rt, &bytes[..n]);
-}
-
-// Where the line that starts at `from` ends.
-fn line_end(text: &[u8], from: usize) -> usize
-    requires { from ≤ length text.now }
-    ensures { (from ≤ result) × (result ≤ length text.now) }
-{
-    let mut end = from;
-    while end < text.len() {
-        if text[end] == b'\n' {
-            return end;
-        }
-        end += 1;
-    }
-    end
 }
 
 fn answer_lines(rt: &impl Print, text: &[u8]) {
-    let mut from = 0;
-    while from < text.len() {
-        let end = line_end(text, from);
-        answer_line(rt, &text[from..end]);
-        from = end + 1;
+    for line in text.split_inclusive(|byte| *byte == b'\n') {
+        answer_line(rt, line.strip_suffix(b"\n").unwrap_or(line));
     }
-}
-
-// Reads until the buffer is full, the input ends or a read fails, and returns how many bytes it put at the buffer's start.
-fn fill(input: &mut impl Read, buf: &mut [u8]) -> usize
-    ensures within { result ≤ length buf.new }
-    ensures first { result ≡ length (take result buf.new) }
-{
-    let mut count = 0;
-    while count < buf.len() {
-        let some = input.read(&mut buf[count..]).unwrap_or(0);
-        if some == 0 {
-            break;
-        }
-        count += some;
-    }
-    count
 }
 
 fn main(rt: HostRuntime) {
     let mut text = [0u8; TEXT_ROOM];
-    let n = fill(&mut rt.reader(), &mut text);
-    answer_lines(&rt, &text[..n]);
+    // Where a read fails, what came before it is answered.
+    let (text, _) = input::fill(&mut rt.reader(), &mut text);
+    answer_lines(&rt, text);
 }

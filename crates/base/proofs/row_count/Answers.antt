@@ -8,9 +8,6 @@ use Rattle.base.specs.Row.{row_count}
 use Rattle.base.proofs.row_count.Goals as goal
 use Rattle.base.proofs.row_count.Goals.{After-count_four-count, At-loop-rest}
 
-pub loop-rest-init : goal.loop-rest-init
-loop-rest-init c = (omega arith, λ width h. omega arith)
-
 -- when the values 0 to 3 of the rest are counted too: with the count of the others they make the row's count
 module _ (c : After-count_four-count) where
   abbrev loop-of : At-loop-rest
@@ -28,9 +25,6 @@ overflow_add-count c =
     let row = (loop-of (goal.at.overflow_add-count c).After-count_four-count).args.row in
     let fits : row < 2 ^ 64 = omega arith in
     omega (arith, counted (goal.at.overflow_add-count c).After-count_four-count 64 fits, row_count_small 64 row fits)
-
-pub loop-rest-smaller : goal.loop-rest-smaller
-loop-rest-smaller c = omega (arith, c.loop-rest-test.true)
 
 pub loop-rest-preserved : goal.loop-rest-preserved
 loop-rest-preserved c = (omega (arith, (loop-of (goal.at.loop-rest-preserved c).After-count_four-count).loop-rest.invariant.0), counted (goal.at.loop-rest-preserved c).After-count_four-count)

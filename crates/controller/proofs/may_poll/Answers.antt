@@ -2,10 +2,10 @@
 use Rattle.controller.specs.Controller.{may_poll_t}
 use Rattle.controller.proofs.may_poll.Goals as goal
 
-pub returns-then-t : goal.returns-then-t
+pub returns-then-not-t : goal.returns-then-not-t
 unfolding may_poll_t
-returns-then-t c = rw c.if-t.true
+returns-then-not-t c = rw c.if-not-t.true
 
-pub returns : goal.returns
+pub returns-else-not-t : goal.returns-else-not-t
 unfolding may_poll_t
-returns c = rw c.if-t.false
+returns-else-not-t c = rw c.if-not-t.false

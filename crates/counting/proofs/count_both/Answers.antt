@@ -26,17 +26,6 @@ module _ (c : After-linked) where
       let p = sym (c.linked.ensures c.args.plan.now c.requires.0.index) ∙ e in
       (p, sym (linked_symmetric (plan_of c.args.plan.now) c.args.x c.args.y) ∙ p)
 
-pub no_rows-others-requires : goal.no_rows-others-requires
-no_rows-others-requires c = tt
-
-pub support_rows-rows-requires : goal.support_rows-rows-requires
-support_rows-rows-requires c =
-    (c.requires.0, (found (goal.at.support_rows-rows-requires c).After-linked _ c.if-linked.true).0, c.no_rows-others.ensures)
-
-pub put_counts-requires : goal.put_counts-requires
-put_counts-requires c =
-    (c.requires.0, (found (goal.at.put_counts-requires c).After-linked _ c.if-linked.true).0, c.support_rows-rows.ensures.0)
-
 pub put_counts-requires-then-linked : goal.put_counts-requires-then-linked
 put_counts-requires-then-linked c = (
   ready_kept c.args.plan.now c.args.cells.now _ c.requires.0 c.put_counts.auto.cells c.put_counts.ensures

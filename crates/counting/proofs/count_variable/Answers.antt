@@ -17,16 +17,10 @@ count_both-requires c = (
   c.requires.1,
 )
 
-pub overflow_add-y : goal.overflow_add-y
-overflow_add-y c = omega arith
-
-pub loop-y-smaller : goal.loop-y-smaller
-loop-y-smaller c = omega arith
-
 pub loop-y-preserved : goal.loop-y-preserved
 loop-y-preserved c =
-    done_more c.loop-y.invariant (omega arith) c.count_both.auto.cells c.count_both.ensures
+    done_more c.loop-y.invariant c.count_both.auto.cells c.count_both.ensures
 
 pub returns : goal.returns
 unfolding count_variable_m
-returns c = done_all _ c.loop-y.invariant (omega (arith, c.loop-y-test.false))
+returns c = done_all _ c.loop-y.invariant (omega arith)

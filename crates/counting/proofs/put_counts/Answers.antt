@@ -35,13 +35,6 @@ module _ (t : In-loop-v) where
       ≡ support_row (network_of (plan_of t.args.plan.now)) t.args.x t.args.y t.loop-v.v
   given = t.requires.2.each t.loop-v.v (omega (arith, t.loop-v-test.true, t.size-n.ensures))
 
-pub bounds-rows-v : goal.bounds-rows-v
-bounds-rows-v c =
-    omega (arith, c.loop-v-test.true, c.size-n.ensures, c.requires.2.long)
-
-pub row_count-requires : goal.row_count-requires
-row_count-requires c = tt
-
 -- its count
 module _ (c : After-row_count) where
   counted : (c.row_count.result ≡ support_count (network_of (plan_of c.args.plan.now)) c.args.x c.loop-v.v c.args.y)
@@ -65,20 +58,14 @@ put-requires c =
       counted (goal.at.put-requires c).After-row_count,
     ))
 
-pub overflow_add-v : goal.overflow_add-v
-overflow_add-v c = omega arith
-
-pub loop-v-smaller : goal.loop-v-smaller
-loop-v-smaller c = omega arith
-
 pub loop-v-preserved : goal.loop-v-preserved
 unfolding system_of
 loop-v-preserved c =
-    done_more c.loop-v.invariant (omega arith) c.put.auto.cells
+    done_more c.loop-v.invariant c.put.auto.cells
     (c.put.ensures
     ∙ ap₂ (λ (at n : ℕ). store (mem_of c.loop-v.cells) COUNTERS at c.loop-v.v n) c.counter_row-at.ensures.0 (counted (goal.at.loop-v-preserved c).After-row_count).0)
 
 pub returns : goal.returns
 unfolding count_pair_m system_of network_of
 returns c =
-    done_all _ c.loop-v.invariant (omega (arith, c.loop-v-test.false, c.size-n.ensures.0))
+    done_all _ c.loop-v.invariant (omega (arith, c.size-n.ensures.0))

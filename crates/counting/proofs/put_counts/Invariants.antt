@@ -1,4 +1,3 @@
-use Prim.Native.Nat.{◌-◌}
 use Rattle.cells.proofs.Done.{Done}
 use Rattle.cells.specs.Memory.{mem_of}
 use Rattle.cells.specs.View.{counter_row}
@@ -8,7 +7,4 @@ use Rattle.counting.proofs.put_counts.Given as goal
 
 abbrev pub invariant-loop-v : goal.invariant-loop-v
 invariant-loop-v l =
-    Done (count_value_m (system_at l.plan) l.x l.y (counter_row (mem_of l.initial.cells) l.x l.y)) l.n l.initial.cells l.v l.cells
-
-abbrev pub decreases-loop-v : goal.decreases-loop-v
-decreases-loop-v l = l.n - l.v
+    Done (count_value_m (system_at l.plan) l.x l.y (counter_row (mem_of l.initial.cells) l.x l.y)) l.initial.cells l.v l.cells

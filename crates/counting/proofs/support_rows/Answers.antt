@@ -22,13 +22,9 @@ pub size-m-requires : goal.size-m-requires
 size-m-requires c =
     (c.requires.0, (linked_inside c.args.plan.now c.requires.0.sound c.args.x c.args.y c.requires.1).1)
 
-pub no_rows-rows-requires : goal.no_rows-rows-requires
-no_rows-rows-requires c = tt
-
 pub loop-v-init : goal.loop-v-init
 unfolding row_of
 loop-v-init c = (
-  omega arith,
   record { long = c.no_rows-rows.ensures.long; each = λ w h. absurd (omega arith) },
   c.requires.2,
 )
@@ -65,13 +61,10 @@ overflow_cast-rows c =
       supports_fit (plan-of (goal.at.overflow_cast-rows c).In-loop-v) c.requires.0.sound c.args.x c.args.y c.requires.1 c.loop-v.v _ (found (goal.at.overflow_cast-rows c).After-support_row-row),
     )
 
-pub bounds-rows-v : goal.bounds-rows-v
-bounds-rows-v c = small (goal.at.bounds-rows-v c).In-loop-v
-
 pub gather-requires : goal.gather-requires
 unfolding network_of
 gather-requires c =
-    let g = c.loop-v.invariant.2 in
+    let g = c.loop-v.invariant.1 in
     record {
       long = g.long;
       few = omega (arith, c.size-m.ensures.1);
@@ -84,18 +77,11 @@ gather-requires c =
       lower = gathered_small (plan_of (plan-of (goal.at.gather-requires c).In-loop-v)) c.args.x c.args.y c.loop-v.v c.loop-v.others g;
     }
 
-pub overflow_add-v : goal.overflow_add-v
-overflow_add-v c = omega arith
-
-pub loop-v-smaller : goal.loop-v-smaller
-loop-v-smaller c = omega arith
-
 pub loop-v-preserved : goal.loop-v-preserved
 loop-v-preserved c =
     let at = c.loop-v in (
-      omega arith,
-      rows_more _ at.v at.rows _ (small (goal.at.loop-v-preserved c).In-loop-v) at.invariant.1 (found (goal.at.loop-v-preserved c).After-support_row-row),
-      gathered_more (plan_of (plan-of (goal.at.loop-v-preserved c).In-loop-v)) c.args.x c.args.y at.v at.others _ c.support_row-row.result at.invariant.2 (found (goal.at.loop-v-preserved c).After-support_row-row)
+      rows_more _ at.v at.rows _ (small (goal.at.loop-v-preserved c).In-loop-v) at.invariant.0 (found (goal.at.loop-v-preserved c).After-support_row-row),
+      gathered_more (plan_of (plan-of (goal.at.loop-v-preserved c).In-loop-v)) c.args.x c.args.y at.v at.others _ c.support_row-row.result at.invariant.1 (found (goal.at.loop-v-preserved c).After-support_row-row)
           c.gather.ensures,
     )
 
@@ -103,9 +89,9 @@ pub returns : goal.returns
 unfolding network_of
 returns c =
     let b = c.args.plan.now in
-    let e : c.loop-v.v ≡ c.size-n.result = omega (arith, c.loop-v-test.false, c.loop-v.invariant.0) in
+    let e : c.loop-v.v ≡ c.size-n.result = omega arith in
     let all = e ∙ c.size-n.ensures.0 in (
-      rw all at c.loop-v.invariant.1,
+      rw all at c.loop-v.invariant.0,
       gathered_all (plan_of b) c.args.x c.args.y c.loop-v.others
-          (size_low b c.requires.0.sound c.args.x c.args.y c.requires.1) (rw all at c.loop-v.invariant.2),
+          (size_low b c.requires.0.sound c.args.x c.args.y c.requires.1) (rw all at c.loop-v.invariant.1),
     )

@@ -1,4 +1,3 @@
-use Prim.Native.Nat.{◌-◌, ◌≤◌}
 use Rattle.cells.specs.Layout.{VALUEROOM}
 use Rattle.counting.proofs.CountLaws.{gathered}
 use Rattle.counting.specs.Count.{FirstRows, support_row}
@@ -8,7 +7,4 @@ use Rattle.counting.proofs.support_rows.Given as goal
 
 abbrev pub invariant-loop-v : goal.invariant-loop-v
 invariant-loop-v l =
-    (l.v ≤ l.n) × FirstRows (support_row (network_of (plan_of l.plan)) l.x l.y) l.v l.rows × FirstRows (gathered (plan_of l.plan) l.x l.y l.v) VALUEROOM l.others
-
-abbrev pub decreases-loop-v : goal.decreases-loop-v
-decreases-loop-v l = l.n - l.v
+    FirstRows (support_row (network_of (plan_of l.plan)) l.x l.y) l.v l.rows × FirstRows (gathered (plan_of l.plan) l.x l.y l.v) VALUEROOM l.others

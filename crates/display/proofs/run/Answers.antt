@@ -1,13 +1,11 @@
--- `display::run` is a run by rounds or by the turn list. Assumes nothing.
+-- `display::run` is a run by the turn list, or by rounds where there is none. Assumes nothing.
 use Rattle.display.specs.Shown.{run_by}
 use Rattle.display.proofs.run.Goals as goal
 
-pub returns-then-rounds : goal.returns-then-rounds
+pub returns-in-Some-clause-by_turns : goal.returns-in-Some-clause-by_turns
 unfolding run_by
-returns-then-rounds c =
-    rw c.if-rounds.true c.run_round.ensures
+returns-in-Some-clause-by_turns c = rw c.in-Some.is c.run_turns.ensures
 
-pub returns-else-rounds : goal.returns-else-rounds
+pub returns-in-None-clause-by_rounds : goal.returns-in-None-clause-by_rounds
 unfolding run_by
-returns-else-rounds c =
-    rw c.if-rounds.false c.run_turns.ensures
+returns-in-None-clause-by_rounds c = rw c.in-None.is c.run_round.ensures

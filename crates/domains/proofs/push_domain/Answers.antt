@@ -8,8 +8,4 @@ pub returns : goal.returns
 unfolding domain_line
 returns c =
     rw (sym c.byte_at.ensures.0)
-    (c.push_number-place.ensures
-    then c.push_spaced-place.ensures
-    then c.push-place.ensures
-    then c.push_codes-place.ensures
-    then c.push.ensures)
+    (c.push_number.ensures then c.push_spaced.ensures then c.push.ensures then c.push_codes.ensures then c.push-2.ensures)

@@ -1,5 +1,6 @@
--- `idle::none_known` gives a table of zeros. Assumes nothing.
+-- `idle::none_known` gives a table with no flag set. Assumes nothing.
 use Prim.Native.Nat.{◌+◌, ◌*◌}
+use mathlib.Core.Bool.{false}
 use mathlib.Core.Path.{refl}
 use native.Mathlib.Omega.{arith}
 use lib.ListN.{get_or-replicate}
@@ -7,4 +8,4 @@ use Rattle.flags.specs.Flags.{actions, cell_count}
 use Rattle.idle.proofs.none_known.Goals as goal
 
 pub returns : goal.returns
-returns c = (refl, λ k d h e. get_or-replicate cell_count (k * actions + d) 0 0 (omega arith))
+returns c = (refl, λ k d h e. get_or-replicate cell_count (k * actions + d) false false (omega arith))

@@ -18,7 +18,7 @@ module _ (l : At-loop-c) where
   -- while constraints are put, the sections' places are known
   places-known : Located l.args.plan.now l.loop-c.cells
   places-known =
-      located_done l.args.plan.now l.requires l.loop-c.invariant.2
+      located_done l.args.plan.now l.requires l.loop-c.invariant
       (λ c m k. constraint_keeps PLACES 0 k c (inl (λ e. omega arith, λ e. omega arith, λ a e. omega arith)) l.args.plan.now m)
 
   -- the plan's variables and constraints are few
@@ -26,40 +26,29 @@ module _ (l : At-loop-c) where
   few = few_sections l.args.plan.now l.requires.sound
 
 pub loop-c-init : goal.loop-c-init
-loop-c-init c = (c.variable_count-variables.ensures.0, c.constraint_count-count.ensures.0, done_none)
-
-pub overflow_add-variables : goal.overflow_add-variables
-overflow_add-variables c =
-    omega (arith, c.loop-c.invariant, few (goal.at.overflow_add-variables c).At-loop-c)
-
-pub overflow_add-variables-in-loop-c : goal.overflow_add-variables-in-loop-c
-overflow_add-variables-in-loop-c c =
-    omega (arith, c.loop-c.invariant, few (goal.at.overflow_add-variables-in-loop-c c).At-loop-c)
+loop-c-init c = done_none
 
 pub place-at-requires : goal.place-at-requires
 place-at-requires c =
-    (places-known (goal.at.place-at-requires c).At-loop-c, omega (arith, c.loop-c.invariant, c.loop-c-test.true))
+    (places-known (goal.at.place-at-requires c).At-loop-c, omega (arith, c.variable_count-variables.ensures.0, c.constraint_count-count.ensures.0))
 
 -- the constraint's place, and its scope
 pub put_constraint-requires : goal.put_constraint-requires
 put_constraint-requires c =
     let b = c.args.plan.now in
-    let listed : c.loop-c.c < constraint_count b = omega (arith, c.loop-c.invariant, c.loop-c-test.true) in
+    let listed : c.loop-c.c < constraint_count b = omega (arith, c.constraint_count-count.ensures.0) in
     let found : c.place-at.result ≡ constraint_start b c.loop-c.c =
-    c.place-at.ensures.start ∙ ap (section_start b) (omega (arith, c.loop-c.invariant.0)) in (
+    c.place-at.ensures.start ∙ ap (section_start b) (omega (arith, c.variable_count-variables.ensures.0)) in (
       subst (Scoped b) (sym found) (scoped b c.requires.sound c.loop-c.c listed),
       found,
       omega (arith, few (goal.at.put_constraint-requires c).At-loop-c),
-      omega (arith, c.loop-c.invariant.2.size, c.requires.long),
+      omega (arith, c.loop-c.invariant.size, c.requires.long),
     )
 
 pub loop-c-preserved : goal.loop-c-preserved
 loop-c-preserved c =
-    let inv = c.loop-c.invariant in
-    (inv.0, inv.1, done_more inv.2 (omega (arith, c.loop-c-test.true)) c.put_constraint.auto.cells c.put_constraint.ensures)
+    done_more c.loop-c.invariant c.put_constraint.auto.cells c.put_constraint.ensures
 
 pub returns : goal.returns
 unfolding constraints_m
-returns c =
-    let inv = c.loop-c.invariant in
-    done_all _ inv.2 (omega (arith, inv, c.loop-c-test.false))
+returns c = done_all _ c.loop-c.invariant (omega (arith, c.constraint_count-count.ensures.0))

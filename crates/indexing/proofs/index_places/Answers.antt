@@ -14,7 +14,7 @@ use Rattle.indexing.proofs.index_places.Goals as goal
 
 pub loop-k-init : goal.loop-k-init
 unfolding section_start
-loop-k-init c = (c.section_count-count.ensures.0, refl, done_none)
+loop-k-init c = (refl, done_none)
 
 pub put-requires : goal.put-requires
 put-requires c =
@@ -23,27 +23,25 @@ put-requires c =
     (omega (
       arith,
       c.loop-k.invariant,
+      c.section_count-count.ensures.0,
       c.requires,
       few_sections b c.requires.0,
-      start_fits b c.requires.0 c.loop-k.k (omega (arith, c.loop-k.invariant)),
+      start_fits b c.requires.0 c.loop-k.k (omega (arith, c.section_count-count.ensures.0)),
     ))
 
 pub behind-at-requires : goal.behind-at-requires
 behind-at-requires c =
-    omega (arith, start_inside c.args.plan.now c.requires.0 c.loop-k.k (omega (arith, c.loop-k.invariant)), c.loop-k.invariant)
+    omega (arith, start_inside c.args.plan.now c.requires.0 c.loop-k.k (omega (arith, c.section_count-count.ensures.0)), c.loop-k.invariant)
 
 pub loop-k-preserved : goal.loop-k-preserved
 unfolding section_start
 loop-k-preserved c =
     let put = c.put in (
-      c.loop-k.invariant.0,
-      rw add-one (c.behind-at.ensures ∙ ap (behind c.args.plan.now) c.loop-k.invariant.1),
-      done_more c.loop-k.invariant.2 (omega arith) put.auto.cells
-          (put.ensures ∙ ap (store (mem_of c.loop-k.cells) PLACES 0 c.loop-k.k) c.loop-k.invariant.1),
+      rw add-one (c.behind-at.ensures ∙ ap (behind c.args.plan.now) c.loop-k.invariant.0),
+      done_more c.loop-k.invariant.1 put.auto.cells
+          (put.ensures ∙ ap (store (mem_of c.loop-k.cells) PLACES 0 c.loop-k.k) c.loop-k.invariant.0),
     )
 
 pub returns : goal.returns
 unfolding places_m
-returns c =
-    let inv = c.loop-k.invariant in
-    done_all _ inv.2 (omega (arith, inv, c.loop-k-test.false))
+returns c = done_all _ c.loop-k.invariant.1 (omega (arith, c.section_count-count.ensures.0))

@@ -1,13 +1,8 @@
 -- `indexing::lead` puts a variable in front of a row's chain for another one that it is linked with. Assumes nothing.
-use mathlib.Core.Path.{refl}
 use native.Mathlib.Omega.{arith}
-use Rattle.cells.proofs.Ranges.{may_put}
 use Rattle.cells.specs.Memory.{mem_of}
 use Rattle.index.proofs.Leads.{lead_passed, lead_put}
 use Rattle.indexing.proofs.lead.Goals as goal
-
-pub put-requires-then-get-ne0 : goal.put-requires-then-get-ne0
-put-requires-then-get-ne0 c = may_put _ _ _ refl _ _ (omega (arith, c.put.auto.cells))
 
 pub returns-then-get-ne0 : goal.returns-then-get-ne0
 returns-then-get-ne0 c =

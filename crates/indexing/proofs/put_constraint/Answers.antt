@@ -1,14 +1,12 @@
 -- `indexing::put_constraint` puts a table over its two variables, or a limit over each two of its scope. Assumes nothing.
-use Prim.Native.Nat.{ℕ, ◌-◌, ◌≤◌}
-use borrow.Author.Tests.{eq-eqb, ne_eqb}
+use Prim.Native.Nat.{ℕ, ◌≤◌}
 use mathlib.Core.List.{List}
-use mathlib.Core.Path.{sym, ◌∙◌, ap, ap₂}
 use native.Mathlib.Omega.{arith}
-use Rattle.base.proofs.Choice.{cond_true, cond_false}
-use Rattle.cells.specs.Memory.{mem_of}
-use Rattle.format.specs.Format.{constraint_start, first_at, second_at, kind_at}
+use Rattle.format.proofs.KindTests.{same_kind}
+use Rattle.format.specs.Format.{first_at, second_at}
 use Rattle.format.specs.Limits.{max_variables}
-use Rattle.index.specs.Index.{Scoped, table_m, limits_m, constraint_m}
+use Rattle.format.specs.declared.kind.Kind.TheVariants.{Table}
+use Rattle.index.specs.Index.{Scoped, constraint_m}
 use Rattle.plan.proofs.InOrder.{scope_first, scope_second}
 use Rattle.rows.specs.Permits.{is_table}
 use Rattle.indexing.proofs.put_constraint.Goals as goal
@@ -38,30 +36,12 @@ put_table-requires c =
       c.requires.3,
     )
 
-pub returns-then-kind-eq0 : goal.returns-then-kind-eq0
+pub returns-then-eq : goal.returns-then-eq
 unfolding constraint_m is_table
-returns-then-kind-eq0 c =
-    let b = c.args.plan.now in
-    let k = c.args.c in
-    let m = mem_of c.args.cells.now in
-    let there = constraint_start b k in
-    let here = c.requires.1 in
-    c.put_table.ensures
-    ∙ ap₂ (λ (x y : ℕ). table_m (x - 1) (y - 1) k m) (c.first.ensures.0 ∙ ap (first_at b) here)
-    (c.second.ensures.0 ∙ ap (second_at b) here)
-    ∙ sym
-    (cond_true (table_m (first_at b there - 1) (second_at b there - 1) k m) (limits_m b there m)
-    (eq-eqb (kind_at b there) 0 (ap (kind_at b) (sym here) ∙ sym c.kind.ensures.0 ∙ c.if-kind-eq0.true)))
+returns-then-eq c =
+    rw (← c.requires.1, ← same_kind _ _ Table c.at.ensures, ← c.if-eq.ensures, ← c.first.ensures.0, ← c.second.ensures.0) c.put_table.ensures
 
-pub returns-else-kind-eq0 : goal.returns-else-kind-eq0
+pub returns-else-eq : goal.returns-else-eq
 unfolding constraint_m is_table
-returns-else-kind-eq0 c =
-    let b = c.args.plan.now in
-    let k = c.args.c in
-    let m = mem_of c.args.cells.now in
-    let there = constraint_start b k in
-    let here = c.requires.1 in
-    c.put_limits.ensures ∙ ap (λ (at : ℕ). limits_m b at m) here
-    ∙ sym
-    (cond_false (table_m (first_at b there - 1) (second_at b there - 1) k m) (limits_m b there m)
-    (ne_eqb (kind_at b there) 0 (λ e. c.if-kind-eq0.false (c.kind.ensures.0 ∙ ap (kind_at b) here ∙ e))))
+returns-else-eq c =
+    rw (← c.requires.1, ← same_kind _ _ Table c.at.ensures, ← c.if-eq.ensures) c.put_limits.ensures

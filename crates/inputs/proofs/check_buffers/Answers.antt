@@ -1,19 +1,22 @@
 -- `inputs::check_buffers` gives 9 for too few work cells, then 10 for too few list cells. Assumes nothing.
-use native.Mathlib.Omega.{arith}
-use lib.ListN.{length}
-use borrow.Author.Tests.{le-leb, lt-leb}
-use Rattle.lending.specs.Call.{buffer_checks}
+use mathlib.Core.List.{[], ◌∷◌}
+use mathlib.Core.Path.{◌∙◌}
 use Rattle.disac4.specs.Need.{work_need, list_need}
+use Rattle.disac4.specs.Outcome.{lent, work_buffer, list_buffer}
 use Rattle.inputs.proofs.check_buffers.Goals as goal
+use Rattle.lending.proofs.Buffers.{first_short, first_long}
+use Rattle.lending.specs.Call.{buffer_checks}
+use Rattle.std.proofs.lemmas.Result.{err_from_is_err_and}
 
-pub returns-then-work-lt-WORK_NEED : goal.returns-then-work-lt-WORK_NEED
-unfolding buffer_checks work_need
-returns-then-work-lt-WORK_NEED c = rw (lt-leb work_need _ c.if-work-lt-WORK_NEED.true)
-
-pub returns-then-lists-lt-LIST_NEED : goal.returns-then-lists-lt-LIST_NEED
-unfolding buffer_checks work_need list_need
-returns-then-lists-lt-LIST_NEED c = rw (le-leb work_need (length c.args.work.now) (omega arith), lt-leb list_need _ c.if-lists-lt-LIST_NEED.true)
+pub returns-in_err-check_length : goal.returns-in_err-check_length
+unfolding work_need
+returns-in_err-check_length c =
+    let fails = err_from_is_err_and c.from_residual.result c.from_residual.ensures.1 in
+    let l = lent c.args.work.now c.args.lists.now in
+    rw (fails.1, fails.2) (first_short l work_buffer (list_buffer ∷ []) _ c.check_length.ensures _ c.in_err-check_length.was)
 
 pub returns : goal.returns
 unfolding buffer_checks work_need list_need
-returns c = rw (le-leb work_need _ c.if-work-lt-WORK_NEED.false, le-leb list_need _ c.if-lists-lt-LIST_NEED.false)
+returns c =
+    let l = lent c.args.work.now c.args.lists.now in
+    c.check_length-2.ensures ∙ first_long l work_buffer (list_buffer ∷ []) _ c.check_length.ensures _ c.in_ok-check_length.was

@@ -1,7 +1,7 @@
 -- `listing::put_row` writes a row's words into the cells of its variable. Invariant: the words left, put there, make what all make;
 -- the words left fall. Assumes nothing.
 use Prim.Native.Nat.{ℕ, suc, ◌+◌, ◌-◌, ◌*◌, ◌≤◌}
-use mathlib.Core.Path.{◌≡◌, refl, ◌∙◌, ap}
+use mathlib.Core.Path.{◌≡◌, ◌∙◌, ap}
 use native.Mathlib.Nat.{mul-le-mul_right, mul-suc}
 use native.Mathlib.Omega.{arith}
 use lib.ListN.{length-set}
@@ -17,37 +17,18 @@ low s =
     let a = s.args in
     omega (arith, mul-suc a.words a.x, mul-le-mul_right (suc a.x) s.requires.0, s.requires.1)
 
-pub overflow_mul-start : goal.overflow_mul-start
-overflow_mul-start c = omega (arith, low (goal.at.overflow_mul-start c).Start)
-
-pub loop-k-init : goal.loop-k-init
-loop-k-init c = (omega arith, refl, refl)
-
-pub overflow_sub-k : goal.overflow_sub-k
-overflow_sub-k c = omega (arith, c.loop-k-test.true)
-
-pub overflow_add-lists : goal.overflow_add-lists
-overflow_add-lists c = omega (arith, low (goal.at.overflow_add-lists c).Start, c.loop-k.invariant.0)
-
-pub offset_bounds-lists-start : goal.offset_bounds-lists-start
-offset_bounds-lists-start c = omega (arith, low (goal.at.offset_bounds-lists-start c).Start, c.loop-k.invariant.0)
-
 pub bounds-lists-start : goal.bounds-lists-start
 unfolding list_need
 bounds-lists-start c =
     omega (arith, low (goal.at.bounds-lists-start c).Start, c.requires.2, c.loop-k.invariant, c.loop-k-test.true)
-
-pub loop-k-smaller : goal.loop-k-smaller
-loop-k-smaller c = omega (arith, c.loop-k-test.true)
 
 pub loop-k-preserved : goal.loop-k-preserved
 unfolding put_words
 loop-k-preserved c =
     let l = c.loop-k in
     let e : suc (l.k - 1) ≡ l.k = omega (arith, c.loop-k-test.true) in (
-      omega (arith, l.invariant.0),
-      length-set l.lists _ _ ∙ l.invariant.1,
-      ap (λ (k : ℕ). put_words (c.args.words * c.args.x) k l.rest l.lists) e ∙ l.invariant.2,
+      length-set l.lists _ _ ∙ l.invariant.0,
+      ap (λ (k : ℕ). put_words (c.args.words * c.args.x) k l.rest l.lists) e ∙ l.invariant.1,
     )
 
 pub returns : goal.returns
@@ -56,5 +37,5 @@ returns c =
     let l = c.loop-k in
     let none_left : 0 ≡ l.k = omega (arith, c.loop-k-test.false) in
     ap (λ (k : ℕ). put_words (c.args.words * c.args.x) k l.rest l.lists) none_left
-    ∙ l.invariant.2
+    ∙ l.invariant.1
     ∙ row_put c.args.words c.args.x c.args.row c.args.lists.now (omega (arith, low (goal.at.returns c).Start, c.requires.2))

@@ -1,4 +1,3 @@
-use Prim.Native.Nat.{◌≤◌}
 use mathlib.Core.Path.{◌≡◌}
 use lib.ListN.{length}
 use Rattle.listing.proofs.ListCells.{put_words}
@@ -6,7 +5,4 @@ use Rattle.listing.proofs.put_row.Given as goal
 
 abbrev pub invariant-loop-k : goal.invariant-loop-k
 invariant-loop-k l =
-    (l.k ≤ l.words) × (length l.lists ≡ length l.initial.lists) × (put_words l.start l.k l.rest l.lists ≡ put_words l.start l.words l.row l.initial.lists)
-
-abbrev pub decreases-loop-k : goal.decreases-loop-k
-decreases-loop-k l = l.k
+    (length l.lists ≡ length l.initial.lists) × (put_words l.start l.k l.rest l.lists ≡ put_words l.start l.words l.row l.initial.lists)

@@ -1,6 +1,5 @@
 -- `loading::counted_row` gives the row of the values whose counter is not 0. Assumes nothing.
 use Prim.Native.Nat.{ℕ, ◌-◌}
-use lib.Pow.{pow_pos}
 use mathlib.Core.Bool.{Bool}
 use mathlib.Core.Path.{◌∙◌, ap₂}
 use native.Mathlib.Omega.{arith}
@@ -20,9 +19,6 @@ size-n-requires c =
 pub counter_row-at-requires : goal.counter_row-at-requires
 counter_row-at-requires c =
     linked_row c.args.plan.now c.args.cells.now c.requires.0 c.args.x c.args.y c.requires.1
-
-pub overflow_sub-result : goal.overflow_sub-result
-overflow_sub-result c = omega (arith, c.power.ensures, pow_pos c.size-n.result)
 
 -- the counter of value v is 0
 abbrev lacks : After-counter_row-at → ℕ → Bool

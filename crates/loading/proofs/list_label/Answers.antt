@@ -2,26 +2,15 @@
 use mathlib.Core.Path.{refl}
 use native.Mathlib.Omega.{arith}
 use Rattle.disac4.specs.System.{system_at}
-use Rattle.cells.proofs.RegionsKept.{kept_same, kept_stored}
-use Rattle.index.proofs.Kept.{ready_kept}
-use Rattle.index.proofs.Labels.{located, label_small}
+use Rattle.index.proofs.Labels.{label_small}
 use Rattle.loading.proofs.LoadLaws.{label_deleted, label_kept}
 use Rattle.cells.proofs.Ranges.{may_put}
-use Rattle.cells.specs.Layout.{DOMAIN, LISTED}
 use Rattle.loading.proofs.list_label.Goals as goal
 
 pub put-requires : goal.put-requires
 put-requires c =
     may_put _ _ _ refl _ _
     (omega (arith, c.requires.0.long, label_small c.args.plan.now c.requires.0.sound c.args.x c.args.v c.requires.1))
-
-pub owner-owner-requires : goal.owner-owner-requires
-owner-owner-requires c = (
-  located c.args.plan.now _
-      (ready_kept c.args.plan.now c.args.cells.now _ c.requires.0 c.put.auto.cells c.put.ensures
-      (kept_stored DOMAIN c.args.x c.args.v LISTED (omega arith) kept_same)),
-  c.requires.1.variable,
-)
 
 pub delete-requires : goal.delete-requires
 delete-requires c =

@@ -7,9 +7,6 @@ use Rattle.index.proofs.Labels.{variables_are}
 use Rattle.loading.specs.Load.{list_m}
 use Rattle.loading.proofs.list_plan.Goals as goal
 
-pub variable_count-n-requires : goal.variable_count-n-requires
-variable_count-n-requires c = tt
-
 pub loop-x-init : goal.loop-x-init
 loop-x-init c = done_none
 
@@ -19,15 +16,9 @@ list_variable-requires c = (
   omega (arith, c.variable_count-n.ensures.0),
 )
 
-pub overflow_add-x : goal.overflow_add-x
-overflow_add-x c = omega arith
-
-pub loop-x-smaller : goal.loop-x-smaller
-loop-x-smaller c = omega arith
-
 pub loop-x-preserved : goal.loop-x-preserved
 loop-x-preserved c =
-    done_more c.loop-x.invariant (omega arith) c.list_variable.auto.cells c.list_variable.ensures
+    done_more c.loop-x.invariant c.list_variable.auto.cells c.list_variable.ensures
 
 pub returns : goal.returns
 unfolding list_m

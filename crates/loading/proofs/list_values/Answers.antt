@@ -11,14 +11,8 @@ use Rattle.loading.proofs.Kept.{index_behind, list_label_kept}
 use Rattle.loading.specs.Load.{list_label_m, list_values_m}
 use Rattle.loading.proofs.list_values.Goals as goal
 
-pub size-n-requires : goal.size-n-requires
-size-n-requires c = (c.requires.0, c.requires.1)
-
 pub loop-v-init : goal.loop-v-init
 loop-v-init c = done_none
-
-pub row_holds-requires : goal.row_holds-requires
-row_holds-requires c = omega (arith, c.loop-v-test.true, c.size-n.ensures)
 
 pub list_label-requires : goal.list_label-requires
 list_label-requires c = (
@@ -26,16 +20,10 @@ list_label-requires c = (
   record { variable = c.requires.1; value = omega (arith, c.loop-v-test.true, c.size-n.ensures.0) },
 )
 
-pub overflow_add-v : goal.overflow_add-v
-overflow_add-v c = omega arith
-
-pub loop-v-smaller : goal.loop-v-smaller
-loop-v-smaller c = omega arith
-
 pub loop-v-preserved : goal.loop-v-preserved
 loop-v-preserved c =
     let a = c.args in
-    done_more c.loop-v.invariant (omega arith) c.list_label.auto.cells
+    done_more c.loop-v.invariant c.list_label.auto.cells
     (c.list_label.ensures
     ∙ ap (λ (t : Bool). list_label_m (system_at a.plan.now) a.x c.loop-v.v t (mem_of c.loop-v.cells))
     c.row_holds.ensures)
@@ -44,4 +32,4 @@ pub returns : goal.returns
 unfolding list_values_m
 returns c =
     let a = c.args in
-    done_all _ c.loop-v.invariant (omega (arith, c.loop-v-test.false, c.size-n.ensures.0, size_is a.plan.now a.x))
+    done_all _ c.loop-v.invariant (omega (arith, c.size-n.ensures.0, size_is a.plan.now a.x))

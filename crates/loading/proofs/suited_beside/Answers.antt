@@ -26,10 +26,6 @@ returns-then-not-linked c =
     suited_apart (system_at a.plan.now) (mem_of a.cells.now) a.x a.y a.row
     (told (goal.at.returns-then-not-linked c).After-linked ∙ c.if-not-linked.true) c.requires.3
 
-pub counted_row-requires : goal.counted_row-requires
-counted_row-requires c =
-    (c.requires.0, told (goal.at.counted_row-requires c).After-linked ∙ c.if-not-linked.false)
-
 pub returns : goal.returns
 unfolding system_of network_of
 returns c =

@@ -2,10 +2,10 @@
 use Rattle.numbers.specs.Numbers.{answer_numbers}
 use Rattle.numbers.proofs.answer_numbers.Goals as goal
 
-pub returns-in-Reported : goal.returns-in-Reported
+pub returns-in-Ok : goal.returns-in-Ok
 unfolding answer_numbers
-returns-in-Reported c = rw (c.in-Reported.is, c.status_number.ensures)
+returns-in-Ok c = rw (c.in-Ok.is, c.status_number.ensures)
 
-pub returns-in-Declined : goal.returns-in-Declined
+pub returns-in-Err : goal.returns-in-Err
 unfolding answer_numbers
-returns-in-Declined c = rw (c.in-Declined.is, c.fault_number.ensures)
+returns-in-Err c = rw (c.in-Err.is, c.from.ensures)

@@ -2,10 +2,10 @@
 use Rattle.numbers.specs.Numbers.{checked_numbers}
 use Rattle.numbers.proofs.checked_numbers.Goals as goal
 
-pub returns-in-Accepted : goal.returns-in-Accepted
+pub returns-in-Ok : goal.returns-in-Ok
 unfolding checked_numbers
-returns-in-Accepted c = rw c.in-Accepted.is
+returns-in-Ok c = rw c.in-Ok.is
 
-pub returns-in-Declined : goal.returns-in-Declined
+pub returns-in-Err : goal.returns-in-Err
 unfolding checked_numbers
-returns-in-Declined c = rw (c.in-Declined.is, c.fault_number.ensures)
+returns-in-Err c = rw (c.in-Err.is, c.from.ensures)

@@ -2,10 +2,10 @@
 use Rattle.numbers.specs.Numbers.{swept_numbers}
 use Rattle.numbers.proofs.swept_numbers.Goals as goal
 
-pub returns-in-Sweeps : goal.returns-in-Sweeps
+pub returns-in-Ok : goal.returns-in-Ok
 unfolding swept_numbers
-returns-in-Sweeps c = rw c.in-Sweeps.is
+returns-in-Ok c = rw c.in-Ok.is
 
-pub returns-in-Declined : goal.returns-in-Declined
+pub returns-in-Err : goal.returns-in-Err
 unfolding swept_numbers
-returns-in-Declined c = rw (c.in-Declined.is, c.fault_number.ensures)
+returns-in-Err c = rw (c.in-Err.is, c.from.ensures)

@@ -1,5 +1,7 @@
 -- `parser::check_plan` gives the plan check's whole outcome for any bytes. Assumes nothing.
 use borrow.Author.Tests.{eq-eqb, ne_eqb}
+use mathlib.Core.Path.{ap}
+use Rattle.std.specs.Prelude.{Err}
 use Rattle.faults.proofs.Branches.{holds, fails}
 use Rattle.plan.specs.Answer.{check_of, plan_check}
 use Rattle.plan.specs.Decode.{plan_fault, decode}
@@ -7,7 +9,7 @@ use Rattle.parser.proofs.check_plan.Goals as goal
 
 pub returns-then-plan-eq0 : goal.returns-then-plan-eq0
 unfolding plan_check decode plan_fault
-returns-then-plan-eq0 c = rw (eq-eqb _ 0 c.if-plan-eq0.true) c.declined.ensures
+returns-then-plan-eq0 c = rw (eq-eqb _ 0 c.if-plan-eq0.true) (ap Err c.decline_at.ensures)
 
 pub returns-then-not-between : goal.returns-then-not-between
 unfolding plan_check decode plan_fault
@@ -17,7 +19,7 @@ returns-then-not-between c =
       ← c.number.ensures.0,
       fails c.between.ensures c.if-not-between.true,
     )
-    c.declined-then-not-between.ensures
+    (ap Err c.decline_at-then-not-between.ensures)
 
 pub returns : goal.returns
 unfolding plan_check decode plan_fault check_of

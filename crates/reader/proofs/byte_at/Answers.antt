@@ -4,8 +4,5 @@ use native.Mathlib.Omega.{arith}
 use Rattle.base.proofs.Bytes.{byte_at_past}
 use Rattle.reader.proofs.byte_at.Goals as goal
 
-pub returns-then-at-b : goal.returns-then-at-b
-returns-then-at-b c = c.byte_inside.ensures
-
 pub returns-else-at-b : goal.returns-else-at-b
 returns-else-at-b c = (sym (byte_at_past c.args.b.now c.args.at c.if-at-b.false), omega arith)

@@ -1,38 +1,15 @@
 -- `reads::read_list` reads the next list message of a worker. Assumes nothing.
-use mathlib.Core.Path.{refl}
 use native.Mathlib.Omega.{arith}
 use Rattle.cells.proofs.Acting.{idle, acts}
 use Rattle.reads.proofs.ReadLaws.{list_goes, list_idle, taken_from}
-use Rattle.cells.proofs.Ranges.{may_get}
 use Rattle.reads.proofs.read_list.Goals as goal
-
-pub get-read-requires : goal.get-read-requires
-get-read-requires c = may_get _ _ _ refl _ (omega arith)
-
-pub get-sends-requires : goal.get-sends-requires
-get-sends-requires c = may_get _ _ _ refl _ (omega arith)
 
 pub returns-then-read-sends : goal.returns-then-read-sends
 returns-then-read-sends c = idle _ _ (list_idle _ _ _ (λ has. omega arith))
 
-pub returns-then-read-ge-SENDROOM : goal.returns-then-read-ge-SENDROOM
-returns-then-read-ge-SENDROOM c = idle _ _ (list_idle _ _ _ (λ has. omega arith))
-
-pub get-to-requires : goal.get-to-requires
-get-to-requires c = may_get _ _ _ refl _ (omega arith)
-
 pub returns-then-to-gt-LABELROOM : goal.returns-then-to-gt-LABELROOM
 returns-then-to-gt-LABELROOM c =
     idle _ _ (list_idle _ _ _ (λ has. omega (arith, rw (← c.get-read.ensures.0) at has.label_room)))
-
-pub get-lists-requires : goal.get-lists-requires
-get-lists-requires c = may_get _ _ _ refl _ (omega arith)
-
-pub returns-then-lists-ge-LISTSMAX : goal.returns-then-lists-ge-LISTSMAX
-returns-then-lists-ge-LISTSMAX c = idle _ _ (list_idle _ _ _ (λ has. omega arith))
-
-pub get-from-requires : goal.get-from-requires
-get-from-requires c = may_get _ _ _ refl _ (omega arith)
 
 pub returns : goal.returns
 returns c =

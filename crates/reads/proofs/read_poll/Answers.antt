@@ -1,13 +1,7 @@
 -- `reads::read_poll` reads the next poll. Assumes nothing.
-use mathlib.Core.Path.{refl}
-use native.Mathlib.Omega.{arith}
 use Rattle.cells.proofs.Acting.{idle, acts}
 use Rattle.reads.proofs.ReadLaws.{read_no_poll, read_holds}
-use Rattle.cells.proofs.Ranges.{may_get}
 use Rattle.reads.proofs.read_poll.Goals as goal
-
-pub get-polls-requires : goal.get-polls-requires
-get-polls-requires c = may_get _ _ _ refl _ (omega arith)
 
 pub returns-then-polls-n : goal.returns-then-polls-n
 returns-then-polls-n c =

@@ -5,13 +5,6 @@ use Rattle.cells.proofs.Ranges.{may_get}
 use Rattle.index.proofs.Places.{few_sections}
 use Rattle.report.proofs.domain_row.Goals as goal
 
-pub size-values-requires : goal.size-values-requires
-size-values-requires c = c.requires
-
 pub row_holding-requires : goal.row_holding-requires
 row_holding-requires c =
     (may_get _ _ _ refl _ (omega (arith, few_sections c.args.plan.now c.requires.0.sound, c.requires.0.long, c.requires.1)), c.size-values.ensures.1)
-
-pub returns : goal.returns
-returns c =
-    rw (← c.size-values.ensures.0) c.row_holding.ensures

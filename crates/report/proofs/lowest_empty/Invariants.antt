@@ -1,4 +1,4 @@
-use Prim.Native.Nat.{◌-◌, ◌≤◌}
+use Prim.Native.Nat.{◌≤◌}
 use mathlib.Core.Option.{none}
 use mathlib.Core.Path.{◌≡◌}
 use Rattle.base.specs.Below.{first_below}
@@ -8,6 +8,3 @@ use Rattle.report.proofs.lowest_empty.Given as goal
 
 abbrev pub invariant-loop-x : goal.invariant-loop-x
 invariant-loop-x l = (l.x ≤ l.variables) × (first_below l.x (empty_at l.plan (mem_of l.cells)) ≡ none)
-
-abbrev pub decreases-loop-x : goal.decreases-loop-x
-decreases-loop-x l = l.variables - l.x

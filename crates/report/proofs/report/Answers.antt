@@ -5,5 +5,6 @@ use Rattle.report.proofs.report.Goals as goal
 
 pub returns : goal.returns
 returns c =
-    report_law c.args.plan.now (mem_of c.args.cells.now) c.args.g c.status_of.result
-    c.lowest_empty-empty.result c.status_of.ensures (c.lowest_empty-empty.ensures.0 c.args.g.tally)
+    rw c.unwrap_or.ensures
+    (report_law c.args.plan.now (mem_of c.args.cells.now) c.args.g c.status_of.result c.lowest_empty-empty.result
+    c.lowest_empty-empty.ensures.from_one c.status_of.ensures (c.lowest_empty-empty.ensures.lowest c.args.g.tally))

@@ -16,7 +16,7 @@ use Rattle.report.proofs.write_lists.Goals.{At-loop-x}
 
 pub loop-x-init : goal.loop-x-init
 loop-x-init c =
-    (omega arith, rows_none _ (domain_row c.args.plan.now (mem_of c.args.cells.now)) c.args.lists.now)
+    rows_none _ (domain_row c.args.plan.now (mem_of c.args.cells.now)) c.args.lists.now
 
 abbrev row : At-loop-x → ℕ → ℕ
 row c = domain_row c.args.plan.now (mem_of c.args.cells.now)
@@ -28,35 +28,24 @@ few c = (counted c.requires.0 c.variable_count-variables.ensures.0).few
 -- the cells are as many as they were
 same : (c : At-loop-x) → length c.loop-x.lists ≡ length c.args.lists.now
 same c =
-    ap length c.loop-x.invariant.1
-    ∙ rows_length _ c.row_words-words.ensures.2 (row c) c.loop-x.x c.args.lists.now c.requires.1 (omega (arith, c.loop-x.invariant.0, few c))
-
-pub domain_row-requires : goal.domain_row-requires
-domain_row-requires c =
-    (c.requires.0, omega (arith, c.variable_count-variables.ensures))
+    ap length c.loop-x.invariant
+    ∙ rows_length _ c.row_words-words.ensures.2 (row c) c.loop-x.x c.args.lists.now c.requires.1 (omega (arith, few c))
 
 pub put_row-requires : goal.put_row-requires
 put_row-requires c =
     (omega (arith, c.row_words-words.ensures.2), omega (arith, few (goal.at.put_row-requires c).At-loop-x), omega (arith, same (goal.at.put_row-requires c).At-loop-x, c.requires.1))
 
-pub overflow_add-x : goal.overflow_add-x
-overflow_add-x c = omega arith
-
-pub loop-x-smaller : goal.loop-x-smaller
-loop-x-smaller c = omega arith
-
 pub loop-x-preserved : goal.loop-x-preserved
 loop-x-preserved c =
-    let x = c.loop-x.x in (
-      omega arith,
-      c.put_row.ensures
-          ∙ ap₂ (λ (a : List ℕ) (v : ℕ). put_row c.row_words-words.result x v a) c.loop-x.invariant.1 c.domain_row.ensures
-          ∙ rows_next _ c.row_words-words.ensures.2 (row (goal.at.loop-x-preserved c).At-loop-x) x c.args.lists.now c.requires.1 (omega (arith, few (goal.at.loop-x-preserved c).At-loop-x)),
-    )
+    let x = c.loop-x.x in
+    c.put_row.ensures
+    ∙ ap₂ (λ (a : List ℕ) (v : ℕ). put_row c.row_words-words.result x v a) c.loop-x.invariant c.domain_row.ensures
+    ∙ rows_next _ c.row_words-words.ensures.2 (row (goal.at.loop-x-preserved c).At-loop-x) x c.args.lists.now c.requires.1
+    (omega (arith, few (goal.at.loop-x-preserved c).At-loop-x))
 
 pub returns : goal.returns
 returns c t =
-    c.loop-x.invariant.1
+    c.loop-x.invariant
     ∙ ap (λ (n : ℕ). rows_before n (row (goal.at.returns c).At-loop-x) c.loop-x.x c.args.lists.now) c.row_words-words.ensures.0
     ∙ rows_written c.args.plan.now (mem_of c.args.cells.now) c.loop-x.x c.args.lists.now
     (omega (arith, c.variable_count-variables.ensures)) t

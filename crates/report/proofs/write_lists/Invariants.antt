@@ -1,4 +1,3 @@
-use Prim.Native.Nat.{◌-◌, ◌≤◌}
 use mathlib.Core.Path.{◌≡◌}
 use Rattle.cells.specs.Memory.{mem_of}
 use Rattle.listing.proofs.ListCells.{rows_before}
@@ -6,8 +5,4 @@ use Rattle.report.proofs.Reported.{domain_row}
 use Rattle.report.proofs.write_lists.Given as goal
 
 abbrev pub invariant-loop-x : goal.invariant-loop-x
-invariant-loop-x l =
-    (l.x ≤ l.variables) × (l.lists ≡ rows_before l.words (domain_row l.plan (mem_of l.cells)) l.x l.initial.lists)
-
-abbrev pub decreases-loop-x : goal.decreases-loop-x
-decreases-loop-x l = l.variables - l.x
+invariant-loop-x l = l.lists ≡ rows_before l.words (domain_row l.plan (mem_of l.cells)) l.x l.initial.lists

@@ -1,4 +1,3 @@
-use Prim.Native.Nat.{suc, ◌-◌}
 use mathlib.Core.Bool.{cond}
 use mathlib.Core.List.{[], ◌∷◌, map}
 use lib.Dec.{eqb}
@@ -8,7 +7,4 @@ use Rattle.rounds.proofs.reads.Given as goal
 
 abbrev pub invariant-loop-j : goal.invariant-loop-j
 invariant-loop-j l =
-    Working l.plan (suc l.p) (λ i. map (turn l.k) (cond (eqb i l.k) [] (i ∷ []))) l.initial.cells l.t l.j l.changes l.cells
-
-abbrev pub decreases-loop-j : goal.decreases-loop-j
-decreases-loop-j l = suc l.p - l.j
+    Working l.plan (λ i. map (turn l.k) (cond (eqb i l.k) [] (i ∷ []))) l.initial.cells l.t l.j l.changes l.cells

@@ -16,10 +16,6 @@ pub returns-then-leads : goal.returns-then-leads
 unfolding table_permits
 returns-then-leads c w h = rw c.if-leads.true (ap (λ (r : ℕ). bit r w) c.table_row.ensures)
 
-pub table_column-requires : goal.table_column-requires
-table_column-requires c =
-    (c.requires.0, c.requires.1.in_row, c.requires.1.few, c.requires.1.rows_inside c.if-leads.false)
-
 pub returns-else-leads : goal.returns-else-leads
 unfolding table_permits
 returns-else-leads c w h =

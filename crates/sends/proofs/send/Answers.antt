@@ -1,37 +1,17 @@
 -- `sends::send` sends what was deleted since the last list message. Assumes nothing.
-use mathlib.Core.Path.{refl}
 use native.Mathlib.Omega.{arith}
 use Rattle.cells.proofs.Acting.{idle, acts}
 use Rattle.sends.proofs.SendLaws.{send_goes, send_idle, sent_from}
-use Rattle.cells.proofs.Ranges.{may_get}
 use Rattle.sends.proofs.send.Goals as goal
-
-pub get-sends-requires : goal.get-sends-requires
-get-sends-requires c = may_get _ _ _ refl _ (omega arith)
 
 pub returns-then-sends-ge-SENDROOM : goal.returns-then-sends-ge-SENDROOM
 returns-then-sends-ge-SENDROOM c = idle _ _ (send_idle _ _ (λ may. omega arith))
 
-pub get-start-requires : goal.get-start-requires
-get-start-requires c = may_get _ _ _ refl _ (omega arith)
-
-pub get-end-requires : goal.get-end-requires
-get-end-requires c = may_get _ _ _ refl _ (omega arith)
-
 pub returns-then-start-end : goal.returns-then-start-end
 returns-then-start-end c = idle _ _ (send_idle _ _ (λ may. may.unsent (cc)))
 
-pub get-outs-requires : goal.get-outs-requires
-get-outs-requires c = may_get _ _ _ refl _ (omega arith)
-
 pub returns-then-outs-ge-OUTROOM : goal.returns-then-outs-ge-OUTROOM
 returns-then-outs-ge-OUTROOM c = idle _ _ (send_idle _ _ (λ may. omega arith))
-
-pub get-lists-requires : goal.get-lists-requires
-get-lists-requires c = may_get _ _ _ refl _ (omega arith)
-
-pub returns-then-lists-ge-LISTSMAX : goal.returns-then-lists-ge-LISTSMAX
-returns-then-lists-ge-LISTSMAX c = idle _ _ (send_idle _ _ (λ may. omega arith))
 
 pub returns : goal.returns
 returns c =

@@ -3,8 +3,6 @@ use Prim.Native.Nat.{ℕ, ◌-◌}
 use borrow.Author.Tests.{eq-eqb, ne_eqb}
 use mathlib.Core.Bool.{true}
 use mathlib.Core.Path.{sym, ◌∙◌, ap, ap₂}
-use native.Mathlib.Omega.{arith}
-use lib.Pow.{pow_pos}
 use Rattle.base.proofs.Choice.{cond_true, cond_false}
 use Rattle.base.proofs.Row.{row_ext, row_full}
 use Rattle.base.specs.Row.{row_of}
@@ -15,10 +13,6 @@ use Rattle.index.specs.Index.{within_lowest, lowest_limited}
 use Rattle.plan.specs.Network.{within_limit}
 use Rattle.rows.specs.Permits.{limited}
 use Rattle.supports.proofs.limit_values.Goals as goal
-
-pub overflow_sub-result : goal.overflow_sub-result
-overflow_sub-result c =
-    omega (arith, c.power.ensures, pow_pos c.args.values)
 
 pub returns-then-get-eq0 : goal.returns-then-get-eq0
 unfolding within_lowest lowest_limited

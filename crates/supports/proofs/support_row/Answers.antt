@@ -43,14 +43,6 @@ module _ (s : Start) where
   linked : any_over s.args.plan.now s.args.x s.args.y ≡ true
   linked = sym (linked_over s.args.plan.now s.args.x s.args.y) ∙ s.requires.2
 
-pub overflow_add-x : goal.overflow_add-x
-overflow_add-x c =
-    omega (arith, few (goal.at.overflow_add-x c).Start)
-
-pub place-here-requires : goal.place-here-requires
-place-here-requires c =
-    (located c.args.plan.now c.args.cells.now c.requires.0, omega (arith, c.requires.1.variable))
-
 pub overflow_add-y : goal.overflow_add-y
 overflow_add-y c =
     omega (arith, few (goal.at.overflow_add-y c).Start, inside (goal.at.overflow_add-y c).Start)
@@ -109,10 +101,6 @@ limit_values-row-requires c =
       c.requires.0.long,
     )
 
-pub get-next-requires : goal.get-next-requires
-get-next-requires c =
-    may_get _ _ _ refl _ (omega (arith, pair_low (goal.at.get-next-requires c).After-get-pair, c.requires.0.long))
-
 pub loop-next-init : goal.loop-next-init
 loop-next-init c =
     let a = c.args in
@@ -123,12 +111,6 @@ loop-next-init c =
 pub overflow_add-variables : goal.overflow_add-variables
 overflow_add-variables c =
     omega (arith, few (goal.at.overflow_add-variables c).Start, c.loop-next.invariant.along.low, c.variable_count-variables.ensures)
-
-pub place-at-requires : goal.place-at-requires
-place-at-requires c = (
-  located c.args.plan.now c.args.cells.now c.requires.0,
-  omega (arith, c.loop-next.invariant.along.low, c.variable_count-variables.ensures),
-)
 
 -- the walk at the table that it has come to, and that table
 module _ (c : After-place-at) where
@@ -191,9 +173,6 @@ permitted_values-row-requires c =
             column_inside (b (goal.at.permitted_values-row-requires c).After-place-at) sound (k (goal.at.permitted_values-row-requires c).After-place-at) (left (goal.at.permitted_values-row-requires c).After-place-at).along.low (x (goal.at.permitted_values-row-requires c).After-place-at) (y (goal.at.permitted_values-row-requires c).After-place-at) (at-over (goal.at.permitted_values-row-requires c).After-place-at) (ltb-false (x (goal.at.permitted_values-row-requires c).After-place-at) (y (goal.at.permitted_values-row-requires c).After-place-at) l) (at_table (goal.at.permitted_values-row-requires c).After-place-at),
           );
     }
-
-pub overflow_sub-next : goal.overflow_sub-next
-overflow_sub-next c = omega (arith, (left (goal.at.overflow_sub-next c).After-place-at).along)
 
 pub get-next-requires-in-loop-next : goal.get-next-requires-in-loop-next
 get-next-requires-in-loop-next c =

@@ -1,4 +1,4 @@
-use Prim.Native.Nat.{ℕ, ◌-◌, ◌≤◌}
+use Prim.Native.Nat.{ℕ}
 use mathlib.Core.List.{List}
 use mathlib.Core.Path.{◌≡◌}
 use Rattle.disac4.specs.System.{network_at}
@@ -12,7 +12,4 @@ abbrev pub fullRow : List ℕ → ℕ → ℕ
 fullRow plan = row_from (network_at plan) (loaded (network_at plan))
 
 abbrev pub invariant-loop-x : goal.invariant-loop-x
-invariant-loop-x l = (l.x ≤ l.variables) × (l.lists ≡ rows_before l.words (fullRow l.plan) l.x l.initial.lists)
-
-abbrev pub decreases-loop-x : goal.decreases-loop-x
-decreases-loop-x l = l.variables - l.x
+invariant-loop-x l = l.lists ≡ rows_before l.words (fullRow l.plan) l.x l.initial.lists

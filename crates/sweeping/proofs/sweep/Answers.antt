@@ -11,38 +11,19 @@ use Rattle.format.specs.Version.{row_words}
 use Rattle.listing.specs.ListCells.{put_row, Shows}
 use Rattle.plan.specs.Network.{network_of}
 use Rattle.index.proofs.Counted.{counted}
-use Rattle.sweeping.proofs.Writing.{writing_none, writing_next, writing_all}
+use Rattle.sweeping.proofs.Writing.{writing_none, writing_next, writing_all, differ}
 use Rattle.sweeping.specs.Sweeping.{SweepsTo}
 use Rattle.sweeping.proofs.sweep.Goals as goal
 
 pub loop-x-init : goal.loop-x-init
-loop-x-init c = (omega arith, omega arith, refl, λ d shows. writing_none _ _ d _)
-
-pub sweep_row-row-requires : goal.sweep_row-row-requires
-sweep_row-row-requires c =
-    (c.requires.0, omega (arith, c.variable_count-variables.ensures))
-
-pub row_at-requires : goal.row_at-requires
-row_at-requires c =
-    (c.row_words-words.ensures.2, omega (arith, counted c.requires.0 c.variable_count-variables.ensures.0))
-
-pub overflow_add-shorter : goal.overflow_add-shorter
-overflow_add-shorter c =
-    omega (arith, c.rows_differ-shorter.ensures.0, c.loop-x.invariant.1, c.variable_count-variables.ensures)
+loop-x-init c = record { few = omega arith; size = refl; writing = λ d shows. writing_none _ _ d _ }
 
 pub put_row-requires : goal.put_row-requires
 put_row-requires c = (
   c.row_words-words.ensures.2,
   omega (arith, counted c.requires.0 c.variable_count-variables.ensures.0),
-  omega (arith, c.loop-x.invariant.2, c.requires.2),
+  omega (arith, c.loop-x.invariant.size, c.requires.2),
 )
-
-pub overflow_add-x : goal.overflow_add-x
-overflow_add-x c =
-    omega (arith, c.variable_count-variables.ensures)
-
-pub loop-x-smaller : goal.loop-x-smaller
-loop-x-smaller c = omega arith
 
 pub loop-x-preserved : goal.loop-x-preserved
 unfolding Shows network_of
@@ -50,22 +31,22 @@ loop-x-preserved c =
     let all = counted c.requires.0 c.variable_count-variables.ensures.0 in
     let words = c.row_words-words.ensures in
     let b = c.args.plan.now in
-    let l = c.loop-x in (
-      omega arith,
-      omega (arith, c.rows_differ-shorter.ensures.0, l.invariant.1),
-      c.put_row.auto.lists ∙ l.invariant.2,
-      λ d shows.
+    let l = c.loop-x in
+    let told = differ c.sweep_row-row.result c.row_at.result c.from-shorter.ensures in record {
+      few = omega (arith, told.0, l.invariant.few);
+      size = c.put_row.auto.lists ∙ l.invariant.size;
+      writing = λ d shows.
           writing_next (row_words b) (network_at b) d c.args.to.now l.to _ l.shorter l.x
-          c.sweep_row-row.result c.row_at.result c.rows_differ-shorter.result (l.invariant.3 d shows) (words_range b).1 c.requires.2
+          c.sweep_row-row.result c.row_at.result c.from-shorter.result (l.invariant.writing d shows) (words_range b).1 c.requires.2
           (omega (arith, all)) (c.sweep_row-row.ensures d shows)
-          (c.row_at.ensures ∙ ap (λ (n : ℕ). row_in n c.args.from.now l.x) words.0 ∙ shows l.x (omega (arith, all.all))) c.rows_differ-shorter.ensures.1
-          (c.put_row.ensures ∙ ap (λ (n : ℕ). put_row n l.x c.sweep_row-row.result l.to) words.0),
-    )
+          (c.row_at.ensures ∙ ap (λ (n : ℕ). row_in n c.args.from.now l.x) words.0 ∙ shows l.x (omega (arith, all.all))) told.1
+          (c.put_row.ensures ∙ ap (λ (n : ℕ). put_row n l.x c.sweep_row-row.result l.to) words.0);
+    }
 
 pub returns : goal.returns
 unfolding SweepsTo
 returns c d shows =
     let all = counted c.requires.0 c.variable_count-variables.ensures.0 in
     let l = c.loop-x in
-    writing_all (row_words c.args.plan.now) (network_at c.args.plan.now) d c.args.to.now l.to l.shorter l.x (l.invariant.3 d shows)
-    (omega (arith, all.all, l.invariant.0))
+    writing_all (row_words c.args.plan.now) (network_at c.args.plan.now) d c.args.to.now l.to l.shorter l.x (l.invariant.writing d shows)
+    (omega (arith, all.all))

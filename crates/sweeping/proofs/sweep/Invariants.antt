@@ -1,4 +1,4 @@
-use Prim.Native.Nat.{◌-◌, ◌≤◌}
+use Prim.Native.Nat.{◌≤◌}
 use mathlib.Core.Path.{◌≡◌}
 use lib.ListN.{length}
 use Rattle.disac4.specs.System.{network_at}
@@ -10,8 +10,9 @@ use Rattle.sweeping.proofs.sweep.Given as goal
 
 abbrev pub invariant-loop-x : goal.invariant-loop-x
 invariant-loop-x l =
-    (l.x ≤ l.variables) × (l.shorter ≤ l.x) × (length l.to ≡ length l.initial.to)
-    × ((d : Domains) → Shows (row_words l.plan) (network_at l.plan) d l.from → Writing (row_words l.plan) (network_at l.plan) d l.initial.to l.to l.shorter l.x)
-
-abbrev pub decreases-loop-x : goal.decreases-loop-x
-decreases-loop-x l = l.variables - l.x
+    record {
+      few : l.shorter ≤ l.x;
+      size : length l.to ≡ length l.initial.to;
+      writing : (d : Domains) → Shows (row_words l.plan) (network_at l.plan) d l.from
+          → Writing (row_words l.plan) (network_at l.plan) d l.initial.to l.to l.shorter l.x;
+    }

@@ -13,38 +13,20 @@ use Rattle.sweeping.proofs.RowLeft.{Revised, left_none, left_past, left_next, le
 use Rattle.sweeping.proofs.sweep_row.Goals as goal
 use Rattle.sweeping.proofs.sweep_row.Goals.{then-linked, else-linked}
 
-pub row_at-row-requires : goal.row_at-row-requires
-row_at-row-requires c =
-    (c.row_words.ensures.2, omega (arith, counted c.requires.0 c.variable_count-variables.ensures.0, c.requires.1))
-
 pub loop-y-init : goal.loop-y-init
 unfolding Shows
 loop-y-init c =
-    let all = counted c.requires.0 c.variable_count-variables.ensures.0 in (
-      omega arith,
-      λ d shows.
-          c.row_at-row.ensures
-          ∙ ap (λ (n : ℕ). row_in n c.args.lists.now c.args.x) c.row_words.ensures.0
-          ∙ shows c.args.x (omega (arith, all, c.requires.1))
-          ∙ left_none (network_at c.args.plan.now) d c.args.x,
-    )
+    let all = counted c.requires.0 c.variable_count-variables.ensures.0 in
+    λ d shows.
+    c.row_at-row.ensures
+    ∙ ap (λ (n : ℕ). row_in n c.args.lists.now c.args.x) c.row_words.ensures.0
+    ∙ shows c.args.x (omega (arith, all, c.requires.1))
+    ∙ left_none (network_at c.args.plan.now) d c.args.x
 
 pub linked-requires : goal.linked-requires
 linked-requires c =
     let all = counted c.requires.0 c.variable_count-variables.ensures.0 in
     (omega (arith, all, c.requires.1), omega (arith, all), c.requires.0.long)
-
-pub revised_row-row-requires : goal.revised_row-row-requires
-revised_row-row-requires c =
-    let linked = c.linked.ensures c.args.plan.now c.requires.0.index in
-    (c.requires.0, c.requires.1, sym linked ∙ c.if-linked.true)
-
-pub overflow_add-y : goal.overflow_add-y
-overflow_add-y c =
-    omega (arith, c.variable_count-variables.ensures)
-
-pub loop-y-smaller : goal.loop-y-smaller
-loop-y-smaller c = omega arith
 
 pub loop-y-preserved : goal.loop-y-preserved
 unfolding network_of
@@ -52,26 +34,24 @@ loop-y-preserved c =
     let plan = c.args.plan.now in
     let net = network_at plan in
     let test = c.linked.ensures plan c.requires.0.index in
-    let row = c.loop-y.invariant.1 in
-    let Next : ℕ → Type 0 = λ r. Revised (row_words plan) net c.args.lists.now c.args.x r (c.loop-y.y + 1) in (
-      omega arith,
-      elim c.if-linked.branch [
-        | then-linked w ↦
-            subst Next (sym w.row-is)
-            (λ d shows.
-            w.revised_row-row.ensures d shows
-            ∙ left_next net d c.args.x c.loop-y.y c.loop-y.row (sym test ∙ w.if-linked.true) (row d shows))
-        | else-linked w ↦
-            subst Next (sym w.row-is)
-            (λ d shows.
-            row d shows ∙ left_past net d c.args.x c.loop-y.y (sym test ∙ w.if-linked.false))
-      ],
-    )
+    let row = c.loop-y.invariant in
+    let Next : ℕ → Type 0 = λ r. Revised (row_words plan) net c.args.lists.now c.args.x r (c.loop-y.y + 1) in
+    elim c.if-linked.branch [
+      | then-linked w ↦
+          subst Next (sym w.row-is)
+          (λ d shows.
+          w.revised_row-row.ensures d shows
+          ∙ left_next net d c.args.x c.loop-y.y c.loop-y.row (sym test ∙ w.if-linked.true) (row d shows))
+      | else-linked w ↦
+          subst Next (sym w.row-is)
+          (λ d shows.
+          row d shows ∙ left_past net d c.args.x c.loop-y.y (sym test ∙ w.if-linked.false))
+    ]
 
 pub returns : goal.returns
 unfolding network_of
 returns c d shows =
     let all = counted c.requires.0 c.variable_count-variables.ensures.0 in
     let l = c.loop-y in
-    l.invariant.1 d shows
-    ∙ left_all (network_at c.args.plan.now) d c.args.x l.y (omega (arith, all.all, l.invariant.0))
+    l.invariant d shows
+    ∙ left_all (network_at c.args.plan.now) d c.args.x l.y (omega (arith, all.all))

@@ -1,13 +1,9 @@
 -- `sweeps::part` returns so many cells from the start of a buffer, or none where there are fewer. Assumes nothing.
 use borrow.Author.Tests.{le-leb, lt-leb}
 use native.Mathlib.Omega.{arith}
-use lib.ListN.{length, length-take}
+use lib.ListN.{length}
 use Rattle.sweeping.specs.Outcome.{part_of}
 use Rattle.sweeps.proofs.part.Goals as goal
-
-pub slice_bounds-result-end : goal.slice_bounds-result-end
-slice_bounds-result-end c =
-    omega (arith, length-take c.args.count c.args.cells.now, c.if-count-cells.true)
 
 pub returns-then-count-cells : goal.returns-then-count-cells
 unfolding part_of

@@ -1,46 +1,54 @@
 -- `sweeps::run_sweeps` plays the sweeps of a plan. Assumes nothing.
-use mathlib.Core.Option.{none}
-use mathlib.Core.Path.{◌≡◌, sym, ◌∙◌}
+use borrow.Author.Rules.{rules}
+use Prim.Native.Nat.{ℕ}
+use mathlib.Core.Path.{◌∙◌}
 use native.Mathlib.Omega.{arith}
-use Rattle.disac4.proofs.Tested.{short_refused, fault_refused, found_does}
-use Rattle.lending.proofs.Buffers.{buffers_long}
+use Rattle.disac4.proofs.Tested.{Tested, tested, short_refused, all_long, fault_refused, found_does}
+use Rattle.faults.specs.declared.Decline.{Decline}
 use Rattle.lending.specs.Call.{Call}
 use Rattle.plan.proofs.Answer.{plan_check_lem, no_fault}
-use Rattle.plan.specs.Decode.{plan_fault}
+use Rattle.std.proofs.lemmas.Result.{err_from_is_err_and}
+use Rattle.std.specs.Prelude.{Result}
 use Rattle.sweeping.specs.Outcome.{TwoLists, two_lists, sweep_call}
-use Rattle.sweeping.specs.declared.Swept.{Swept}
 use Rattle.sweeps.proofs.run_sweeps.Goals as goal
-use Rattle.sweeps.proofs.run_sweeps.Goals.{After-check_lists-verdict, In-Accepted}
+use Rattle.sweeps.proofs.run_sweeps.Goals.{After-map_err}
 
-abbrev call : After-check_lists-verdict → Call Swept TwoLists
-call k = sweep_call k.args.plan.now
+module _ (k : After-map_err) where
+  abbrev call : Call (Result ℕ Decline) TwoLists
+  call = sweep_call k.args.plan.now
 
-abbrev before : After-check_lists-verdict → TwoLists
-before k = two_lists k.args.first.now k.args.second.now
+  abbrev before : TwoLists
+  before = two_lists k.args.first.now k.args.second.now
 
-sound : (t : In-Accepted) → plan_fault t.args.plan.now ≡ none
-sound t = (no_fault _ _ _ (sym t.in-Accepted.is ∙ t.check_plan.ensures ∙ plan_check_lem _)).0
+  -- the buffers were tested
+  buffers : Tested call before k.map_err.result
+  buffers = tested call before _ k.check_lists.ensures _ k.map_err.ensures.cases (λ f d p. search rules)
 
-pub returns-in-Fails : goal.returns-in-Fails
-returns-in-Fails c =
-    rw c.decline_at.ensures
-    (short_refused (call (goal.at.returns-in-Fails c).After-check_lists-verdict) (before (goal.at.returns-in-Fails c).After-check_lists-verdict) _ c.check_lists-verdict.ensures _ c.in-Fails.is)
+pub returns-in_err-map_err : goal.returns-in_err-map_err
+returns-in_err-map_err c =
+    let k = (goal.at.returns-in_err-map_err c).After-map_err in
+    let fails = err_from_is_err_and c.from_residual.result c.from_residual.ensures.1 in
+    rw (fails.1, fails.2) (short_refused (call k) (before k) (buffers k) _ c.in_err-map_err.was)
+
+pub returns-in_err-check_plan : goal.returns-in_err-check_plan
+returns-in_err-check_plan c =
+    let k = (goal.at.returns-in_err-check_plan c).After-map_err in
+    let fails = err_from_is_err_and c.from_residual-in_err-check_plan.result c.from_residual-in_err-check_plan.ensures.1 in
+    rw (fails.1, fails.2)
+    (fault_refused (call k) (before k) (buffers k) _ c.in_ok-map_err.was _ _ (c.in_err-check_plan.ensures ∙ plan_check_lem _))
 
 pub sweep_plan-requires : goal.sweep_plan-requires
 sweep_plan-requires c =
-    let long = buffers_long (call (goal.at.sweep_plan-requires c).After-check_lists-verdict) (before (goal.at.sweep_plan-requires c).After-check_lists-verdict) _ c.check_lists-verdict.ensures c.in_default.is in (
-      sound (goal.at.sweep_plan-requires c).In-Accepted,
+    let k = (goal.at.sweep_plan-requires c).After-map_err in
+    let long = all_long (call k) (before k) (buffers k) _ c.in_ok-map_err.was in (
+      (no_fault _ _ _ (c.in_ok-check_plan.ensures ∙ plan_check_lem _)).0,
       omega (arith, long.0, long.1.0),
       omega (arith, long.0, long.1.0),
     )
 
-pub returns-in-Declined : goal.returns-in-Declined
-returns-in-Declined c =
-    fault_refused (call (goal.at.returns-in-Declined c).After-check_lists-verdict) (before (goal.at.returns-in-Declined c).After-check_lists-verdict) _ c.check_lists-verdict.ensures c.in_default.is _ _
-    (c.check_plan.ensures ∙ plan_check_lem _) _ c.in-Declined.is
-
-pub returns-in-Accepted : goal.returns-in-Accepted
-returns-in-Accepted c =
+pub returns : goal.returns
+returns c =
+    let k = (goal.at.returns c).After-map_err in
     rw
-    (found_does (call (goal.at.returns-in-Accepted c).After-check_lists-verdict) (before (goal.at.returns-in-Accepted c).After-check_lists-verdict) _ c.check_lists-verdict.ensures c.in_default.is _ _
-    (c.check_plan.ensures ∙ plan_check_lem _) _ c.in-Accepted.is) c.sweep_plan.ensures
+    (found_does (call k) (before k) (buffers k) _ c.in_ok-map_err.was _ _ (c.in_ok-check_plan.ensures ∙ plan_check_lem _))
+    c.sweep_plan.ensures

@@ -2,8 +2,11 @@
 -- Invariant: the row has taken in the first `i` of the scope. Assumes nothing.
 use Prim.Native.Nat.{ℕ, suc, ◌+◌, ◌-◌, ◌<◌, ◌≤◌}
 use mathlib.Core.List.{List}
-use mathlib.Core.Path.{◌≡◌}
+use mathlib.Core.Bool.{Bool, not}
+use mathlib.Core.Path.{◌≡◌, ◌∙◌, ap}
 use native.Mathlib.Omega.{arith}
+use Rattle.base.proofs.Sums.{one_byte, one_le}
+use Rattle.base.specs.Below.{one}
 use Rattle.format.specs.Format.{scope_at, variable_count}
 use Rattle.format.specs.Limits.{max_variables}
 use Rattle.plan.proofs.InOrder.{Ascends}
@@ -13,11 +16,6 @@ use Rattle.touching.proofs.ScopePairs.{among_none, among_more, joins_same, joins
 use Rattle.touching.specs.Touching.{among_first, joins_at}
 use Rattle.touching.proofs.touch_before.Goals as goal
 use Rattle.touching.proofs.touch_before.Goals.{After-scope_at-x, After-scope_at-y}
-
-pub scope_at-y-requires : goal.scope_at-y-requires
-scope_at-y-requires c =
-    let known = c.requires.0 in
-    (known.within, omega (arith, known.few_further, c.requires.1))
 
 -- the second variable of the pairs
 module _ (c : After-scope_at-y) where
@@ -41,24 +39,15 @@ module _ (c : After-scope_at-y) where
 pub overflow_sub-y : goal.overflow_sub-y
 overflow_sub-y c = omega (arith, y-range (goal.at.overflow_sub-y c).After-scope_at-y)
 
-pub offset_bounds-touched-y : goal.offset_bounds-touched-y
-offset_bounds-touched-y c = omega (arith, y-range (goal.at.offset_bounds-touched-y c).After-scope_at-y)
-
-pub bounds-touched-y : goal.bounds-touched-y
-bounds-touched-y c = omega (arith, y-range (goal.at.bounds-touched-y c).After-scope_at-y)
+pub bounds-rows-y : goal.bounds-rows-y
+bounds-rows-y c = omega (arith, y-range (goal.at.bounds-rows-y c).After-scope_at-y)
 
 pub loop-i-init : goal.loop-i-init
 loop-i-init c =
     let a = c.args in (
       omega arith,
-      omega arith,
       grown_none (c.scope_at-y.result - 1) (among_first a.plan.now a.at 0) _ (among_none a.plan.now a.at),
     )
-
-pub scope_at-x-requires : goal.scope_at-x-requires
-scope_at-x-requires c =
-    let known = c.requires.0 in
-    (known.within, omega (arith, known.few_further, c.requires.1))
 
 -- a first variable of them
 module _ (c : After-scope_at-x) where
@@ -77,20 +66,11 @@ module _ (c : After-scope_at-x) where
 pub overflow_sub-x : goal.overflow_sub-x
 overflow_sub-x c = omega (arith, x-range (goal.at.overflow_sub-x c).After-scope_at-x)
 
-pub lacks-fresh-requires : goal.lacks-fresh-requires
-lacks-fresh-requires c = omega (arith, x-range (goal.at.lacks-fresh-requires c).After-scope_at-x, y-range (goal.at.lacks-fresh-requires c).After-scope_at-y)
-
-pub overflow_add-fresh : goal.overflow_add-fresh
-overflow_add-fresh c = omega (arith, c.lacks-fresh.ensures.1, c.loop-i.invariant)
+pub row_holds-requires : goal.row_holds-requires
+row_holds-requires c = omega (arith, x-range (goal.at.row_holds-requires c).After-scope_at-x, y-range (goal.at.row_holds-requires c).After-scope_at-y)
 
 pub power-row-requires : goal.power-row-requires
 power-row-requires c = omega (arith, x-range (goal.at.power-row-requires c).After-scope_at-x, y-range (goal.at.power-row-requires c).After-scope_at-y)
-
-pub overflow_add-i : goal.overflow_add-i
-overflow_add-i c = omega arith
-
-pub loop-i-smaller : goal.loop-i-smaller
-loop-i-smaller c = omega arith
 
 pub loop-i-preserved : goal.loop-i-preserved
 loop-i-preserved c =
@@ -99,19 +79,16 @@ loop-i-preserved c =
     let b = a.plan.now in
     let x : ℕ = c.scope_at-x.result - 1 in
     let range = x-range (goal.at.loop-i-preserved c).After-scope_at-x in
-    let number : scope_at b a.at l.i ≡ suc x = omega (arith, c.scope_at-x.ensures.0) in (
-      omega arith,
-      omega (arith, c.lacks-fresh.ensures.1, l.invariant),
+    let number : scope_at b a.at l.i ≡ suc x = omega (arith, c.scope_at-x.ensures.0) in
+    let fresh : c.from-fresh.result ≡ one (not c.row_holds.result) = c.from-fresh.ensures ∙ one_byte (not c.row_holds.result) in (
+      omega (arith, fresh, one_le (not c.row_holds.result), l.invariant),
       rw c.power-row.ensures
           (grown_more (c.scope_at-y.result - 1) (among_first b a.at l.i) (among_first b a.at (l.i + 1)) _ l.row
-          l.fresh x c.lacks-fresh.result l.invariant.2 (omega arith) c.lacks-fresh.ensures.0 (among_more b a.at l.i x number)),
+          l.fresh x c.from-fresh.result l.invariant.1 (omega arith) (fresh ∙ ap (λ (held : Bool). one (not held)) c.row_holds.ensures) (among_more b a.at l.i x number)),
     )
 
-pub offset_bounds-touched-y-2 : goal.offset_bounds-touched-y-2
-offset_bounds-touched-y-2 c = omega (arith, y-range (goal.at.offset_bounds-touched-y-2 c).After-scope_at-y)
-
-pub bounds-touched-y-2 : goal.bounds-touched-y-2
-bounds-touched-y-2 c = omega (arith, y-range (goal.at.bounds-touched-y-2 c).After-scope_at-y)
+pub bounds-rows-y-2 : goal.bounds-rows-y-2
+bounds-rows-y-2 c = omega (arith, y-range (goal.at.bounds-rows-y-2 c).After-scope_at-y)
 
 pub returns : goal.returns
 returns c =
@@ -121,8 +98,8 @@ returns c =
     let y : ℕ = c.scope_at-y.result - 1 in
     let range = y-range (goal.at.returns c).After-scope_at-y in
     let number : scope_at b a.at a.j ≡ suc y = omega (arith, c.scope_at-y.ensures.0) in
-    let all : l.i ≡ a.j = omega (arith, l.invariant) in (
-      joined_row (variable_count b) (among_first b a.at a.j) (joins_at b a.at a.j) a.touched.now y l.row l.fresh c.requires.2
-          (omega arith) c.requires.0.few_variables (rw all at l.invariant.2) (joins_same b a.at a.j y number) (joins_other b a.at a.j y number),
+    let all : l.i ≡ a.j = omega arith in (
+      joined_row (variable_count b) (among_first b a.at a.j) (joins_at b a.at a.j) a.rows.now y l.row l.fresh (omega arith)
+          (omega arith) c.requires.0.few_variables (rw all at l.invariant.1) (joins_same b a.at a.j y number) (joins_other b a.at a.j y number),
       omega (arith, l.invariant),
     )

@@ -1,4 +1,4 @@
-use Prim.Native.Nat.{◌+◌, ◌-◌, ◌*◌, ◌≤◌}
+use Prim.Native.Nat.{◌+◌, ◌*◌, ◌≤◌}
 use Rattle.format.specs.Format.{variable_count}
 use Rattle.format.specs.Limits.{max_further}
 use Rattle.touching.proofs.ScopePairs.{joins_below}
@@ -7,7 +7,4 @@ use Rattle.touching.proofs.touch_pairs.Given as goal
 
 abbrev pub invariant-loop-j : goal.invariant-loop-j
 invariant-loop-j l =
-    (l.j ≤ l.size) × (l.fresh ≤ (2 + max_further) * l.j) × Joined (variable_count l.plan) (joins_below l.plan l.at l.j) l.initial.touched l.touched l.fresh
-
-abbrev pub decreases-loop-j : goal.decreases-loop-j
-decreases-loop-j l = l.size - l.j
+    (l.fresh ≤ (2 + max_further) * l.j) × Joined (variable_count l.plan) (joins_below l.plan l.at l.j) l.initial.rows l.rows l.fresh

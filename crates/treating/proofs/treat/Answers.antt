@@ -10,13 +10,9 @@ use Rattle.cells.specs.Layout.{WORKERS, HEAD}
 use Rattle.cells.specs.Memory.{mem_of}
 use Rattle.treating.specs.Treat.{touch_variables_m}
 use Rattle.treating.proofs.treat.Goals as goal
-use Rattle.treating.proofs.treat.Goals.{After-put}
 
-pub returns-then-head-get : goal.returns-then-head-get
-returns-then-head-get c = idle _ _ (treat_idle _ _ _ (λ has. omega arith))
-
-pub returns-then-head-ge-LABELROOM : goal.returns-then-head-ge-LABELROOM
-returns-then-head-ge-LABELROOM c = idle _ _ (treat_idle _ _ _ (λ has. omega arith))
+pub returns-then-head-tail : goal.returns-then-head-tail
+returns-then-head-tail c = idle _ _ (treat_idle _ _ _ (λ has. omega arith))
 
 pub touch_variables-requires : goal.touch_variables-requires
 touch_variables-requires c = (
@@ -24,7 +20,7 @@ touch_variables-requires c = (
       (kept_stored WORKERS c.args.i HEAD _ (omega arith) kept_same),
   c.requires.1,
   head_loaded c.args.plan.now c.args.i (mem_of c.args.cells.now) c.get-head.ensures.0
-      c.get.ensures.0 c.if-head-get.false c.get-c.ensures.0 c.requires.2,
+      c.get-tail.ensures.0 c.if-head-tail.false c.get-c.ensures.0 c.requires.2,
 )
 
 pub returns : goal.returns
@@ -33,7 +29,7 @@ returns c =
     let sys = system_at a.plan.now in
     acts _ _ _ _
     (treat_goes sys a.i _ c.get-head.ensures.0 c.get-c.ensures.0 (record {
-      untreated = omega (arith, c.get-head.ensures.0, c.get.ensures.0, c.if-head-get.false);
+      untreated = omega (arith, c.get-head.ensures.0, c.get-tail.ensures.0, c.if-head-tail.false);
       head_room = omega (arith, c.get-head.ensures.0, c.if-head-ge-LABELROOM.false);
     }))
     (c.touch_variables.ensures ∙ ap (touch_variables_m sys a.i _ _) c.put.ensures)

@@ -1,9 +1,9 @@
--- The places stay within the line and the plan, whose length is as it was; the one in the line goes up.
-use Rattle.std.proofs.Common.{length, ◌-◌, ◌≡◌, ◌≤◌}
+-- The plan holds what is used of it and keeps its length; the rest of the line gets shorter.
+use Rattle.std.proofs.Common.{length, ◌≡◌, ◌≤◌}
 use Rattle.vectors.proofs.parse.Given as goal
 
-abbrev pub invariant-loop-i : goal.invariant-loop-i
-invariant-loop-i l = (l.used ≤ length l.plan) × (l.i ≤ length l.line) × (length l.plan ≡ length l.initial.plan)
+abbrev pub invariant-loop-rest : goal.invariant-loop-rest
+invariant-loop-rest l = record { within : l.used ≤ length l.plan; kept : length l.plan ≡ length l.initial.plan }
 
-abbrev pub decreases-loop-i : goal.decreases-loop-i
-decreases-loop-i l = length l.line - l.i
+abbrev pub decreases-loop-rest : goal.decreases-loop-rest
+decreases-loop-rest l = length l.rest

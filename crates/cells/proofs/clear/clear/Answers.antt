@@ -1,47 +1,26 @@
 -- `cells::clear::clear` makes the needed cells 0 and keeps the others. Assumes nothing.
 use Prim.Native.Nat.{ℕ}
-use mathlib.Core.Path.{◌≡◌, refl, ◌∙◌, ap}
-use native.Mathlib.Omega.{arith}
-use lib.ListN.{length, set}
+use mathlib.Core.List.{◌++◌}
+use mathlib.Core.Path.{sym, ◌∙◌, ap}
+use lib.ListN.{drop, replicate, length-replicate}
+use Rattle.std.proofs.lemmas.List.{length-take-le}
 use Rattle.disac4.specs.Need.{work_need}
-use Rattle.cells.proofs.Cleared.{front, front_all, front_length, front_next}
+use Rattle.lending.proofs.Overwritten.{written_all}
 use Rattle.cells.proofs.clear.clear.Goals as goal
 
-pub loop-k-init : goal.loop-k-init
-loop-k-init c = (omega arith, refl, c.requires)
-
-pub offset_bounds-cells-k : goal.offset_bounds-cells-k
-offset_bounds-cells-k c = omega arith
-
-pub bounds-cells-k : goal.bounds-cells-k
+pub slice_bounds-fill-end : goal.slice_bounds-fill-end
 unfolding work_need
-bounds-cells-k c =
-    omega (
-      arith,
-      ap length c.loop-k.invariant.1,
-      front_length c.args.cells.now c.loop-k.k (omega arith),
-    )
+slice_bounds-fill-end c = c.requires
 
-pub overflow_add-k : goal.overflow_add-k
-overflow_add-k c = omega arith
-
-pub loop-k-smaller : goal.loop-k-smaller
+pub slice_bounds-fill-end-2 : goal.slice_bounds-fill-end-2
 unfolding work_need
-loop-k-smaller c = omega arith
-
-pub loop-k-preserved : goal.loop-k-preserved
-unfolding work_need
-loop-k-preserved c = (
-  omega arith,
-  ap (λ l. set l c.loop-k.k 0) c.loop-k.invariant.1
-      ∙ front_next c.args.cells.now c.loop-k.k (omega arith),
-  c.loop-k.invariant.2,
-)
+slice_bounds-fill-end-2 c = sym (length-take-le work_need c.args.cells.now c.requires)
 
 pub returns : goal.returns
 unfolding work_need
 returns c =
-    let e : c.loop-k.k ≡ work_need = omega arith in
-    c.loop-k.invariant.1
-    ∙ ap (λ (n : ℕ). front n c.args.cells.now) e
-    ∙ front_all c.args.cells.now
+    let cells = c.args.cells.now in
+    ap (λ p. p ++ drop work_need cells)
+    (c.fill.ensures.after (λ y e. e)
+    ∙ ap (λ (n : ℕ). replicate n 0) (length-take-le work_need cells c.requires))
+    ∙ written_all (replicate work_need 0) work_need (length-replicate {A = ℕ} work_need 0) cells

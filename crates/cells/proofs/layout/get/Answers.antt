@@ -17,15 +17,9 @@ near c = place_needed c.args.cells.now c.args.g c.args.i c.args.j c.requires
 pub place-at-requires : goal.place-at-requires
 place-at-requires c = near (goal.at.place-at-requires c).Start
 
-pub offset_bounds-cells-at : goal.offset_bounds-cells-at
-offset_bounds-cells-at c = omega (arith, near (goal.at.offset_bounds-cells-at c).Start, c.place-at.ensures)
-
 pub bounds-cells-at : goal.bounds-cells-at
 bounds-cells-at c =
     omega (arith, near (goal.at.bounds-cells-at c).Start, c.place-at.ensures, c.requires.long)
-
-pub share-requires : goal.share-requires
-share-requires c = omega (arith, c.shared_slice_known-2-1.given c.place-at.result)
 
 pub returns : goal.returns
 returns c =

@@ -22,6 +22,3 @@ overflow_add-result c = omega (arith, found (goal.at.overflow_add-result c).Afte
 pub overflow_add-result-2 : goal.overflow_add-result-2
 unfolding work_need
 overflow_add-result-2 c = omega (arith, found (goal.at.overflow_add-result-2 c).After-cell_row)
-
-pub returns : goal.returns
-returns c = found (goal.at.returns c).After-cell_row

@@ -16,20 +16,9 @@ near c = place_needed c.args.cells.now c.args.g c.args.i c.args.j c.requires.0
 pub place-at-requires : goal.place-at-requires
 place-at-requires c = near (goal.at.place-at-requires c).Start
 
-pub offset_bounds-cells-at : goal.offset_bounds-cells-at
-offset_bounds-cells-at c = omega (arith, near (goal.at.offset_bounds-cells-at c).Start, c.place-at.ensures)
-
 pub bounds-cells-at : goal.bounds-cells-at
 bounds-cells-at c =
     omega (arith, near (goal.at.bounds-cells-at c).Start, c.place-at.ensures, c.requires.0.long)
-
-pub with_share-requires : goal.with_share-requires
-with_share-requires c =
-    (c.requires.1, omega (arith, c.slice_known-2-1.given c.place-at.result))
-
-pub offset_bounds-cells-at-2 : goal.offset_bounds-cells-at-2
-offset_bounds-cells-at-2 c =
-    omega (arith, near (goal.at.offset_bounds-cells-at-2 c).Start, c.place-at.ensures)
 
 pub bounds-cells-at-2 : goal.bounds-cells-at-2
 bounds-cells-at-2 c =

@@ -10,10 +10,6 @@ returns-then-not-g c =
     let whole = not-true _ c.if-not-g.true in
     (sym (with_whole c.args.g _ _ _ whole), omega (arith, room_whole c.args.g whole))
 
-pub overflow_add-result : goal.overflow_add-result
-overflow_add-result c =
-    omega (arith, with_shifted c.args.g c.args.i c.args.v c.args.c (not-false _ c.if-not-g.false) c.requires.0 c.requires.1)
-
 pub returns : goal.returns
 returns c =
     let made = with_shifted c.args.g c.args.i c.args.v c.args.c (not-false _ c.if-not-g.false) c.requires.0 c.requires.1 in

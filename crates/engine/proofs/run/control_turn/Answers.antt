@@ -35,8 +35,8 @@ read_by_value-requires c =
     let h = read_numbers c.args.p 0 c.args.d (few-at (goal.at.read_by_value-requires c).Start) c.requires.2 refl c.if-d-eq-POLL_ACTION.false in
     (c.requires.0.ready.long, c.requires.0.marks, omega (arith, few-at (goal.at.read_by_value-requires c).Start), few-at (goal.at.read_by_value-requires c).Start)
 
-pub returns : goal.returns
-returns c =
+pub returns-else-d-eq-POLL_ACTION : goal.returns-else-d-eq-POLL_ACTION
+returns-else-d-eq-POLL_ACTION c =
     let b = c.args.plan.now in
-    acts_as (controller_turn_reads _ _ _ _ c.if-t.false (allowed_at (goal.at.returns c).Start) refl c.if-d-eq-POLL_ACTION.false)
+    acts_as (controller_turn_reads _ _ _ _ c.if-t.false (allowed_at (goal.at.returns-else-d-eq-POLL_ACTION c).Start) refl c.if-d-eq-POLL_ACTION.false)
     (c.read_by_value.ensures (system_at b) (workers_are b ∙ sym c.requires.1))

@@ -7,6 +7,6 @@ pub returns-then-d-eq0 : goal.returns-then-d-eq0
 returns-then-d-eq0 c =
     acts_as (read_polls _ _ _ _ c.if-d-eq0.true) c.read_poll.ensures
 
-pub returns : goal.returns
-returns c =
+pub returns-else-d-eq0 : goal.returns-else-d-eq0
+returns-else-d-eq0 c =
     acts_as (read_lists _ _ _ _ c.if-d-eq0.false) c.read_list.ensures

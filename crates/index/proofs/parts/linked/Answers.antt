@@ -1,9 +1,8 @@
 -- `index::parts::linked` says whether two variables share a constraint: whether they have a number. Assumes nothing.
 use Prim.Native.Nat.{ℕ}
-use mathlib.Core.Bool.{not}
+use mathlib.Core.Bool.{not, not-not}
 use mathlib.Core.Path.{sym, ◌∙◌, ap}
 use lib.Dec.{eqb}
-use Rattle.base.proofs.Bools.{not-not}
 use Rattle.index.proofs.Linked.{linked_over}
 use Rattle.index.specs.Index.{any_over}
 use Rattle.index.proofs.parts.linked.Goals as goal

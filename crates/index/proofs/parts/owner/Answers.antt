@@ -10,12 +10,6 @@ use Rattle.index.proofs.parts.owner.Goals as goal
 pub overflow_add-x : goal.overflow_add-x
 overflow_add-x c = omega (arith, few_sections c.args.plan.now c.requires.0.sound)
 
-pub place-requires : goal.place-requires
-place-requires c = (c.requires.0, omega (arith, c.requires.1))
-
-pub owner-requires : goal.owner-requires
-owner-requires c = c.place.ensures.within
-
 pub returns : goal.returns
 returns c =
     let b = c.args.plan.now in

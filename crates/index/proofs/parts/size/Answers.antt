@@ -3,7 +3,6 @@ use Prim.Native.Nat.{suc}
 use mathlib.Core.Path.{◌≡◌, sym, ◌∙◌, ap}
 use native.Mathlib.Numerals.{add-one}
 use native.Mathlib.Omega.{arith}
-use Rattle.index.proofs.Labels.{located}
 use Rattle.index.proofs.Places.{few_sections, few_values}
 use Rattle.plan.proofs.Parts.{size_read}
 use Rattle.format.specs.Format.{size_at, numbered_size}
@@ -11,13 +10,6 @@ use Rattle.index.proofs.parts.size.Goals as goal
 
 pub overflow_add-x : goal.overflow_add-x
 overflow_add-x c = omega (arith, few_sections c.args.plan.now c.requires.0.sound)
-
-pub place-requires : goal.place-requires
-place-requires c =
-    (located c.args.plan.now c.args.cells.now c.requires.0, omega (arith, c.requires.1))
-
-pub size-requires : goal.size-requires
-size-requires c = c.place.ensures.within
 
 pub returns : goal.returns
 returns c =

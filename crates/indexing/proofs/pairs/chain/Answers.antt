@@ -1,16 +1,10 @@
 -- `indexing::pairs::chain` puts a table in front of the chain of a pair. Assumes nothing.
 use Prim.Native.Nat.{◌+◌}
-use mathlib.Core.Path.{refl, ◌∙◌, ap}
-use native.Mathlib.Omega.{arith}
-use Rattle.cells.proofs.Ranges.{may_put}
+use mathlib.Core.Path.{◌∙◌, ap}
 use Rattle.cells.specs.Layout.{NEXT, LASTS}
 use Rattle.cells.specs.Memory.{Mem, mem_of, store}
 use Rattle.index.specs.Index.{chain_m}
 use Rattle.indexing.proofs.pairs.chain.Goals as goal
-
-pub put-requires-2 : goal.put-requires-2
-put-requires-2 c =
-    may_put _ _ _ refl _ _ (omega (arith, c.put.auto.cells))
 
 pub returns : goal.returns
 unfolding chain_m

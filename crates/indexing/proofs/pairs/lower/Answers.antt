@@ -1,18 +1,7 @@
 -- `indexing::pairs::lower` puts a limit for a pair, unless one stands there that is as low. Assumes nothing.
-use mathlib.Core.Path.{refl}
-use native.Mathlib.Omega.{arith}
-use Rattle.cells.proofs.Ranges.{may_put}
 use Rattle.cells.specs.Memory.{mem_of}
 use Rattle.index.proofs.Stages.{lower_passed, lower_put}
 use Rattle.indexing.proofs.pairs.lower.Goals as goal
-
-pub put-requires : goal.put-requires
-put-requires c =
-    may_put _ _ _ refl _ _ (omega (arith, c.requires))
-
-pub put-requires-then-not-is_low : goal.put-requires-then-not-is_low
-put-requires-then-not-is_low c =
-    may_put _ _ _ refl _ _ (omega (arith, c.requires, c.put.auto.cells))
 
 pub returns-then-not-is_low : goal.returns-then-not-is_low
 returns-then-not-is_low c =

@@ -1,18 +1,8 @@
 -- `indexing::pairs::number` gives a pair the next number, unless it has one. Assumes nothing.
-use mathlib.Core.Path.{refl}
 use native.Mathlib.Omega.{arith}
-use Rattle.cells.proofs.Ranges.{may_put}
 use Rattle.cells.specs.Memory.{mem_of}
 use Rattle.index.proofs.Stages.{number_passed, number_full, number_put}
 use Rattle.indexing.proofs.pairs.number.Goals as goal
-
-pub put-requires-then-end-lt-MAX_PAIRS : goal.put-requires-then-end-lt-MAX_PAIRS
-put-requires-then-end-lt-MAX_PAIRS c =
-    may_put _ _ _ refl _ _ (omega (arith, c.put.auto.cells, c.if-end-lt-MAX_PAIRS.true))
-
-pub put-requires-then-end-lt-MAX_PAIRS-2 : goal.put-requires-then-end-lt-MAX_PAIRS-2
-put-requires-then-end-lt-MAX_PAIRS-2 c =
-    may_put _ _ _ refl _ _ (omega (arith, c.put-then-end-lt-MAX_PAIRS.auto.cells, c.put.auto.cells, c.if-end-lt-MAX_PAIRS.true))
 
 pub returns-then-end-lt-MAX_PAIRS : goal.returns-then-end-lt-MAX_PAIRS
 returns-then-end-lt-MAX_PAIRS c =

@@ -39,7 +39,6 @@ check_constraint-requires c =
       variables_known a.plan.now a.starts.now a.k c.requires.0 c.requires.3
           (omega (arith, c.variable_count.ensures.0, c.if-k-variable_count.false)),
       c.requires.2,
-      c.requires.5.room,
       c.requires.5.few,
     )
 

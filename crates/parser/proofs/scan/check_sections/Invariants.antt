@@ -1,4 +1,4 @@
-use Prim.Native.Nat.{◌-◌, ◌≤◌}
+use Prim.Native.Nat.{◌≤◌}
 use mathlib.Core.Path.{◌≡◌}
 use lib.ListN.{length}
 use Rattle.sections.specs.Known.{start_count}
@@ -9,7 +9,11 @@ use Rattle.parser.proofs.scan.check_sections.Given as goal
 
 abbrev pub invariant-loop-k : goal.invariant-loop-k
 invariant-loop-k l =
-    PassedBefore l.plan l.starts l.k × (length l.starts ≡ start_count) × (l.at ≡ section_start l.plan l.k) × (l.at ≤ length l.plan) × (l.k ≤ l.count) × (l.labels ≡ labels_before l.plan l.k) × Touching l.plan (constraints_before l.plan l.k) l.touched l.pairs
-
-abbrev pub decreases-loop-k : goal.decreases-loop-k
-decreases-loop-k l = l.count - l.k
+    record {
+      passed : PassedBefore l.plan l.starts l.k;
+      size : length l.starts ≡ start_count;
+      start : l.at ≡ section_start l.plan l.k;
+      within : l.at ≤ length l.plan;
+      labels : l.labels ≡ labels_before l.plan l.k;
+      touching : Touching l.plan (constraints_before l.plan l.k) l.touched.rows l.touched.pairs;
+    }

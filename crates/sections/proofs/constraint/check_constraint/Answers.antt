@@ -60,10 +60,6 @@ unfolding constraint_checks
 returns-then-not-variables_in_order c n e t =
     judged_fails _ _ _ _ _ _ (rw ((known n (goal.at.returns-then-not-variables_in_order c).After-complete (cc) (omega arith) (omega arith)).past, fails c.variables_in_order.ensures c.if-not-variables_in_order.true))
 
-pub check_content-requires : goal.check_content-requires
-check_content-requires c =
-    (c.requires.0, c.requires.1, holds c.variables_in_order.ensures c.if-not-variables_in_order.false, c.requires.2, c.requires.3)
-
 pub returns : goal.returns
 unfolding constraint_checks ordered
 returns c n e t =

@@ -70,19 +70,6 @@ unfolding constraint_checks
 returns-then-not-further_in_order c n e known =
     judged_fails _ _ _ _ _ _ (rw ((exact n (goal.at.returns-then-not-further_in_order c).After-has_count (cc) (omega arith) (omega arith)).past, fails c.further_in_order.ensures c.if-not-further_in_order.true))
 
-pub few_pairs-few-requires : goal.few_pairs-few-requires
-few_pairs-few-requires c = (
-  record {
-    within = c.requires.1;
-    few_variables = c.requires.0.few;
-    in_order = c.requires.2;
-    few_further = omega (arith, c.further_count-further.ensures.0);
-    further_in_order_lem = holds c.further_in_order.ensures c.if-not-further_in_order.false;
-  },
-  c.requires.3,
-  c.requires.4,
-)
-
 pub returns-then-not-fits : goal.returns-then-not-fits
 unfolding constraint_checks
 returns-then-not-fits c n e known =

@@ -1,9 +1,10 @@
 -- `sections::constraint::constraint_length` gives the length that a constraint's content calls for. Assumes nothing.
 use Prim.Native.Nat.{◌*◌, ◌≤◌}
-use borrow.Author.Tests.{eq-eqb, ne_eqb}
 use native.Mathlib.Omega.{arith}
+use Rattle.format.proofs.KindTests.{same_kind}
 use Rattle.format.proofs.Widths.{rows_short}
 use Rattle.format.specs.Format.{rows_room}
+use Rattle.format.specs.declared.kind.Kind.TheVariants.{Table, SetLimit}
 use Rattle.plan.proofs.InOrder.{ordered}
 use Rattle.plan.specs.Check.{constraint_length}
 use Rattle.sections.proofs.constraint.constraint_length.Goals as goal
@@ -26,23 +27,40 @@ overflow_mul-result c = omega (arith, short (goal.at.overflow_mul-result c).Afte
 pub overflow_add-result : goal.overflow_add-result
 overflow_add-result c = omega (arith, short (goal.at.overflow_add-result c).After-numbered_size)
 
-pub returns-then-kind-eq0 : goal.returns-then-kind-eq0
+pub returns-in-Some-Table : goal.returns-in-Some-Table
 unfolding constraint_length
-returns-then-kind-eq0 c =
+returns-in-Some-Table c =
     rw (
-      ← c.kind-kind.ensures.0,
-      eq-eqb _ 0 c.if-kind-eq0.true,
+      ← same_kind _ _ Table c.at.ensures,
+      c.in-Some-Table.is,
+      c.in-Some-Table.field-0-is,
       ← c.row_bytes.ensures,
       ← c.first.ensures.0,
       ← c.numbered_size.ensures.0,
     )
 
-pub returns-then-kind-eq2 : goal.returns-then-kind-eq2
+pub returns-in-Some-SetLimit : goal.returns-in-Some-SetLimit
 unfolding constraint_length
-returns-then-kind-eq2 c =
-    rw (← c.kind-kind.ensures.0, ne_eqb _ 0 c.if-kind-eq0.false, eq-eqb _ 2 c.if-kind-eq2.true, ← c.further_count.ensures.0)
+returns-in-Some-SetLimit c =
+    rw (
+      ← same_kind _ _ Table c.at.ensures,
+      ← same_kind _ _ SetLimit c.at.ensures,
+      c.in-Some-SetLimit.is,
+      c.in-Some-SetLimit.field-0-is,
+      ← c.further_count.ensures.0,
+    )
 
-pub returns-else-kind-eq2 : goal.returns-else-kind-eq2
+pub returns-in-Some-Limit : goal.returns-in-Some-Limit
 unfolding constraint_length
-returns-else-kind-eq2 c =
-    rw (← c.kind-kind.ensures.0, ne_eqb _ 0 c.if-kind-eq0.false, ne_eqb _ 2 c.if-kind-eq2.false)
+returns-in-Some-Limit c =
+    rw (
+      ← same_kind _ _ Table c.at.ensures,
+      ← same_kind _ _ SetLimit c.at.ensures,
+      c.in-Some-Limit.is,
+      c.in-Some-Limit.field-0-is,
+    )
+
+pub returns-in-None : goal.returns-in-None
+unfolding constraint_length
+returns-in-None c =
+    rw (← same_kind _ _ Table c.at.ensures, ← same_kind _ _ SetLimit c.at.ensures, c.in-None.is)

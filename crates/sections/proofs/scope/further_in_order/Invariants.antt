@@ -1,4 +1,4 @@
-use Prim.Native.Nat.{ℕ, ◌+◌, ◌-◌, ◌≤◌}
+use Prim.Native.Nat.{ℕ, ◌+◌}
 use mathlib.Core.Bool.{Bool, true, ◌&&◌}
 use mathlib.Core.List.{List}
 use mathlib.Core.Path.{◌≡◌}
@@ -12,7 +12,4 @@ abbrev pub ascends-at : List ℕ → ℕ → ℕ → Bool
 ascends-at b at i = ltb (scope_at b at (i + 1)) (scope_at b at (i + 2)) && leb (scope_at b at (i + 2)) (variable_count b)
 
 abbrev pub invariant-loop-i : goal.invariant-loop-i
-invariant-loop-i l = (l.i ≤ l.further) × (l.last ≡ scope_at l.plan l.at (l.i + 1)) × (all_below l.i (ascends-at l.plan l.at) ≡ true)
-
-abbrev pub decreases-loop-i : goal.decreases-loop-i
-decreases-loop-i l = l.further - l.i
+invariant-loop-i l = (l.last ≡ scope_at l.plan l.at (l.i + 1)) × (all_below l.i (ascends-at l.plan l.at) ≡ true)

@@ -1,11 +1,10 @@
 -- `sections::variable::repeats_code` says whether some value's code stands earlier in its section.
 -- Invariants: no value before `v` repeats a code, and no value before `u` has the code of value `v`. Assumes nothing.
 use Prim.Native.Nat.{ℕ, ◌+◌, ◌<◌}
-use borrow.Author.Rules.{rules}
 use borrow.Author.Tests.{eq-eqb, ne_eqb}
 use mathlib.Core.Bool.{Bool, true, false}
 use mathlib.Core.List.{List}
-use mathlib.Core.Path.{◌≡◌, refl, sym, ◌∙◌, ap}
+use mathlib.Core.Path.{◌≡◌, sym, ◌∙◌, ap}
 use native.Mathlib.Omega.{arith}
 use Rattle.base.proofs.Below.{any_below_lem, any_more}
 use Rattle.base.specs.Below.{any_below}
@@ -37,52 +36,26 @@ module _ (b : List ℕ) (at : ℕ) where
   unfolding repeats_code repeats same
   code-repeats n r p e = sym e ∙ ap (λ (k : ℕ). any_below k (repeats b at)) p
 
-pub scan-init : goal.scan-init
-scan-init c = (refl, search rules, refl)
-
-pub code-code-requires : goal.code-code-requires
-code-code-requires c = omega arith
-
-pub loop-u-init : goal.loop-u-init
-loop-u-init c = (c.scan.invariant.0, search rules, refl)
-
-pub code-requires : goal.code-requires
-code-requires c = omega arith
-
-pub overflow_add-u : goal.overflow_add-u
-overflow_add-u c = omega arith
-
-pub loop-u-smaller : goal.loop-u-smaller
-loop-u-smaller c = omega arith
-
 pub loop-u-preserved : goal.loop-u-preserved
 loop-u-preserved c =
     let a = c.args in (
       c.loop-u.invariant.0,
-      omega arith,
       same_more a.plan.now a.at c.loop-u.u c.scan.v c.code.result c.code-code.result
-          c.loop-u.invariant.2 c.code.ensures.0 c.code-code.ensures.0 c.if-code.false,
+          c.loop-u.invariant.1 c.code.ensures.0 c.code-code.ensures.0 c.if-code.false,
     )
-
-pub overflow_add-v : goal.overflow_add-v
-overflow_add-v c = omega arith
-
-pub scan-smaller : goal.scan-smaller
-scan-smaller c = omega arith
 
 pub scan-preserved : goal.scan-preserved
 scan-preserved c =
     let a = c.args in (
       c.loop-u.invariant.0,
-      omega arith,
-      repeats-more a.plan.now a.at c.loop-u.u c.scan.v c.scan.invariant.2 c.loop-u.invariant.2 (omega arith),
+      repeats-more a.plan.now a.at c.loop-u.u c.scan.v c.scan.invariant.1 c.loop-u.invariant.1 (omega arith),
     )
 
 pub returns-after-scan : goal.returns-after-scan
 returns-after-scan c =
     let a = c.args in
     let n : c.scan.v ≡ size_at a.plan.now a.at = omega (arith, c.size-size.ensures.0) in
-    c.scan.invariant.0 ∙ code-repeats a.plan.now a.at c.scan.v false n c.scan.invariant.2
+    c.scan.invariant.0 ∙ code-repeats a.plan.now a.at c.scan.v false n c.scan.invariant.1
 
 pub returns-then-code : goal.returns-then-code
 returns-then-code c =

@@ -1,4 +1,4 @@
-use Prim.Native.Nat.{ℕ, ◌-◌, ◌≤◌}
+use Prim.Native.Nat.{ℕ}
 use mathlib.Core.Bool.{Bool, false}
 use mathlib.Core.List.{List}
 use mathlib.Core.Path.{◌≡◌}
@@ -15,13 +15,7 @@ unfoldable pub repeats : List ℕ → ℕ → ℕ → Bool
 repeats b at v = any_below v (same b at v)
 
 abbrev pub invariant-loop-u : goal.invariant-loop-u
-invariant-loop-u l = (l.found ≡ false) × (l.u ≤ l.v) × (any_below l.u (same l.plan l.at l.v) ≡ false)
-
-abbrev pub decreases-loop-u : goal.decreases-loop-u
-decreases-loop-u l = l.v - l.u
+invariant-loop-u l = (l.found ≡ false) × (any_below l.u (same l.plan l.at l.v) ≡ false)
 
 abbrev pub invariant-scan : goal.invariant-scan
-invariant-scan l = (l.found ≡ false) × (l.v ≤ l.size) × (any_below l.v (repeats l.plan l.at) ≡ false)
-
-abbrev pub decreases-scan : goal.decreases-scan
-decreases-scan l = l.size - l.v
+invariant-scan l = (l.found ≡ false) × (any_below l.v (repeats l.plan l.at) ≡ false)

@@ -7,8 +7,5 @@ use Rattle.text.proofs.lines.push_decline.Goals as goal
 pub returns : goal.returns
 unfolding decline_line declined_word
 returns c =
-    rw (sym c.fault_number.ensures)
-    (c.push_word-place.ensures
-    then c.push_spaced-place.ensures
-    then c.push_spaced-place-2.ensures
-    then c.push.ensures)
+    rw (sym c.from.ensures)
+    (c.push_word.ensures then c.push_spaced.ensures then c.push_spaced-2.ensures then c.push.ensures)

@@ -6,9 +6,10 @@ use Rattle.text.proofs.lines.push_report.Goals as goal
 pub returns : goal.returns
 unfolding report_line
 returns c =
-    c.push_status-place.ensures
-    then c.push_spaced-place.ensures
-    then c.push_spaced-place-2.ensures
-    then c.push_spaced-place-3.ensures
-    then c.push_spaced-place-4.ensures
-    then c.push.ensures
+    rw (← c.word.ensures)
+    (c.push_word.ensures
+    then c.push_spaced.ensures
+    then c.push_spaced-2.ensures
+    then c.push_spaced-3.ensures
+    then c.push_spaced-4.ensures
+    then c.push.ensures)
