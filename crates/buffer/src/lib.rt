@@ -39,10 +39,10 @@ impl<'a> Text<'a> {
     }
 
     // A word's bytes.
-    pub fn push_word(&mut self, word: &str)
+    pub fn push_word(&mut self, word: &[u8])
         ensures { Takes word.now self.old self.new }
     {
-        for byte in word.as_bytes() {
+        for byte in word {
             self.push(*byte);
         }
     }

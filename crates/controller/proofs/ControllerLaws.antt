@@ -8,7 +8,7 @@ use native.Mathlib.Omega.{arith}
 use borrow.Author.Tests.{ltb-true, le-leb, lt-leb}
 use lib.Dec.{ltb, eqb}
 use Rattle.format.specs.Limits.{max_workers}
-use Rattle.base.proofs.Bools.{and_right}
+use Rattle.base.proofs.Bools.{and_left, and_right}
 use Rattle.base.proofs.Choice.{cond_true, cond_false}
 use Rattle.base.specs.Row.{bit}
 use Rattle.disac4.specs.System.{System}
@@ -101,6 +101,15 @@ module _ (t : Tally) {b : Bool} (q : b ≡ may_poll_t t) where
 -- ---- read, controller
 
 module _ (t : Tally) (read end : ℕ) {b : Bool} (q : b ≡ ltb read end && ltb read OUTROOM && ltb t.lists.0 LISTSMAX) where
+  -- where it finds a message, it has room for its place and for the count
+  pub read_room : b ≡ true → (read < OUTROOM) × (t.lists.0 < LISTSMAX)
+  read_room h =
+      let found = sym q ∙ h in
+      let unread = and_left (ltb read end && ltb read OUTROOM) (ltb t.lists.0 LISTSMAX) found in (
+        ltb-true read OUTROOM (and_right (ltb read end) (ltb read OUTROOM) unread),
+        ltb-true t.lists.0 LISTSMAX (and_right (ltb read end && ltb read OUTROOM) (ltb t.lists.0 LISTSMAX) found),
+      )
+
   module _ (sys : System) (i : ℕ) (cells : List ℕ) (q₁ : read ≡ mem_of cells WORKERS i OUTREAD)
       (q₂ : end ≡ mem_of cells WORKERS i OUTEND) where
     finds : has_out i t (mem_of cells) ≡ b

@@ -10,14 +10,22 @@ pub struct Reader<'a> {
     pub at: usize,
 }
 
+// The byte of a slice at a place inside it: the read that the reader stands on, with bytes and place apart.
+#[tactic(auto, unfolding(base::specs::Bytes::byte_at))]
+fn byte_of(b: &[u8], at: usize) -> usize
+    requires { at < length b.now }
+    ensures { (result ≡ byte_at b.now at) × (result < 256) }
+{
+    usize::from(b[at])
+}
+
 impl<'a> Reader<'a> {
     // The byte at the reader's place, which is inside its bytes.
-    #[tactic(auto, unfolding(base::specs::Bytes::byte_at))]
     pub fn byte(self) -> usize
         requires { self.at < length self.bytes.now }
         ensures { (result ≡ byte_at self.entry.bytes.now self.entry.at) × (result < 256) }
     {
-        usize::from(self.bytes[self.at])
+        byte_of(self.bytes, self.at)
     }
 }
 

@@ -31,6 +31,54 @@ use Rattle.format.specs.Format.{worker_count}
 abbrev pub state_at : List ℕ → List ℕ → Progress → State
 state_at b cells g = view_of (system_at b) (machine cells g.tally)
 
+-- one more round of a run under way, whatever plays its turns
+module _ (b cells : List ℕ) (g : Progress) (going : Going b cells g) where
+  abbrev sys : System
+  sys = system_at b
+
+  abbrev s : State
+  s = state_at b cells g
+
+  sound : Sound sys
+  sound = (fits_regions b going.sound).sound
+
+  seen : s ≡ play sys (load sys) going.turns
+  unfolding final
+  seen = going_view b cells g going
+
+  reached : Reached sys s
+  reached = (going.turns, sym seen)
+
+  module _ (running : g.tally.closed ≡ false) (p : ℕ) (e : p ≡ worker_count b) (cells' : List ℕ) (g' : Progress)
+      (q : Plays b (round p) cells g cells' g') where
+    is_open : s.controller.closed ≡ false
+    unfolding view
+    is_open = running
+
+    -- the round of the system
+    whole_round : Plays b (round sys.workers) cells g cells' g'
+    whole_round = subst (λ (n : ℕ). Plays b (round n) cells g cells' g') (e ∙ sym (workers_are b)) q
+
+    moved : state_at b cells' g' ≡ round_on sys s
+    unfolding final Plays
+    moved =
+        under_view b going.sound going.before (going.turns ++ round sys.workers) cells' g'
+        (whole_round going.before going.turns going.at)
+        ∙ play_append (step sys) going.turns (round sys.workers) (load sys)
+        ∙ ap (round_on sys) (sym seen)
+
+    -- the round lowers the potential of a plan that is not closed
+    pub round_falls : potential sys (state_at b cells' g') < potential sys s
+    round_falls =
+        subst (λ (st : State). potential sys st < potential sys s) (sym moved)
+        (left_lowers sys sound s reached is_open)
+
+    -- what is left before the round is the round, and what is left after it
+    left_falls : left sys s ≡ round sys.workers ++ left sys (state_at b cells' g')
+    left_falls =
+        left_open sys sound s reached is_open
+        ∙ ap (λ (st : State). round sys.workers ++ left sys st) (sym moved)
+
 -- the loop's invariant
 pub record Rounding (r₀ r : Run) : Type 0 where
   pub turns : List Turn
@@ -41,11 +89,11 @@ module _ (r₀ : Run) (start : Begun r₀.plan.now r₀.cells.now r₀.progress)
   abbrev b : List ℕ
   b = r₀.plan.now
 
-  abbrev sys : System
-  sys = system_at b
+  abbrev whole_sys : System
+  whole_sys = system_at b
 
-  sound : Sound sys
-  sound = (fits_regions b start.going.sound).sound
+  whole_sound : Sound whole_sys
+  whole_sound = (fits_regions b start.going.sound).sound
 
   -- where the loop begins
   pub no_round : Rounding r₀ r₀
@@ -54,63 +102,39 @@ module _ (r₀ : Run) (start : Begun r₀.plan.now r₀.cells.now r₀.progress)
     turns = [];
     advances = advances_none r₀;
     whole =
-        ap (left sys)
-        (going_view b r₀.cells.now r₀.progress start.going ∙ ap (final sys) start.fresh)
-        ∙ left_loaded sys sound;
+        ap (left whole_sys)
+        (going_view b r₀.cells.now r₀.progress start.going ∙ ap (final whole_sys) start.fresh)
+        ∙ left_loaded whole_sys whole_sound;
   }
 
   module _ (r : Run) (rounding : Rounding r₀ r) where
-    abbrev s : State
-    s = state_at b r.cells.now r.progress
-
     pub rounding_goes : Underway r
     rounding_goes = underway_after (record { going = start.going; counted = counted }) rounding.advances
 
-    going : Going b r.cells.now r.progress
-    going = goes_after b rounding.turns _ _ _ _ start.going rounding.advances.long rounding.advances.plays
-
-    seen : s ≡ play sys (load sys) going.turns
-    unfolding final
-    seen = going_view b r.cells.now r.progress going
-
-    reached : Reached sys s
-    reached = (going.turns, sym seen)
+    going_on : Going b r.cells.now r.progress
+    going_on = goes_after b rounding.turns _ _ _ _ start.going rounding.advances.long rounding.advances.plays
 
     -- a closed plan has played all of the round run
-    pub rounds_done : r.progress.tally.closed ≡ true → Advances (round_run_turns sys) r₀ r
+    pub rounds_done : r.progress.tally.closed ≡ true → Advances (round_run_turns whole_sys) r₀ r
     unfolding view
     rounds_done e =
         subst (λ (us : List Turn). Advances us r₀ r)
         (sym (append-nil rounding.turns)
-        ∙ ap (λ (us : List Turn). rounding.turns ++ us) (sym (left_closed sys sound s e))
+        ∙ ap (λ (us : List Turn). rounding.turns ++ us)
+        (sym (left_closed whole_sys whole_sound (state_at b r.cells.now r.progress) e))
         ∙ rounding.whole)
         rounding.advances
 
     module _ (running : r.progress.tally.closed ≡ false) (r' : Run) (q : Advances (round r.workers) r r') where
-      as_counted : r.workers ≡ sys.workers
-      as_counted = rounding.advances.workers ∙ counted ∙ sym (workers_are b)
+      as_counted : r.workers ≡ worker_count b
+      as_counted = rounding.advances.workers ∙ counted
 
-      is_open : s.controller.closed ≡ false
-      unfolding view
-      is_open = running
-
-      -- the round of the system
-      whole_round : Plays b (round sys.workers) r.cells.now r.progress r'.cells.now r'.progress
-      whole_round = rw (rounding.advances.plan, as_counted) at q.plays
-
-      moved : state_at b r'.cells.now r'.progress ≡ round_on sys s
-      unfolding final Plays
-      moved =
-          under_view b start.going.sound going.before (going.turns ++ round sys.workers) r'.cells.now r'.progress
-          (whole_round going.before going.turns going.at)
-          ∙ play_append (step sys) going.turns (round sys.workers) (load sys)
-          ∙ ap (round_on sys) (sym seen)
+      played : Plays b (round r.workers) r.cells.now r.progress r'.cells.now r'.progress
+      played = rw rounding.advances.plan at q.plays
 
       -- so the loop ends
-      pub round_falls : potential sys (state_at b r'.cells.now r'.progress) < potential sys s
-      round_falls =
-          subst (λ (st : State). potential sys st < potential sys s) (sym moved)
-          (left_lowers sys sound s reached is_open)
+      pub loop_falls : potential whole_sys (state_at b r'.cells.now r'.progress) < potential whole_sys (state_at b r.cells.now r.progress)
+      loop_falls = round_falls b _ _ going_on running r.workers as_counted _ _ played
 
       pub round_more : Rounding r₀ r'
       round_more = record {
@@ -118,9 +142,8 @@ module _ (r₀ : Run) (start : Begun r₀.plan.now r₀.cells.now r₀.progress)
         advances = advances_then round rounding.advances q;
         whole =
             rw (counted ∙ sym (workers_are b))
-            (append_assoc rounding.turns (round sys.workers) (left sys (state_at b r'.cells.now r'.progress))
+            (append_assoc rounding.turns (round whole_sys.workers) (left whole_sys (state_at b r'.cells.now r'.progress))
             ∙ ap (λ (us : List Turn). rounding.turns ++ us)
-            (ap (λ (st : State). round sys.workers ++ left sys st) moved
-            ∙ sym (left_open sys sound s reached is_open))
+            (sym (left_falls b _ _ going_on running r.workers as_counted _ _ played))
             ∙ rounding.whole);
       }

@@ -9,13 +9,13 @@ use faults::Decline;
 
 // A status as its word.
 #[tactic(auto, unfolding(crate::specs::Printed::status_word))]
-fn word(status: Status) -> &'static str
+fn word(status: Status) -> &'static [u8]
     ensures { result.now ≡ status_word status }
 {
     match status {
-        Status::Open => "open",
-        Status::Closed => "closed",
-        Status::Bare => "bare",
+        Status::Open => b"open",
+        Status::Closed => b"closed",
+        Status::Bare => b"bare",
     }
 }
 
@@ -35,7 +35,7 @@ pub fn push_report(text: &mut Text<'_>, report: Report)
 pub fn push_decline(text: &mut Text<'_>, decline: Decline)
     ensures { Takes (decline_line decline) text.old text.new }
 {
-    text.push_word("declined");
+    text.push_word(b"declined");
     text.push_spaced(usize::from(decline.fault));
     text.push_spaced(decline.place);
     text.push(b'\n');

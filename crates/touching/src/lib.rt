@@ -17,7 +17,7 @@ use format::limits::{MAX_PAIRS, MAX_VARIABLES};
 type Rows = [usize; MAX_VARIABLES];
 
 // The pairs that are touched, and how many they are.
-#[derive(Clone, Copy, Debug)]
+#[derive(Clone, Copy, Debug, PartialEq, Eq, PartialOrd, Ord, Hash, Default)]
 pub struct Touched {
     pub rows: Rows,
     pub pairs: usize,

@@ -1,6 +1,6 @@
 -- `rounds::play_rounds` plays rounds until the plan is closed. The loop's invariant: what is played and what is left are
 -- the whole run. The measure is the potential, which every round lowers. Assumes nothing.
-use Rattle.rounds.proofs.Rounding.{no_round, rounding_goes, rounds_done, round_falls, round_more}
+use Rattle.rounds.proofs.Rounding.{no_round, rounding_goes, rounds_done, loop_falls, round_more}
 use Rattle.rounds.proofs.play_rounds.Goals as goal
 
 pub loop-run-init : goal.loop-run-init
@@ -11,7 +11,7 @@ play_round-requires c = rounding_goes _ c.requires.0 c.requires.1 _ c.loop-run.i
 
 pub loop-run-smaller : goal.loop-run-smaller
 loop-run-smaller c =
-    round_falls _ c.requires.0 c.requires.1 _ c.loop-run.invariant c.loop-run-test.true _ c.play_round.ensures
+    loop_falls _ c.requires.0 c.requires.1 _ c.loop-run.invariant c.loop-run-test.true _ c.play_round.ensures
 
 pub loop-run-preserved : goal.loop-run-preserved
 loop-run-preserved c =

@@ -1,9 +1,6 @@
 -- `buffer::Text::push_word` puts a word's bytes.
-use Prim.Native.Nat.{ℕ}
-use mathlib.Core.List.{List}
-use mathlib.Core.Path.{ap}
+use mathlib.Core.Path.{refl}
 use native.Mathlib.Omega.{arith}
-use lib.ListN.{get_or}
 use Rattle.buffer.proofs.Puts.{takes_none, then_next}
 use Rattle.buffer.proofs.Text.push_word.Goals as goal
 
@@ -13,5 +10,4 @@ loop-byte-init c = takes_none
 pub loop-byte-preserved : goal.loop-byte-preserved
 loop-byte-preserved c =
     let i = c.loop-byte.byte-index in
-    then_next c.args.word.now i (omega arith) c.loop-byte.invariant
-    (ap (λ (word : List ℕ). get_or word i 0) c.as_bytes-byte-items.ensures.value) c.push.ensures
+    then_next _ i (omega arith) c.loop-byte.invariant refl c.push.ensures
