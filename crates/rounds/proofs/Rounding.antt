@@ -89,12 +89,6 @@ module _ (r₀ : Run) (start : Begun r₀.plan.now r₀.cells.now r₀.progress)
   abbrev b : List ℕ
   b = r₀.plan.now
 
-  abbrev whole_sys : System
-  whole_sys = system_at b
-
-  whole_sound : Sound whole_sys
-  whole_sound = (fits_regions b start.going.sound).sound
-
   -- where the loop begins
   pub no_round : Rounding r₀ r₀
   unfolding final play_by
@@ -102,9 +96,9 @@ module _ (r₀ : Run) (start : Begun r₀.plan.now r₀.cells.now r₀.progress)
     turns = [];
     advances = advances_none r₀;
     whole =
-        ap (left whole_sys)
-        (going_view b r₀.cells.now r₀.progress start.going ∙ ap (final whole_sys) start.fresh)
-        ∙ left_loaded whole_sys whole_sound;
+        ap (left (system_at b))
+        (seen b _ _ start.going ∙ ap (final (system_at b)) start.fresh)
+        ∙ left_loaded (system_at b) (sound b _ _ start.going);
   }
 
   module _ (r : Run) (rounding : Rounding r₀ r) where
@@ -115,13 +109,13 @@ module _ (r₀ : Run) (start : Begun r₀.plan.now r₀.cells.now r₀.progress)
     going_on = goes_after b rounding.turns _ _ _ _ start.going rounding.advances.long rounding.advances.plays
 
     -- a closed plan has played all of the round run
-    pub rounds_done : r.progress.tally.closed ≡ true → Advances (round_run_turns whole_sys) r₀ r
+    pub rounds_done : r.progress.tally.closed ≡ true → Advances (round_run_turns (system_at b)) r₀ r
     unfolding view
     rounds_done e =
         subst (λ (us : List Turn). Advances us r₀ r)
         (sym (append-nil rounding.turns)
         ∙ ap (λ (us : List Turn). rounding.turns ++ us)
-        (sym (left_closed whole_sys whole_sound (state_at b r.cells.now r.progress) e))
+        (sym (left_closed (system_at b) (sound b _ _ start.going) (state_at b r.cells.now r.progress) e))
         ∙ rounding.whole)
         rounding.advances
 
@@ -133,7 +127,8 @@ module _ (r₀ : Run) (start : Begun r₀.plan.now r₀.cells.now r₀.progress)
       played = rw rounding.advances.plan at q.plays
 
       -- so the loop ends
-      pub loop_falls : potential whole_sys (state_at b r'.cells.now r'.progress) < potential whole_sys (state_at b r.cells.now r.progress)
+      pub loop_falls : potential (system_at b) (state_at b r'.cells.now r'.progress)
+          < potential (system_at b) (state_at b r.cells.now r.progress)
       loop_falls = round_falls b _ _ going_on running r.workers as_counted _ _ played
 
       pub round_more : Rounding r₀ r'
@@ -142,7 +137,8 @@ module _ (r₀ : Run) (start : Begun r₀.plan.now r₀.cells.now r₀.progress)
         advances = advances_then round rounding.advances q;
         whole =
             rw (counted ∙ sym (workers_are b))
-            (append_assoc rounding.turns (round whole_sys.workers) (left whole_sys (state_at b r'.cells.now r'.progress))
+            (append_assoc rounding.turns (round (system_at b).workers)
+            (left (system_at b) (state_at b r'.cells.now r'.progress))
             ∙ ap (λ (us : List Turn). rounding.turns ++ us)
             (sym (left_falls b _ _ going_on running r.workers as_counted _ _ played))
             ∙ rounding.whole);
